@@ -1,0 +1,15 @@
+pub mod Apart
+pub mod Cases
+pub mod Allowed
+pub mod Keeps
+pub mod Takes
+pub mod Moves
+pub mod Gives
+pub mod Preserves
+pub mod Follows
+pub mod Answered
+pub mod Opening
+pub mod Stands
+pub mod Enough
+pub mod Plain
+pub mod Looks
