@@ -6,12 +6,16 @@ use Rattle.hg_machine.specs.Life.{is_home}
 use Rattle.hg_machine.specs.State.{State, record_at, class_at}
 use Rattle.hg_machine.specs.Room.{has_room, is_room, is_worn}
 
--- there is room, this place has some, and what that says of it
-pub record HasRoomAt (s : State) (worker arena size place : ℕ) : Type 0 where
-  pub some : has_room s worker arena size ≡ true
-  pub room : is_room s worker arena size place ≡ true
+-- a place that may become a block of this size
+pub record IsUsableAt (s : State) (size place : ℕ) : Type 0 where
   pub within : place < length s.records
   pub index : index_of place < places_of size
   pub page : (class : ℕ) → class_at s (page_of place) ≡ Some class → class ≡ size
-  pub usable : is_home (record_at s place).life ≡ true
+  pub at_home : is_home (record_at s place).life ≡ true
   pub unworn : is_worn s (record_at s place) ≡ false
+
+-- there is room, and this place has some
+pub record HasRoomAt (s : State) (worker arena size place : ℕ) : Type 0 where
+  pub some : has_room s worker arena size ≡ true
+  pub room : is_room s worker arena size place ≡ true
+  pub usable : IsUsableAt s size place

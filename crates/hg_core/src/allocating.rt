@@ -18,7 +18,7 @@ impl Store {
             AllocVerdict::TooLarge => Answer::TooLarge,
             AllocVerdict::Fits(class) => match self.room_for(worker, arena, class) {
                 None => Answer::NoRoom,
-                Some(place) => Answer::Block(self.give_out(worker, arena, actor, class, place)),
+                Some(place) => Answer::Block(self.give_out(actor, class, place)),
             },
         }
     }

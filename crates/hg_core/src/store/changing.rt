@@ -1,11 +1,11 @@
 //! The changes of a store, each by what it changes in the state.
 
-ghost use Rattle.std.specs.Prelude.{◌≡◌, ◌<◌, length, true};
+ghost use Rattle.std.specs.Prelude.{◌≡◌, ◌+◌, ◌<◌, length, true};
+ghost use Rattle.hg_place.specs.Places.{number_of};
 ghost use Rattle.hg_machine.specs.Policy.{is_tenant};
 ghost use Rattle.hg_machine.specs.State.{record_at};
-ghost use Rattle.hg_machine.specs.Served.{IsNext};
 ghost use Rattle.hg_machine.specs.Changes.{given_out, adopted};
-ghost use Rattle.hg_core.specs.Rooms.{HasRoomAt};
+ghost use Rattle.hg_core.specs.Rooms.{IsUsableAt};
 
 use crate::holder::Holder;
 use crate::numbers::handle_at;
@@ -26,17 +26,11 @@ impl Store {
     }
 
     /// Gives out the place as a block of the class, with zero words.
-    pub fn give_out(
-        &mut self,
-        worker: u8,
-        arena: u8,
-        actor: Actor,
-        class: Class,
-        place: usize,
-    ) -> Handle
-        requires room { HasRoomAt self.old worker arena class place }
+    pub fn give_out(&mut self, actor: Actor, class: Class, place: usize) -> Handle
+        requires usable { IsUsableAt self.old class place }
         requires tenant { is_tenant self.old.policy actor.0 ≡ true }
-        ensures next { IsNext self.old worker arena class result }
+        ensures place { number_of result.place ≡ place }
+        ensures next { result.generation ≡ (record_at self.old place).generation + 1 }
         ensures after { self.new ≡ given_out self.old actor.0 result class }
     {
         let generation = self.slots[place].generation + 1;
