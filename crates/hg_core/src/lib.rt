@@ -11,7 +11,6 @@ mod room;
 mod serving;
 mod slot;
 mod store;
-mod verdict;
 mod words;
 
 pub use serving::Core;
