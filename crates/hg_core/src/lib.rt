@@ -4,8 +4,11 @@
 
 mod allocating;
 mod charging;
+mod freeing;
 mod holder;
+mod judging;
 mod numbers;
+mod reaching;
 mod refilling;
 mod room;
 mod serving;

@@ -1,4 +1,4 @@
-use Rattle.std.proofs.Common.{◌≡◌, ◌+◌, ◌*◌, ◌/◌, ◌%◌, ◌≤◌, length, sym, ap, subst, ◌∙◌, arith, slice_index_or}
+use Rattle.std.proofs.Common.{◌≡◌, ◌+◌, ◌≤◌, length, sym, ap, subst, ◌∙◌, arith, slice_index_or}
 use Rattle.std.specs.Vec.{with_items}
 use Rattle.std.proofs.lemmas.List.{get_or_read, with_items_is, length-set}
 use Rattle.hg_place.specs.Places.{page_of, first_word}
@@ -27,10 +27,13 @@ index_mut-requires-2 c = omega (arith, page_within c.self.inside c.args.self.now
 pub handle_at-requires-clause-below : goal.handle_at-requires-clause-below
 handle_at-requires-clause-below c = omega (arith, segment_small c.self.inside c.args.self.now c.args.place c.self.view_is c.self.invariant c.requires.usable.within)
 
+pub first_word-requires : goal.first_word-requires
+first_word-requires c = omega (arith, segment_small c.self.inside c.args.self.now c.args.place c.self.view_is c.self.invariant c.requires.usable.within)
+
 pub overflow_add-generation : goal.overflow_add-generation
 overflow_add-generation c = let more = next c in omega (arith, c.self.invariant.policy.generations_fit)
 
-block_fits : (c : goal.After-from-2) → first_word c.args.place c.args.class + c.args.class ≤ length c.self.inside.words.items
+block_fits : (c : goal.After-from) → first_word c.args.place c.args.class + c.args.class ≤ length c.self.inside.words.items
 block_fits c =
     let below = slot_within c.self.inside c.args.self.now c.args.place c.self.view_is c.requires.usable.within in
     let fits = block_within c.args.place c.args.class (length c.self.inside.policy.segments) c.block_words-size.ensures.positive (omega (arith, c.self.invariant.slots)) c.requires.usable.index in
@@ -39,14 +42,15 @@ block_fits c =
 pub clear_words-requires : goal.clear_words-requires
 clear_words-requires c =
     let known : length c.deref_mut.result.now ≡ length c.self.inside.words.items = ap (λ l. length l) c.deref_mut.ensures.value in
-    rw (c.from.ensures ∙ c.block_words-size.ensures.value, c.from-2.ensures ∙ c.block_words-size.ensures.value, known) (block_fits c)
+    let start : c.first_word.result ≡ first_word c.args.place c.args.class = c.first_word.ensures ∙ ap (first_word c.args.place) c.block_words-size.ensures.value in
+    rw (start, c.from.ensures ∙ c.block_words-size.ensures.value, known) (block_fits c)
 
 clears : (c : goal.After-handle_at) → Clears c.self.inside.words.items c.clear_words.new.words (first_word c.args.place c.args.class) c.args.class
 clears c =
     clears_from c.self.inside.words.items c.deref_mut.result.now c.clear_words.new.words _ _ (first_word c.args.place c.args.class) c.args.class
     c.deref_mut.ensures.value
-    (ap (λ z. c.args.place / 512 * 512 + c.args.place % 512 * z) (c.from.ensures ∙ c.block_words-size.ensures.value))
-    (c.from-2.ensures ∙ c.block_words-size.ensures.value)
+    (c.first_word.ensures ∙ ap (first_word c.args.place) c.block_words-size.ensures.value)
+    (c.from.ensures ∙ c.block_words-size.ensures.value)
     c.clear_words.auto.words
     c.clear_words.ensures.inside
     c.clear_words.ensures.below
