@@ -1,12 +1,12 @@
 -- A live block changes by a served Free or Write of that life alone.
-use Rattle.std.proofs.Common.{◌≡◌, ◌≢◌, ◌⊎◌, inl, inr, ℕ, ◌==◌, Bool, true, false, if◌then◌else◌, List, [], ◌∷◌, Some, None, refl, sym, ap, subst, ◌∙◌, arith, suc, All}
+use Rattle.std.proofs.Common.{◌≡◌, ◌≢◌, ◌⊎◌, inl, inr, ℕ, ◌==◌, true}
+use Rattle.std.proofs.Common.{List, [], ◌∷◌, Some, None, refl, sym, ap, subst, ◌∙◌, arith, suc, All}
 use Rattle.std.proofs.lemmas.Bool.{cases_Bool, and_parts, eqb-true, true≢false}
 use Rattle.hg_place.specs.declared.Right.TheVariants as right
 use Rattle.hg_place.specs.Places.{number_of}
 use Rattle.hg_machine.specs.declared.Event.{Event}
 use Rattle.hg_machine.specs.declared.Event.TheVariants as event
 use Rattle.hg_machine.specs.declared.Answer.{Answer}
-use Rattle.hg_machine.specs.declared.Answer.TheVariants as answer
 use Rattle.hg_machine.specs.Policy.{Policy}
 use Rattle.hg_machine.specs.Life.{is_live, owner_of}
 use Rattle.hg_machine.specs.State.{State, record_at}
@@ -21,12 +21,9 @@ use Rattle.hg_machine.proofs.Follows.{others_leave_it}
 use Rattle.hg_machine.proofs.Preserves.{steps_keep_policy}
 use Rattle.hg_laws.specs.Asked.{actor_of}
 use Rattle.hg_laws.specs.Along.{AtSome}
-use Rattle.hg_laws.specs.Integrity.{Touches, TouchesAt, BlocksAreKept, GrantsNobody, OthersChangeNothing}
-use Rattle.hg_laws.proofs.Moments.{permitted}
-
-done_or_parted : (b : Bool) (a : Answer) → a ≡ (if b then answer.Done else answer.Parted) → (a ≡ answer.Done) ⊎ (a ≡ answer.Parted)
-done_or_parted true a e = inl e
-done_or_parted false a e = inr e
+use Rattle.hg_laws.specs.Integrity.{Touches, TouchesAt, BlocksAreKept, GrantsNobody}
+use Rattle.hg_laws.specs.Integrity.{OthersChangeNothing}
+use Rattle.hg_laws.proofs.Moments.{permitted, free_cases}
 
 -- what may touch the block and is served touches it
 touched : (s : State) (w : ℕ) (e : Event) (a : Answer) (place : ℕ) → may_touch s e place ≡ true → refusal s w e ≡ None → IsServed s w e a
@@ -36,7 +33,7 @@ touched s w (event.Free actor handle) a place may none is =
     let free = (no_denial _ _ none).0 in
     let seen = allowed s actor.0 right.Free handle.place handle.generation free in
     subst (λ q. TouchesAt s q (event.Free actor handle) a) here
-    (record { place_is = refl; life_is = sym seen.generation }, permitted s actor.0 right.Free handle.place handle.generation free, done_or_parted (holds s w handle.place.segment) a is)
+    (record { place_is = refl; life_is = sym seen.generation }, permitted s actor.0 right.Free handle.place handle.generation free, free_cases (holds s w handle.place.segment) a is)
 touched s w (event.Write actor handle index value) a place may none is =
     let here = eqb-true _ _ (and_parts (number_of handle.place == place) _ may).0 in
     let free = (no_denial _ _ none).0 in

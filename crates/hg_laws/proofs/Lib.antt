@@ -1,2 +1,4 @@
 pub mod Moments
 pub mod IntegrityLemmas
+pub mod Refusals
+pub mod ConfinementLemmas

@@ -1,15 +1,22 @@
 -- What a verdict that denies nothing says, and where places are.
-use Rattle.std.proofs.Common.{◌≡◌, ℕ, ◌==◌, true, not, is_some, None, sym, subst, arith}
-use Rattle.std.proofs.lemmas.Bool.{eqb-true, not-false}
+use Rattle.std.proofs.Common.{◌≡◌, ◌⊎◌, inl, inr, ℕ, ◌==◌, Option, Some, true, not, is_some, None}
+use Rattle.std.proofs.Common.{sym, subst, arith}
+use Rattle.std.proofs.lemmas.Bool.{eqb-true, not-false, and_parts, or_cases}
 use Rattle.hg_place.specs.declared.Place.{Place}
 use Rattle.hg_place.specs.declared.Right.{Right}
-use Rattle.hg_place.specs.Places.{number_of, segment_of}
+use Rattle.hg_place.specs.Places.{number_of, segment_of, page_of}
 use Rattle.hg_place.specs.Slots.{Slot}
 use Rattle.hg_machine.specs.Policy.{Policy, is_tenant, arena_of, grants}
 use Rattle.hg_machine.specs.Life.{owner_of}
-use Rattle.hg_machine.specs.State.{State, record_at}
+use Rattle.hg_machine.specs.State.{State, record_at, class_at}
+use Rattle.hg_machine.specs.declared.Answer.{Answer}
+use Rattle.hg_machine.specs.declared.Answer.TheVariants as answer
+use Rattle.hg_machine.specs.Holders.{holds, is_in_arena}
+use Rattle.hg_machine.specs.Room.{is_class, is_open_to, has_open, is_room}
 use Rattle.hg_machine.specs.Denial.{is_admitted, denial_on, denial, slot_at}
 use Rattle.hg_machine.proofs.Allowed.{step}
+use Rattle.std.proofs.Common.{Bool, false, if◌then◌else◌}
+use Rattle.hg_machine.specs.Life.{is_home}
 use Rattle.hg_laws.specs.Integrity.{Permits}
 
 -- the segment of a place, by its number
@@ -44,3 +51,23 @@ pub permitted : (s : State) (actor : ℕ) (right : Right) (place : Place) (expec
 permitted s actor right place expected e =
     subst (λ g. Permits s.policy g (owner_of (record_at s (number_of place)).life) actor right) (sym (segment_is place))
     (passes s.policy actor right place.segment expected (slot_at s (number_of place)) e).permits
+
+open_home : (s : State) (worker arena size : ℕ) (wanted : Option ℕ) (p : ℕ) → is_open_to s worker arena size wanted p ≡ true → is_home (record_at s p).life ≡ true
+open_home s worker arena size wanted p e =
+    let a = and_parts (holds s worker (segment_of p)) _ e in
+    let b = and_parts (is_in_arena s arena (segment_of p)) _ a.1 in
+    let c = and_parts (is_class (class_at s (page_of p)) wanted) _ b.1 in
+    let d = and_parts _ _ c.1 in
+    (and_parts (is_home (record_at s p).life) _ d.1).0
+
+-- a place with room is home
+pub room_home : (s : State) (worker arena size p : ℕ) → is_room s worker arena size p ≡ true → is_home (record_at s p).life ≡ true
+room_home s worker arena size p e = elim (or_cases (is_open_to s worker arena size (Some size) p) _ e) as (λ _. is_home (record_at s p).life ≡ true) [
+  | inl o ↦ open_home s worker arena size (Some size) p o
+  | inr o ↦ open_home s worker arena size None p ((and_parts (not (has_open s worker arena size (Some size))) _ o).1)
+]
+
+-- the two answers of a served Free
+pub free_cases : (b : Bool) (a : Answer) → a ≡ (if b then answer.Done else answer.Parted) → (a ≡ answer.Done) ⊎ (a ≡ answer.Parted)
+free_cases true a e = inl e
+free_cases false a e = inr e

@@ -1,3 +1,4 @@
 pub mod Asked
 pub mod Along
 pub mod Integrity
+pub mod Confinement
