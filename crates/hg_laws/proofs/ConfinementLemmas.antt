@@ -15,7 +15,7 @@ use Rattle.hg_machine.specs.declared.Event.{Event}
 use Rattle.hg_machine.specs.declared.Event.TheVariants as event
 use Rattle.hg_machine.specs.declared.Answer.{Answer}
 use Rattle.hg_machine.specs.declared.Answer.TheVariants as answer
-use Rattle.hg_machine.specs.Life.{Life, home, live, parted, Record, never_used, is_home, is_live}
+use Rattle.hg_machine.specs.Life.{Life, home, live, Record, never_used, is_home, is_live}
 use Rattle.hg_machine.specs.Life.{is_parted, words_of}
 use Rattle.hg_machine.specs.State.{State, record_at, opening}
 use Rattle.hg_machine.specs.Holders.{holds}
@@ -36,6 +36,7 @@ use Rattle.hg_machine.proofs.Preserves.{live_within}
 use Rattle.hg_machine.specs.First.{first_of}
 use Rattle.hg_laws.specs.Asked.{is_refusal}
 use Rattle.hg_laws.proofs.Moments.{room_home, free_cases}
+use Rattle.hg_laws.proofs.Lifes.{unlive, parted_unlive, part_unlive, write_live, write_words}
 use Rattle.hg_laws.specs.Confinement.{Puts, NeverPut, IsLastPut, ReadsAreConfined}
 use Rattle.hg_laws.proofs.Refusals.{refused_is, was_served}
 
@@ -60,31 +61,6 @@ zero_if false n e = refl
 
 zero_word : (g index n generation owner : ℕ) → word_in g index (record { generation = generation; life = live owner (replicate n 0) }) ≡ 0
 zero_word g index n generation owner = zero_if (generation == g) _ (all_same n index 0)
-
-unlive : (l : Life) → is_home l ≡ true → is_live l ≡ false
-unlive home e = refl
-unlive (live owner words) e = absurd (cc)
-unlive (parted owner words) e = absurd (cc)
-
-parted_unlive : (l : Life) → is_parted l ≡ true → is_live l ≡ false
-parted_unlive home e = refl
-parted_unlive (live owner words) e = absurd (cc)
-parted_unlive (parted owner words) e = refl
-
-part_unlive : (l : Life) → is_live (part l) ≡ false
-part_unlive home = refl
-part_unlive (live owner words) = refl
-part_unlive (parted owner words) = refl
-
-write_live : (l : Life) (index value : ℕ) → is_live (write l index value) ≡ is_live l
-write_live home index value = refl
-write_live (live owner words) index value = refl
-write_live (parted owner words) index value = refl
-
-write_words : (l : Life) (index value : ℕ) → is_live l ≡ true → words_of (write l index value) ≡ set (words_of l) index value
-write_words home index value e = absurd (cc)
-write_words (live owner words) index value e = refl
-write_words (parted owner words) index value e = absurd (cc)
 
 -- this life isn't over
 abbrev IsDue : ℕ → Record → Type 0

@@ -17,6 +17,10 @@ use Rattle.hg_machine.specs.Denial.{is_admitted, denial_on, denial, slot_at}
 use Rattle.hg_machine.proofs.Allowed.{step}
 use Rattle.std.proofs.Common.{Bool, false, if◌then◌else◌}
 use Rattle.hg_machine.specs.Life.{is_home}
+use Rattle.std.proofs.Common.{List, [], ◌∷◌, ap, ◌∙◌}
+use Rattle.hg_machine.specs.declared.Event.{Event}
+use Rattle.hg_machine.specs.Steps.{Run}
+use Rattle.hg_machine.proofs.Preserves.{steps_keep_policy}
 use Rattle.hg_laws.specs.Integrity.{Permits}
 
 -- the segment of a place, by its number
@@ -71,3 +75,10 @@ room_home s worker arena size p e = elim (or_cases (is_open_to s worker arena si
 pub free_cases : (b : Bool) (a : Answer) → a ≡ (if b then answer.Done else answer.Parted) → (a ≡ answer.Done) ⊎ (a ≡ answer.Parted)
 free_cases true a e = inl e
 free_cases false a e = inr e
+
+-- a run leaves the policy
+pub policy_kept : (s : State) (events : List (ℕ × Event)) (answers : List Answer) (new : State) → Run s events answers new → new.policy ≡ s.policy
+policy_kept s [] [] new run = ap (λ t. t.policy) run
+policy_kept s [] (a ∷ rest) new run = absurd run
+policy_kept s (e ∷ es) [] new run = absurd run
+policy_kept s (e ∷ es) (a ∷ rest) new run = policy_kept run.0 es rest new run.2 ∙ steps_keep_policy s e.0 e.1 a run.0 run.1

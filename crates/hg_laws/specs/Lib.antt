@@ -2,3 +2,4 @@ pub mod Asked
 pub mod Along
 pub mod Integrity
 pub mod Confinement
+pub mod Lives

@@ -3,6 +3,7 @@
 
 ghost use Rattle.hg_laws.specs.Integrity.{BlocksAreKept, OthersChangeNothing};
 ghost use Rattle.hg_laws.specs.Confinement.{ReadsAreConfined};
+ghost use Rattle.hg_laws.specs.Lives.{LivesAreCounted, LivesAreLimited, ForgedIsDenied};
 
 /// In any run a live block stays as it was, until an actor whom the policy lets do so frees it or
 /// writes into it.
@@ -18,4 +19,19 @@ pub fn others_change_nothing()
 /// A read gives zero, or the value that a write put there last in that same life.
 pub fn reads_are_confined()
     ensures { ReadsAreConfined }
+{}
+
+/// The generation of a place rises by one each time that it is given out, and by nothing else.
+pub fn lives_are_counted()
+    ensures { LivesAreCounted }
+{}
+
+/// Since the opening a place is given out at most as often as the policy's greatest generation says.
+pub fn lives_are_limited()
+    ensures { LivesAreLimited }
+{}
+
+/// A handle that was never answered is denied to all, whatever is asked with it.
+pub fn forged_is_denied()
+    ensures { ForgedIsDenied }
 {}
