@@ -5,3 +5,5 @@ pub mod Refusals
 pub mod IntegrityLemmas
 pub mod ConfinementLemmas
 pub mod LivesLemmas
+pub mod Sums
+pub mod LimitsLemmas

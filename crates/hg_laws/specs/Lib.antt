@@ -3,3 +3,4 @@ pub mod Along
 pub mod Integrity
 pub mod Confinement
 pub mod Lives
+pub mod Limits

@@ -22,7 +22,8 @@ gives_out place a = false
 abbrev pub times_given_out : ℕ → List Answer → ℕ
 times_given_out place answers = count_by (gives_out place) answers
 
--- in a run the generation of a place rises by one each time that it is given out, and by nothing else
+-- in a run the generation of a place rises by one each time that it is given out, and by nothing
+-- else
 abbrev pub LivesAreCounted : Type 0
 LivesAreCounted =
     (old : State) (events : List (ℕ × Event)) (answers : List Answer) (new : State) (place : ℕ)

@@ -4,6 +4,7 @@
 ghost use Rattle.hg_laws.specs.Integrity.{BlocksAreKept, OthersChangeNothing};
 ghost use Rattle.hg_laws.specs.Confinement.{ReadsAreConfined};
 ghost use Rattle.hg_laws.specs.Lives.{LivesAreCounted, LivesAreLimited, ForgedIsDenied};
+ghost use Rattle.hg_laws.specs.Limits.{ChargesStayLow, AllocationsAreCharged, LimitsAreKept};
 
 /// In any run a live block stays as it was, until an actor whom the policy lets do so frees it or
 /// writes into it.
@@ -26,7 +27,8 @@ pub fn lives_are_counted()
     ensures { LivesAreCounted }
 {}
 
-/// Since the opening a place is given out at most as often as the policy's greatest generation says.
+/// Since the opening a place is given out at most as often as the policy's greatest generation
+/// says.
 pub fn lives_are_limited()
     ensures { LivesAreLimited }
 {}
@@ -34,4 +36,19 @@ pub fn lives_are_limited()
 /// A handle that was never answered is denied to all, whatever is asked with it.
 pub fn forged_is_denied()
     ensures { ForgedIsDenied }
+{}
+
+/// No step but a refill of the heap raises a charge there above the limit.
+pub fn charges_stay_low()
+    ensures { ChargesStayLow }
+{}
+
+/// An allocation raises its actor's charge by the bytes of its class, and to within the limit.
+pub fn allocations_are_charged()
+    ensures { AllocationsAreCharged }
+{}
+
+/// A tenant within its limit in a heap stays so in every run that doesn't refill that heap.
+pub fn limits_are_kept()
+    ensures { LimitsAreKept }
 {}
