@@ -7,3 +7,5 @@ pub mod ConfinementLemmas
 pub mod LivesLemmas
 pub mod Sums
 pub mod LimitsLemmas
+pub mod ReadingLemmas
+pub mod ArenasLemmas

@@ -4,3 +4,5 @@ pub mod Integrity
 pub mod Confinement
 pub mod Lives
 pub mod Limits
+pub mod Reading
+pub mod Arenas

@@ -5,6 +5,9 @@ ghost use Rattle.hg_laws.specs.Integrity.{BlocksAreKept, OthersChangeNothing};
 ghost use Rattle.hg_laws.specs.Confinement.{ReadsAreConfined};
 ghost use Rattle.hg_laws.specs.Lives.{LivesAreCounted, LivesAreLimited, ForgedIsDenied};
 ghost use Rattle.hg_laws.specs.Limits.{ChargesStayLow, AllocationsAreCharged, LimitsAreKept};
+ghost use Rattle.hg_laws.specs.Reading.{ReadingChangesNothing, ReadingMayBeDropped};
+ghost use Rattle.hg_laws.specs.Arenas.{ArenasAreIsolated, UnadmittedGetNothing};
+ghost use Rattle.hg_laws.specs.Arenas.{BlocksLieInTheArena};
 
 /// In any run a live block stays as it was, until an actor whom the policy lets do so frees it or
 /// writes into it.
@@ -51,4 +54,29 @@ pub fn allocations_are_charged()
 /// A tenant within its limit in a heap stays so in every run that doesn't refill that heap.
 pub fn limits_are_kept()
     ensures { LimitsAreKept }
+{}
+
+/// Reads, looks and refusals leave the state as it was.
+pub fn reading_changes_nothing()
+    ensures { ReadingChangesNothing }
+{}
+
+/// A read, a look or a refusal may be dropped from a run without changing any other answer.
+pub fn reading_may_be_dropped()
+    ensures { ReadingMayBeDropped }
+{}
+
+/// In a run each event of an actor in an arena that doesn't admit it is denied.
+pub fn arenas_are_isolated()
+    ensures { ArenasAreIsolated }
+{}
+
+/// An actor that no arena admits is denied whatever it asks for: no block, no word and no row.
+pub fn unadmitted_get_nothing()
+    ensures { UnadmittedGetNothing }
+{}
+
+/// A block that is answered lies in the arena that was asked for.
+pub fn blocks_lie_in_the_arena()
+    ensures { BlocksLieInTheArena }
 {}
