@@ -1,14 +1,14 @@
 -- Where an arena doesn't admit the actor, some rule denies the event.
-use Rattle.std.proofs.Common.{◌≡◌, ℕ, inl, inr, Bool, true, false, not, cond, List, []}
+use Rattle.std.proofs.Common.{◌≡◌, ℕ, Bool, true, false, not, cond, List, []}
 use Rattle.std.proofs.Common.{◌∷◌, Option, Some, None, unwrap_or, refl, sym, ap, subst}
 use Rattle.std.proofs.Common.{◌∙◌, max}
-use Rattle.std.proofs.lemmas.Bool.{and_parts, or_cases, true≢false, not_from_false}
+use Rattle.std.proofs.lemmas.Bool.{true≢false, not_from_false}
 use Rattle.std.proofs.lemmas.Option.{same_Some}
 use Rattle.hg_place.specs.declared.Handle.{Handle}
 use Rattle.hg_place.specs.declared.Place.{Place}
 use Rattle.hg_place.specs.declared.Right.{Right}
 use Rattle.hg_place.specs.declared.Right.TheVariants as right
-use Rattle.hg_place.specs.Places.{number_of, segment_of}
+use Rattle.hg_place.specs.Places.{number_of}
 use Rattle.hg_machine.specs.declared.Event.{Event}
 use Rattle.hg_machine.specs.declared.Event.TheVariants as event
 use Rattle.hg_machine.specs.declared.Answer.{Answer}
@@ -19,11 +19,9 @@ use Rattle.hg_machine.specs.declared.AllocVerdict.{AllocVerdict}
 use Rattle.hg_machine.specs.declared.AllocVerdict.TheVariants as alloc
 use Rattle.hg_machine.specs.Policy.{Policy, is_tenant, arena_of, admits}
 use Rattle.hg_machine.specs.State.{State, record_at}
-use Rattle.hg_machine.specs.Holders.{holds, is_in_arena}
 use Rattle.hg_machine.specs.Denial.{is_admitted, denial, slot_at}
 use Rattle.hg_machine.specs.Request.{size_of}
 use Rattle.hg_machine.specs.Refusal.{refusal, alloc_refusal}
-use Rattle.hg_machine.specs.Room.{is_open_to, has_open, is_room}
 use Rattle.hg_machine.specs.Steps.{Step}
 use Rattle.hg_machine.proofs.Cases.{refused_changes_nothing}
 use Rattle.hg_machine.proofs.Gives.{number_some}
@@ -32,7 +30,7 @@ use Rattle.hg_laws.specs.Asked.{actor_of, IsDenied}
 use Rattle.hg_laws.specs.Along.{AtEach}
 use Rattle.hg_laws.specs.Arenas.{arena_asked, DeniedOutside, ArenasAreIsolated}
 use Rattle.hg_laws.specs.Arenas.{UnadmittedGetNothing, BlocksLieInTheArena}
-use Rattle.hg_laws.proofs.Moments.{segment_is, passes}
+use Rattle.hg_laws.proofs.Moments.{segment_is, passes, room_arena}
 use Rattle.hg_laws.proofs.LivesLemmas.{denied_answer}
 use Rattle.hg_laws.proofs.Refusals.{was_served}
 
@@ -92,15 +90,6 @@ get_nothing p actor (e ∷ es) (a ∷ rest) h each = (λ same. each.0 actor same
 
 pub unadmitted_get_nothing : UnadmittedGetNothing
 unadmitted_get_nothing old events answers new actor h run = get_nothing old.policy actor events answers h (arenas_are_isolated old events answers new run)
-
-open_arena : (s : State) (worker arena size : ℕ) (wanted : Option ℕ) (p : ℕ) → is_open_to s worker arena size wanted p ≡ true → is_in_arena s arena (segment_of p) ≡ true
-open_arena s worker arena size wanted p e = (and_parts (is_in_arena s arena (segment_of p)) _ (and_parts (holds s worker (segment_of p)) _ e).1).0
-
-room_arena : (s : State) (worker arena size p : ℕ) → is_room s worker arena size p ≡ true → is_in_arena s arena (segment_of p) ≡ true
-room_arena s worker arena size p e = elim (or_cases (is_open_to s worker arena size (Some size) p) _ e) as (λ _. is_in_arena s arena (segment_of p) ≡ true) [
-  | inl o ↦ open_arena s worker arena size (Some size) p o
-  | inr o ↦ open_arena s worker arena size None p ((and_parts (not (has_open s worker arena size (Some size))) _ o).1)
-]
 
 block_same : (h k : Handle) → answer.Block h ≡ answer.Block k → h ≡ k
 block_same h k e = cc

@@ -1,4 +1,5 @@
 -- Generations count allocations, and a handle that is served was answered.
+use Rattle.std.proofs.Common.{◌⊎◌}
 use Rattle.std.proofs.Common.{◌≡◌, ◌≢◌, inl, inr, ℕ, ◌+◌, ◌==◌, ◌*◌, ◌<◌, Bool, true}
 use Rattle.std.proofs.Common.{false, cond, if◌then◌else◌, List, [], ◌∷◌, length, get_or, set}
 use Rattle.std.proofs.Common.{replicate, Option, Some, None, refl, sym, ap, subst, ◌∙◌, arith, suc}
@@ -35,13 +36,15 @@ use Rattle.hg_machine.proofs.Keeps.{set_cases}
 use Rattle.hg_machine.proofs.Opening.{all_same, opening_is_sound}
 use Rattle.hg_machine.proofs.Preserves.{steps_keep_sound, steps_keep_policy, runs_keep_sound}
 use Rattle.hg_machine.proofs.Takes.{settled_at}
+use Rattle.hg_place.specs.declared.Right.{Right}
+use Rattle.hg_machine.proofs.Follows.{freed_is_gone}
 use Rattle.hg_laws.specs.Asked.{handle_of, is_refusal, IsDenied}
-use Rattle.hg_laws.specs.Lives.{gives_out, LivesAreCounted, LivesAreLimited}
+use Rattle.hg_laws.specs.Lives.{gives_out, LivesAreCounted, LivesAreLimited, FreedIsDenied}
 use Rattle.hg_laws.specs.Lives.{ForgedIsDenied}
 use Rattle.hg_laws.proofs.Handles.{same_handle}
 use Rattle.hg_laws.proofs.Lifes.{part_unlive, write_live}
 use Rattle.hg_laws.proofs.Moments.{free_cases, policy_kept}
-use Rattle.hg_laws.proofs.Refusals.{refused_is}
+use Rattle.hg_laws.proofs.Refusals.{refused_is, was_served}
 
 abbrev once : Bool → ℕ
 once b = cond b 1 0
@@ -213,32 +216,39 @@ pub denied_answer : (s : State) (w : ℕ) (e : Event) (a : Answer) (next : State
 denied_answer s w e a next None reasons is some h = absurd (some refl)
 denied_answer s w e a next (Some rule) reasons is some h = (rule, (refused_changes_nothing s next w e a (answer.Denied rule) is h).0)
 
--- a handle that isn't living is denied
-unliving_denied : (s : State) (w : ℕ) (e : Event) (a : Answer) (next : State) (handle : Handle) → handle_of e ≡ Some handle → Step s w e a next
-    → (Living (record_at s (number_of handle.place)) handle.generation → ⊥) → IsDenied a
-unliving_denied s w (event.Free actor named) a next handle is h no_life =
-    let same : named ≡ handle = same_Some _ _ is in
+-- what every rule of every right denies is denied, whatever event names it
+gone_denied : (s : State) (w : ℕ) (e : Event) (a : Answer) (next : State) (handle : Handle) → handle_of e ≡ Some handle → Step s w e a next
+    → ((actor : ℕ) (right : Right) → denial s actor right handle.place handle.generation ≡ None → ⊥) → IsDenied a
+gone_denied s w (event.Free actor named) a next handle is h gone =
     denied_answer s w (event.Free actor named) a next (denial s actor.0 right.Free named.place named.generation) _ refl
-    (λ none. let seen = allowed s actor.0 right.Free named.place named.generation none in no_life (subst (λ k. Living (record_at s (number_of k.place)) k.generation) same (record { alive = seen.alive; generation = seen.generation }))) h
-unliving_denied s w (event.Read actor named index) a next handle is h no_life =
-    let same : named ≡ handle = same_Some _ _ is in
+    (subst (λ k. denial s actor.0 right.Free k.place k.generation ≡ None → ⊥) (sym (same_Some _ _ is)) (gone actor.0 right.Free)) h
+gone_denied s w (event.Read actor named index) a next handle is h gone =
     denied_answer s w (event.Read actor named index) a next (denial s actor.0 right.Read named.place named.generation) _ refl
-    (λ none. let seen = allowed s actor.0 right.Read named.place named.generation none in no_life (subst (λ k. Living (record_at s (number_of k.place)) k.generation) same (record { alive = seen.alive; generation = seen.generation }))) h
-unliving_denied s w (event.Write actor named index value) a next handle is h no_life =
-    let same : named ≡ handle = same_Some _ _ is in
+    (subst (λ k. denial s actor.0 right.Read k.place k.generation ≡ None → ⊥) (sym (same_Some _ _ is)) (gone actor.0 right.Read)) h
+gone_denied s w (event.Write actor named index value) a next handle is h gone =
     denied_answer s w (event.Write actor named index value) a next (denial s actor.0 right.Write named.place named.generation) _ refl
-    (λ none. let seen = allowed s actor.0 right.Write named.place named.generation none in no_life (subst (λ k. Living (record_at s (number_of k.place)) k.generation) same (record { alive = seen.alive; generation = seen.generation }))) h
-unliving_denied s w (event.Alloc actor arena bytes) a next handle is h no_life = absurd (cc)
-unliving_denied s w event.Deliver a next handle is h no_life = absurd (cc)
-unliving_denied s w (event.Take segment) a next handle is h no_life = absurd (cc)
-unliving_denied s w event.Collect a next handle is h no_life = absurd (cc)
-unliving_denied s w (event.Look actor at) a next handle is h no_life = absurd (cc)
-unliving_denied s w (event.Abandon segment) a next handle is h no_life = absurd (cc)
-unliving_denied s w (event.Refill arena) a next handle is h no_life = absurd (cc)
+    (subst (λ k. denial s actor.0 right.Write k.place k.generation ≡ None → ⊥) (sym (same_Some _ _ is)) (gone actor.0 right.Write)) h
+gone_denied s w (event.Alloc actor arena bytes) a next handle is h gone = absurd (cc)
+gone_denied s w event.Deliver a next handle is h gone = absurd (cc)
+gone_denied s w (event.Take segment) a next handle is h gone = absurd (cc)
+gone_denied s w event.Collect a next handle is h gone = absurd (cc)
+gone_denied s w (event.Look actor at) a next handle is h gone = absurd (cc)
+gone_denied s w (event.Abandon segment) a next handle is h gone = absurd (cc)
+gone_denied s w (event.Refill arena) a next handle is h gone = absurd (cc)
+
+ends_plain : (a : Answer) → (a ≡ answer.Done) ⊎ (a ≡ answer.Parted) → is_refusal a ≡ false
+ends_plain a o = elim o as (λ _. is_refusal a ≡ false) [ inl done ↦ ap is_refusal done | inr away ↦ ap is_refusal away ]
 
 pub forged_is_denied : ForgedIsDenied
 forged_is_denied policy events answers s next w e a handle run other is h =
-    unliving_denied s w e a next handle is h
-    (λ living.
-    let first = run_lived (opening policy) events answers s handle other run living in
+    gone_denied s w e a next handle is h
+    (λ who right none.
+    let seen = allowed s who right handle.place handle.generation none in
+    let first = run_lived (opening policy) events answers s handle other run (record { alive = seen.alive; generation = seen.generation }) in
     true≢false (sym first.alive ∙ ap (λ r. is_live r.life) (all_same (length policy.segments * 8192) (number_of handle.place) never_used)))
+
+pub freed_is_denied : FreedIsDenied
+freed_is_denied old mid w actor handle freed events answers s next other asked given plain h run is last =
+    let served = was_served old w (event.Free actor handle) freed mid h (ends_plain freed plain) in
+    gone_denied s other asked given next handle is last
+    (λ who right. freed_is_gone old mid s w actor handle freed events answers who right served.none h run)

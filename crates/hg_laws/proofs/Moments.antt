@@ -82,3 +82,13 @@ policy_kept s [] [] new run = ap (λ t. t.policy) run
 policy_kept s [] (a ∷ rest) new run = absurd run
 policy_kept s (e ∷ es) [] new run = absurd run
 policy_kept s (e ∷ es) (a ∷ rest) new run = policy_kept run.0 es rest new run.2 ∙ steps_keep_policy s e.0 e.1 a run.0 run.1
+
+open_arena : (s : State) (worker arena size : ℕ) (wanted : Option ℕ) (p : ℕ) → is_open_to s worker arena size wanted p ≡ true → is_in_arena s arena (segment_of p) ≡ true
+open_arena s worker arena size wanted p e = (and_parts (is_in_arena s arena (segment_of p)) _ (and_parts (holds s worker (segment_of p)) _ e).1).0
+
+-- and lies in the arena
+pub room_arena : (s : State) (worker arena size p : ℕ) → is_room s worker arena size p ≡ true → is_in_arena s arena (segment_of p) ≡ true
+room_arena s worker arena size p e = elim (or_cases (is_open_to s worker arena size (Some size) p) _ e) as (λ _. is_in_arena s arena (segment_of p) ≡ true) [
+  | inl o ↦ open_arena s worker arena size (Some size) p o
+  | inr o ↦ open_arena s worker arena size None p ((and_parts (not (has_open s worker arena size (Some size))) _ o).1)
+]

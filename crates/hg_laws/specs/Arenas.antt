@@ -25,7 +25,10 @@ arena_asked p event = None
 -- an actor's event in an arena that doesn't admit it is denied
 abbrev pub DeniedOutside : Policy → Event → Answer → Type 0
 DeniedOutside p e a =
-    (actor : ℕ) → actor_of e ≡ Some actor → is_admitted p (arena_asked p e) actor ≡ false → IsDenied a
+    (actor : ℕ)
+    → actor_of e ≡ Some actor
+    → is_admitted p (arena_asked p e) actor ≡ false
+    → IsDenied a
 
 -- so is each such event of a run
 abbrev pub ArenasAreIsolated : Type 0

@@ -1,9 +1,11 @@
 -- How often a place is given out, and which handles are ever served.
-use Rattle.std.specs.Prelude.{◌≡◌, ◌≢◌, ℕ, ◌+◌, ◌==◌, ◌<◌, ◌≤◌, Bool, false, List, Some, All}
+use Rattle.std.specs.Prelude.{◌≡◌, ◌≢◌, ◌⊎◌, ℕ, ◌+◌, ◌==◌, ◌<◌, ◌≤◌, Bool, false, List, Some, All}
 use Rattle.std.specs.Prelude.{count_by}
+use Rattle.hg_place.specs.declared.Actor.{Actor}
 use Rattle.hg_place.specs.declared.Handle.{Handle}
 use Rattle.hg_place.specs.Places.{number_of}
 use Rattle.hg_machine.specs.declared.Event.{Event}
+use Rattle.hg_machine.specs.declared.Event.TheVariants as event
 use Rattle.hg_machine.specs.declared.Answer.{Answer}
 use Rattle.hg_machine.specs.declared.Answer.TheVariants as answer
 use Rattle.hg_machine.specs.Policy.{Policy}
@@ -51,4 +53,17 @@ ForgedIsDenied =
     → All (λ a. a ≢ answer.Block handle) answers
     → handle_of event ≡ Some handle
     → Step s worker event given next
+    → IsDenied given
+
+-- and so is, from a served Free of it on, each handle that was freed
+abbrev pub FreedIsDenied : Type 0
+FreedIsDenied =
+    (old mid : State) (worker : ℕ) (actor : Actor) (handle : Handle) (freed : Answer)
+    (events : List (ℕ × Event)) (answers : List Answer) (s next : State)
+    (other : ℕ) (asked : Event) (given : Answer)
+    → (freed ≡ answer.Done) ⊎ (freed ≡ answer.Parted)
+    → Step old worker (event.Free actor handle) freed mid
+    → Run mid events answers s
+    → handle_of asked ≡ Some handle
+    → Step s other asked given next
     → IsDenied given

@@ -4,10 +4,14 @@
 ghost use Rattle.hg_laws.specs.Integrity.{BlocksAreKept, OthersChangeNothing};
 ghost use Rattle.hg_laws.specs.Confinement.{ReadsAreConfined};
 ghost use Rattle.hg_laws.specs.Lives.{LivesAreCounted, LivesAreLimited, ForgedIsDenied};
+ghost use Rattle.hg_laws.specs.Lives.{FreedIsDenied};
 ghost use Rattle.hg_laws.specs.Limits.{ChargesStayLow, AllocationsAreCharged, LimitsAreKept};
 ghost use Rattle.hg_laws.specs.Reading.{ReadingChangesNothing, ReadingMayBeDropped};
 ghost use Rattle.hg_laws.specs.Arenas.{ArenasAreIsolated, UnadmittedGetNothing};
 ghost use Rattle.hg_laws.specs.Arenas.{BlocksLieInTheArena};
+ghost use Rattle.hg_laws.specs.Verdicts.{WordsDecide};
+ghost use Rattle.hg_laws.specs.Owners.{OwnersAreTenants};
+ghost use Rattle.hg_laws.specs.Rows.{LooksTellTheirLine};
 
 /// In any run a live block stays as it was, until an actor whom the policy lets do so frees it or
 /// writes into it.
@@ -39,6 +43,11 @@ pub fn lives_are_limited()
 /// A handle that was never answered is denied to all, whatever is asked with it.
 pub fn forged_is_denied()
     ensures { ForgedIsDenied }
+{}
+
+/// A handle that was once freed is denied to all, whatever is asked with it.
+pub fn freed_is_denied()
+    ensures { FreedIsDenied }
 {}
 
 /// No step but a refill of the heap raises a charge there above the limit.
@@ -79,4 +88,19 @@ pub fn unadmitted_get_nothing()
 /// A block that is answered lies in the arena that was asked for.
 pub fn blocks_lie_in_the_arena()
     ensures { BlocksLieInTheArena }
+{}
+
+/// A verdict on a block is known by the policy and one slot word.
+pub fn words_decide()
+    ensures { WordsDecide }
+{}
+
+/// Each block is owned by a tenant that the arena of its segment admits.
+pub fn owners_are_tenants()
+    ensures { OwnersAreTenants }
+{}
+
+/// The row of a served look is the line that a listing has of the place.
+pub fn looks_tell_their_line()
+    ensures { LooksTellTheirLine }
 {}
