@@ -1,0 +1,14 @@
+pub mod Moments
+pub mod Lifes
+pub mod Handles
+pub mod Refusals
+pub mod IntegrityLemmas
+pub mod ConfinementLemmas
+pub mod LivesLemmas
+pub mod Sums
+pub mod LimitsLemmas
+pub mod ReadingLemmas
+pub mod ArenasLemmas
+pub mod VerdictsLemmas
+pub mod OwnersLemmas
+pub mod RowsLemmas

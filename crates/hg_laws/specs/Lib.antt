@@ -1,0 +1,11 @@
+pub mod Asked
+pub mod Along
+pub mod Integrity
+pub mod Confinement
+pub mod Lives
+pub mod Limits
+pub mod Reading
+pub mod Arenas
+pub mod Verdicts
+pub mod Owners
+pub mod Rows
