@@ -1,0 +1,4 @@
+pub mod Chains
+pub mod Repeats
+pub mod Lists
+pub mod Links

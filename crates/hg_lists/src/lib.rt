@@ -1,0 +1,10 @@
+//! Lists of numbered entries, linked by number: a list for each key, each entry in one at most.
+#![tactic(auto)]
+
+mod index_lists;
+mod links;
+
+pub use index_lists::IndexLists;
+
+#[cfg(test)]
+mod tests;

@@ -1,0 +1,76 @@
+ghost use Rattle.std.specs.Prelude.{◌≡◌, ℕ, ◌+◌, ◌<◌, ◌≤◌, ◌⊎◌};
+ghost use Rattle.std.specs.Prelude.{length, slice_index, slice_set, slice_range, IfOk};
+
+use std::alloc::{AllocError, Global};
+use std::marker::Model;
+
+/// How many words a segment has.
+pub const WORDS: usize = 8192;
+
+/// The words of one segment, seen as their list.
+#[derive(Drop)]
+pub struct WordMemory {
+    words: Vec<u64>,
+}
+
+impl Model for WordMemory {
+    ghost use Rattle.std.specs.Prelude.{◌≡◌, List, ℕ, length};
+    ghost use Rattle.hg_words.specs.declared.memory.TheConstants.{WORDS};
+
+    ghost Value = { List ℕ };
+
+    ghost view = { λ m. m.words.items };
+
+    ghost invariant = { λ m. length m.words.items ≡ WORDS };
+}
+
+impl WordMemory {
+    /// Words that are all zero.
+    pub fn new(alloc: Global) -> Result<WordMemory, AllocError>
+        ensures all { IfOk result (λ m. length m ≡ WORDS) }
+        ensures zero { IfOk result (λ m. (at : ℕ) → slice_index m at ≡ 0) }
+    {
+        let mut words = Vec::with_capacity(alloc, WORDS)?;
+        for _ in 0..WORDS {
+            words.push(0)?;
+        }
+        Ok(WordMemory { words })
+    }
+
+    /// The word at `at`.
+    pub fn get(&self, at: usize) -> u64
+        requires { at < WORDS }
+        ensures { result ≡ slice_index self.now at }
+    {
+        self.words[at]
+    }
+
+    /// Makes the word at `at` the value.
+    pub fn set(&mut self, at: usize, value: u64)
+        requires { at < WORDS }
+        ensures words { self.new ≡ slice_set self.old at value }
+        ensures all { length self.new ≡ WORDS }
+    {
+        self.words[at] = value;
+    }
+
+    /// Makes `count` words from `from` on zero.
+    pub fn zero(&mut self, from: usize, count: usize)
+        requires { from + count ≤ WORDS }
+        ensures zero { (at : ℕ) → from ≤ at → at < from + count → slice_index self.new at ≡ 0 }
+        ensures others { (at : ℕ) → (at < from) ⊎ (from + count ≤ at)
+            → slice_index self.new at ≡ slice_index self.old at }
+        ensures all { length self.new ≡ WORDS }
+    {
+        self.words[from..from + count].fill(0);
+    }
+
+    /// Copies as many words as `into` holds from `from` on.
+    pub fn copy_out(&self, from: usize, into: &mut [u64])
+        requires { from + length into.old ≤ WORDS }
+        ensures { into.new ≡ slice_range self.now from (from + length into.old) }
+    {
+        let end = from + into.len();
+        into.copy_from_slice(&self.words[from..end]);
+    }
+}
