@@ -4,6 +4,7 @@
 
 mod allocating;
 mod charging;
+mod delivering;
 mod holder;
 mod numbers;
 mod refilling;

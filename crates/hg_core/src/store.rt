@@ -1,6 +1,7 @@
 //! The plain store: a record of each place, and the words of all pages.
 
 mod changing;
+mod handing;
 mod reading;
 
 ghost use Rattle.std.specs.Prelude.{◌≡◌, IfOk};
