@@ -10,3 +10,4 @@ pub mod Found
 pub mod Next
 pub mod Runs
 pub mod Kept
+pub mod Orphans

@@ -2,6 +2,7 @@
 //! the written machine, and stays sound.
 #![tactic(auto)]
 
+mod abandoning;
 mod allocating;
 mod charging;
 mod delivering;

@@ -2,6 +2,7 @@
 
 mod changing;
 mod handing;
+mod holding;
 mod reading;
 
 ghost use Rattle.std.specs.Prelude.{◌≡◌, IfOk};
