@@ -11,3 +11,5 @@ pub mod Next
 pub mod Runs
 pub mod Kept
 pub mod Orphans
+pub mod Sweeping
+pub mod Idle

@@ -5,6 +5,7 @@
 mod abandoning;
 mod allocating;
 mod charging;
+mod collecting;
 mod delivering;
 mod holder;
 mod numbers;
@@ -13,6 +14,7 @@ mod room;
 mod serving;
 mod slot;
 mod store;
+mod taking;
 mod verdict;
 mod words;
 

@@ -4,6 +4,7 @@ mod changing;
 mod handing;
 mod holding;
 mod reading;
+mod sweeping;
 
 ghost use Rattle.std.specs.Prelude.{◌≡◌, IfOk};
 ghost use Rattle.hg_machine.specs.SoundPolicy.{IsSoundPolicy};
