@@ -1,5 +1,5 @@
 -- A page whose places are all home.
-use Rattle.std.proofs.Common.{◌≡◌, ◌≢◌, ℕ, zero, suc, ◌+◌, ◌-◌, ◌*◌, ◌<◌, ◌≤◌, inl, inr, Bool, true, false, length, List, None, set, refl, ap, sym, ◌∙◌, arith, slice_index_or}
+use Rattle.std.proofs.Common.{◌≡◌, ◌≢◌, ℕ, zero, suc, ◌+◌, ◌-◌, ◌*◌, ◌<◌, ◌≤◌, inl, inr, Bool, true, false, List, None, set, refl, ap, sym, ◌∙◌, arith, slice_index_or}
 use Rattle.std.specs.List.{range_with_len, list_all}
 use Rattle.std.proofs.lemmas.Bool.{cases_eq, and_parts}
 use Rattle.std.proofs.lemmas.List.{get_or-set_other}
@@ -7,7 +7,6 @@ use Rattle.hg_place.specs.Places.{page_of}
 use Rattle.hg_machine.specs.Life.{is_home}
 use Rattle.hg_machine.specs.State.{State, record_at}
 use Rattle.hg_machine.specs.Sweeps.{is_idle}
-use Rattle.hg_core.specs.declared.slot.Slot.{Slot}
 use Rattle.hg_core.specs.declared.slot.Standing.{Standing}
 use Rattle.hg_core.specs.declared.slot.Standing.TheVariants as standing
 use Rattle.hg_core.specs.declared.store.Store.TheInside.{Inside}

@@ -8,6 +8,7 @@ pub mod Openings
 pub mod Given
 pub mod Found
 pub mod Next
+pub mod Live
 pub mod Runs
 pub mod Kept
 pub mod Orphans

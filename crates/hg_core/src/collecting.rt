@@ -49,7 +49,7 @@ impl Store {
         ensures lost { result ≡ (holds self.old worker (segment_of_page page)
             && (is_idle self.old page && is_some (class_at self.old page))) }
         ensures after { self.new ≡ record self.old {
-            classes = slice_set self.old.classes page (cleared self.old worker page);
+          classes = slice_set self.old.classes page (cleared self.old worker page);
         } }
     {
         let classed = self.has_class(page);

@@ -7,15 +7,17 @@ mod allocating;
 mod charging;
 mod collecting;
 mod delivering;
+mod freeing;
 mod holder;
+mod judging;
 mod numbers;
+mod reaching;
 mod refilling;
 mod room;
 mod serving;
 mod slot;
 mod store;
 mod taking;
-mod verdict;
 mod words;
 
 pub use serving::Core;

@@ -42,6 +42,18 @@ fn serve(store: &mut Store, worker: u8, event: Event) -> Answer
             arena,
             bytes,
         } => store.alloc(worker, actor, arena, bytes),
+        Event::Free { actor, handle } => store.free(worker, actor, handle),
+        Event::Read {
+            actor,
+            handle,
+            index,
+        } => store.read(worker, actor, handle, index),
+        Event::Write {
+            actor,
+            handle,
+            index,
+            value,
+        } => store.write(worker, actor, handle, index, value),
         Event::Refill { arena } => store.refill(worker, arena),
         _ => unreachable!(),
     }

@@ -1,8 +1,6 @@
 //! The plain store: a record of each place, and the words of all pages.
 
 mod changing;
-mod handing;
-mod holding;
 mod reading;
 mod sweeping;
 

@@ -1,15 +1,18 @@
 //! What a store tells of its state.
 
-ghost use Rattle.std.specs.Prelude.{◌≡◌, ◌≤◌, ◌<◌, ◌^◌, length, find};
+ghost use Rattle.std.specs.Prelude.{◌≡◌, ◌≤◌, ◌<◌, ◌^◌, length, find, slice_index};
 ghost use Rattle.std.specs.List.{range_with_len};
 ghost use Rattle.hg_place.specs.Places.{page_of, segment_of};
 ghost use Rattle.hg_machine.specs.SoundPolicy.{IsSoundPolicy};
-ghost use Rattle.hg_machine.specs.State.{record_at, class_at};
+ghost use Rattle.hg_machine.specs.State.{record_at, class_at, hand_of};
+ghost use Rattle.hg_machine.specs.Life.{words_of};
 ghost use Rattle.hg_machine.specs.Holders.{holds, is_in_arena};
 ghost use Rattle.hg_core.specs.Slots.{Shows};
+ghost use Rattle.hg_core.specs.Rooms.{IsLiveAt, IsWordAt};
 ghost use Rattle.hg_core.specs.Fresh.{is_fresh_in};
 
 use crate::holder::Holder;
+use crate::numbers::first_word;
 use crate::slot::Slot;
 use crate::store::Store;
 use hg_policy::Policy;
@@ -116,5 +119,31 @@ impl Store {
             }
         }
         None
+    }
+
+    /// How many words a live block has.
+    pub fn block_len(&self, place: usize) -> u16
+        requires { IsLiveAt self.now place }
+        ensures len { result ≡ length (words_of (record_at self.now place).life) }
+        ensures place { place < 2 ^ 19 }
+    {
+        self.slots[place].size
+    }
+
+    /// A word of a live block.
+    pub fn word_at(&self, place: usize, index: u32) -> u64
+        requires { IsWordAt self.now place index }
+        ensures { result ≡ slice_index (words_of (record_at self.now place).life) index }
+    {
+        let start = first_word(place, self.block_len(place));
+        self.words[start + index as usize]
+    }
+
+    /// What the worker has in hand.
+    pub fn hand_of(&self, worker: u8) -> Option<u32>
+        requires { worker < self.now.policy.workers }
+        ensures { result ≡ hand_of self.now worker }
+    {
+        self.hands[usize::from(worker)]
     }
 }

@@ -1,4 +1,4 @@
-use Rattle.std.proofs.Common.{sym, ◌∙◌, arith}
+use Rattle.std.proofs.Common.{sym}
 use Rattle.hg_core.proofs.Sweeping.{cleared_not}
 use Rattle.hg_core.proofs.store.Store.clear_at.Goals as goal
 
