@@ -10,6 +10,7 @@ mod delivering;
 mod freeing;
 mod holder;
 mod judging;
+mod looking;
 mod numbers;
 mod reaching;
 mod refilling;
