@@ -1,4 +1,4 @@
-use Rattle.std.proofs.Common.{◌≡◌, true, not, max, [], ◌∷◌, None, refl, sym, ap, ◌∙◌, rules, arith}
+use Rattle.std.proofs.Common.{◌≡◌, true, not, max, [], ◌∷◌, None, refl, sym, ap, ◌∙◌, arith}
 use Rattle.hg_place.specs.declared.Right.TheVariants as right
 use Rattle.hg_place.specs.Places.{number_of}
 use Rattle.hg_machine.specs.declared.Event.TheVariants as event
@@ -6,7 +6,7 @@ use Rattle.hg_machine.specs.declared.Answer.TheVariants as answer
 use Rattle.hg_machine.specs.State.{record_at}
 use Rattle.hg_machine.specs.Holders.{holds}
 use Rattle.hg_machine.specs.Denial.{denial}
-use Rattle.hg_machine.specs.Refusal.{denial_or, refusal}
+use Rattle.hg_machine.specs.Refusal.{denial_or}
 use Rattle.hg_machine.proofs.Serves.{served_step}
 use Rattle.hg_core.proofs.store.Store.look.Goals as goal
 
