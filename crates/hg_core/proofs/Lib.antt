@@ -11,3 +11,6 @@ pub mod Next
 pub mod Live
 pub mod Runs
 pub mod Kept
+pub mod Orphans
+pub mod Sweeping
+pub mod Idle

@@ -2,11 +2,15 @@
 //! the written machine, and stays sound.
 #![tactic(auto)]
 
+mod abandoning;
 mod allocating;
 mod charging;
+mod collecting;
+mod delivering;
 mod freeing;
 mod holder;
 mod judging;
+mod looking;
 mod numbers;
 mod reaching;
 mod refilling;
@@ -14,6 +18,7 @@ mod room;
 mod serving;
 mod slot;
 mod store;
+mod taking;
 mod words;
 
 pub use serving::Core;

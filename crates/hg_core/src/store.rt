@@ -2,6 +2,7 @@
 
 mod changing;
 mod reading;
+mod sweeping;
 
 ghost use Rattle.std.specs.Prelude.{◌≡◌, IfOk};
 ghost use Rattle.hg_machine.specs.SoundPolicy.{IsSoundPolicy};

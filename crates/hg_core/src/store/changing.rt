@@ -5,7 +5,8 @@ ghost use Rattle.hg_place.specs.Places.{number_of};
 ghost use Rattle.hg_machine.specs.Policy.{is_tenant};
 ghost use Rattle.hg_machine.specs.Life.{home};
 ghost use Rattle.hg_machine.specs.State.{record_at};
-ghost use Rattle.hg_machine.specs.Changes.{given_out, adopted, with_life, part, write, with_hand};
+ghost use Rattle.hg_machine.specs.Changes.{given_out, adopted, abandoned};
+ghost use Rattle.hg_machine.specs.Changes.{with_life, part, write, with_hand};
 ghost use Rattle.hg_core.specs.Rooms.{IsUsableAt, IsLiveAt, IsWordAt};
 
 use crate::holder::Holder;
@@ -24,6 +25,16 @@ impl Store {
     {
         self.holders[usize::from(segment)] = Holder::Held(worker);
         self.orphans.retain(|other| *other != segment);
+    }
+
+    /// Nobody holds the segment any more, and it is the last orphan.
+    pub fn give_up(&mut self, segment: u8)
+        requires within { segment < length self.old.policy.segments }
+        requires room { length self.old.orphans < length self.old.policy.segments }
+        ensures { self.new ≡ abandoned self.old segment }
+    {
+        self.holders[usize::from(segment)] = Holder::Orphan;
+        self.orphans.push_reserved(segment);
     }
 
     /// Gives out the place as a block of the class, with zero words.

@@ -1,0 +1,68 @@
+//! Pages, and the places that stand in no hand.
+
+ghost use Rattle.std.specs.Prelude.{◌≡◌, ◌+◌, ◌*◌, ◌≤◌, ◌<◌, ◌^◌, true, None, length, is_some};
+ghost use Rattle.std.specs.Prelude.{slice_set};
+ghost use Rattle.std.specs.List.{list_any};
+ghost use Rattle.hg_place.specs.Places.{segment_of_page};
+ghost use Rattle.hg_machine.specs.State.{class_at};
+ghost use Rattle.hg_machine.specs.Holders.{is_number};
+ghost use Rattle.hg_machine.specs.Sweeps.{is_idle};
+
+use crate::store::Store;
+
+impl Store {
+    /// Whether some worker has the place in hand.
+    pub fn is_in_hand(&self, place: usize) -> bool
+        ensures { result ≡ list_any (is_number place) self.now.hands }
+    {
+        self.hands.iter().any(|hand| match hand {
+            Some(held) => *held as usize == place,
+            None => false,
+        })
+    }
+
+    /// How many pages there are.
+    pub fn count_pages(&self) -> usize
+        ensures count { result ≡ length self.now.classes }
+        ensures few { result ≤ 1024 }
+    {
+        self.classes.len()
+    }
+
+    /// The first place of a page.
+    pub fn first_place(&self, page: usize) -> usize
+        requires { page < length self.now.classes }
+        ensures first { result ≡ page * 512 }
+        ensures last { result + 512 ≤ length self.now.records }
+        ensures few { result < 2 ^ 19 }
+    {
+        let _slots = &self.slots;
+        page * 512
+    }
+
+    /// The segment of a page.
+    pub fn segment_of_page(&self, page: usize) -> u8
+        requires { page < length self.now.classes }
+        ensures { result ≡ segment_of_page page }
+    {
+        let _classes = &self.classes;
+        (page / 16) as u8
+    }
+
+    /// Whether the page has a class.
+    pub fn has_class(&self, page: usize) -> bool
+        requires { page < length self.now.classes }
+        ensures { result ≡ is_some (class_at self.now page) }
+    {
+        self.classes[page].is_some()
+    }
+
+    /// An idle page loses its class.
+    pub fn clear_class(&mut self, page: usize)
+        requires within { page < length self.old.classes }
+        requires idle { is_idle self.old page ≡ true }
+        ensures { self.new ≡ record self.old { classes = slice_set self.old.classes page None } }
+    {
+        self.classes[page] = None;
+    }
+}
