@@ -6,3 +6,4 @@ pub mod Without
 pub mod Removed
 pub mod Followed
 pub mod Listed
+pub mod Counted

@@ -16,7 +16,8 @@ abbrev pub IsOwned : ℕ → List ℕ → ℕ → ℕ → Type 0
 IsOwned entries owner key entry = (entry < entries) × (slice_index owner entry ≡ suc key)
 
 -- the links of so many lists of so many entries, where an owner is 0 or a key plus 1
-pub record Links (keys entries : ℕ) (heads next prev owner : List ℕ) (lists : List (List ℕ)) : Type 0 where
+pub record Links (keys entries : ℕ) (heads next prev owner : List ℕ) (lists : List (List ℕ))
+    : Type 0 where
   pub few_keys : keys < 2 ^ 16
   pub few_entries : entries < 2 ^ 16
   pub all_heads : length heads ≡ keys
@@ -27,7 +28,8 @@ pub record Links (keys entries : ℕ) (heads next prev owner : List ℕ) (lists 
   pub linked : (key : ℕ) → key < keys
       → IsDouble (slice_index next) (slice_index prev) 0 (slice_index heads key) (list_at lists key)
   pub apart : (key : ℕ) → key < keys → HasNoRepeats (list_at lists key)
-  pub owned : (key : ℕ) → key < keys → AllByRecursion (IsOwned entries owner key) (list_at lists key)
+  pub owned : (key : ℕ) → key < keys
+      → AllByRecursion (IsOwned entries owner key) (list_at lists key)
   pub counted : (key : ℕ) → key < keys
       → length (list_at lists key) ≡ count_by (λ o. o == suc key) owner
   pub found : (entry key : ℕ) → entry < entries → slice_index owner entry ≡ suc key

@@ -1,0 +1,9 @@
+pub mod Chained
+pub mod Linked
+pub mod Popped
+pub mod Pushed
+pub mod Collected
+pub mod Formatted
+pub mod Frames
+pub mod Emptied
+pub mod Unworn

@@ -1,0 +1,4 @@
+pub mod Shapes
+pub mod PageLists
+pub mod Links
+pub mod Others

@@ -1,0 +1,11 @@
+//! Pages: the lists of the free blocks of one size, linked through the blocks' own first words.
+#![tactic(auto)]
+
+mod page;
+mod worn;
+
+pub use page::Page;
+pub use worn::{PLACES, Worn};
+
+#[cfg(test)]
+mod tests;
