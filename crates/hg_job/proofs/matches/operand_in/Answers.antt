@@ -1,0 +1,11 @@
+use Rattle.std.proofs.Common.{◌∙◌, ap, [], unwrap_or}
+use Rattle.clap.proofs.WalkLemmas.{first_value-rows}
+use Rattle.clap.specs.Words.{found_of}
+use Rattle.hg_job.proofs.CommandLemmas.{unwrap_or-now}
+use Rattle.hg_job.proofs.matches.operand_in.Goals as goal
+
+pub returns : goal.returns
+returns c =
+    ap (λ s. s.now) c.unwrap_or.ensures
+    ∙ unwrap_or-now c.get_str.result _
+    ∙ ap (λ o. unwrap_or o []) (c.get_str.ensures ∙ first_value-rows (found_of c.args.matches.now) c.args.name.now)

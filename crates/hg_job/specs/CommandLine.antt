@@ -1,0 +1,32 @@
+-- The command line of the program, as what its parser reads of it.
+use Rattle.std.specs.Prelude.{true, List, map, codes}
+use Rattle.clap.specs.Words.{App, Rule, Text, new_app, new_rule, with_rule, with_subcommand}
+
+-- an operand that has to be there
+abbrev pub required : Text → Rule
+required name = record (new_rule name) { required = true }
+
+abbrev pub check : App
+check = with_rule (new_app (codes "check")) (required (codes "POLICY"))
+
+abbrev pub replay : App
+replay =
+    with_rule (with_rule (new_app (codes "replay")) (required (codes "POLICY")))
+    (required (codes "TRACE"))
+
+-- the program alone: its words come without its own name, and help is asked for by a flag
+abbrev pub alone : App
+alone = record (new_app (codes "heapguard")) {
+  top = record (new_app (codes "heapguard")).top {
+    no_binary_name = true;
+    disable_help_subcommand = true;
+  };
+}
+
+-- the program with its commands
+abbrev pub heapguard : App
+heapguard = with_subcommand (with_subcommand alone check.top) replay.top
+
+-- the names of the commands
+abbrev pub command_names : List Text
+command_names = map (λ s. s.name) heapguard.subs

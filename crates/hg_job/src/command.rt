@@ -1,0 +1,111 @@
+//! The command line as it is written for its parser, with its help.
+ghost use Rattle.std.specs.Prelude.{◌≡◌, codes, false, IfOk};
+ghost use Rattle.clap.specs.Words.{app_of, rule_of};
+ghost use Rattle.clap.specs.declared.builder.command.Command.TheViews.{out-Command};
+ghost use Rattle.hg_job.specs.CommandLine.{alone, check, heapguard, replay, required};
+
+use clap::{Arg, Command};
+use std::alloc::{AllocError, Global};
+
+const ABOUT: &str =
+    "Replays traces of a memory service that several tenants share under a written policy.";
+
+const MORE: &str = "\
+Without a command, one input is read from standard input: the policy, a line `---`, and
+the trace. It is answered as `replay` answers it. No file or input may be longer than
+16777216 bytes. A fault is told in one line on standard error.
+
+Exit status:
+  0  done
+  1  the policy has a fault
+  2  the trace has a fault
+  3  reading or writing failed, or memory was refused
+  4  the command line is wrong";
+
+const CHECK_ABOUT: &str = "Reads a policy and counts what it names";
+
+const CHECK_MORE: &str = "\
+Prints one line, `ok workers N tenants N arenas N segments N`.
+
+Exit status:
+  0  the policy has no fault
+  1  the policy has a fault, told in one line on standard error
+  3  reading or writing failed, or memory was refused
+  4  the command line is wrong";
+
+const REPLAY_ABOUT: &str = "Runs a trace under a policy and prints each answer";
+
+const REPLAY_MORE: &str = "\
+Prints the answer to each line of the trace in turn; a `list` prints its rows and then
+their number. Both files are read whole, the policy first, before anything is printed.
+
+Exit status:
+  0  the trace was run to its end
+  1  the policy has a fault, told in one line on standard error
+  2  the trace has a fault, told with its line's number
+  3  reading or writing failed, or memory was refused
+  4  the command line is wrong";
+
+/// An operand that has to be there.
+fn operand<'a>(alloc: Global, name: &'a str, help: &'a str) -> Arg<'a>
+    ensures rule { rule_of result ≡ required name.entry.now }
+    ensures local { result.global ≡ false }
+{
+    Arg::new(alloc, name).required(true).help(help)
+}
+
+fn policy<'a>(alloc: Global) -> Arg<'a>
+    ensures rule { rule_of result ≡ required (codes "POLICY") }
+    ensures local { result.global ≡ false }
+{
+    operand(alloc, "POLICY", "File with the policy, a TOML document")
+}
+
+fn trace<'a>(alloc: Global) -> Arg<'a>
+    ensures rule { rule_of result ≡ required (codes "TRACE") }
+    ensures local { result.global ≡ false }
+{
+    operand(alloc, "TRACE", "File with the trace, one event a line")
+}
+
+fn check_command<'a>(alloc: Global) -> Result<Command<'a>, AllocError>
+    ensures app { IfOk result (λ c. app_of c ≡ check) }
+    ensures local { IfOk result (λ c. (out-Command c).has_globals ≡ false) }
+{
+    Command::new(alloc, "check")
+        .about(CHECK_ABOUT)
+        .after_help(CHECK_MORE)
+        .arg(policy(alloc))
+}
+
+fn replay_command<'a>(alloc: Global) -> Result<Command<'a>, AllocError>
+    ensures app { IfOk result (λ c. app_of c ≡ replay) }
+    ensures local { IfOk result (λ c. (out-Command c).has_globals ≡ false) }
+{
+    Command::new(alloc, "replay")
+        .about(REPLAY_ABOUT)
+        .after_help(REPLAY_MORE)
+        .arg(policy(alloc))?
+        .arg(trace(alloc))
+}
+
+/// The program with no command yet.
+fn program<'a>(alloc: Global) -> Result<Command<'a>, AllocError>
+    ensures { IfOk result (λ c. app_of c ≡ alone) }
+{
+    Command::new(alloc, "heapguard")
+        .no_binary_name(true)
+        .disable_help_subcommand(true)
+        .about(ABOUT)
+        .after_help(MORE)
+        .bin_name("heapguard")
+}
+
+/// The program's command line.
+pub(crate) fn command<'a>(alloc: Global) -> Result<Command<'a>, AllocError>
+    ensures { IfOk result (λ c. app_of c ≡ heapguard) }
+{
+    let check = check_command(alloc)?;
+    let replay = replay_command(alloc)?;
+    program(alloc)?.subcommand(check)?.subcommand(replay)
+}

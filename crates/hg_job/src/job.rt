@@ -1,0 +1,73 @@
+ghost use Rattle.std.specs.Prelude.{◌≡◌, ◌⊎◌, true, IfOk, IfErr, map, []};
+ghost use Rattle.clap.specs.Words.{subcommand_of, takes, fault_of, kind_of};
+ghost use Rattle.hg_job.specs.CommandLine.{heapguard};
+ghost use Rattle.hg_job.specs.Jobs.{IsJobAt, RefusedBy, TellsOf};
+ghost use Rattle.hg_job.specs.declared.job.JobFault.TheVariants.{Memory};
+
+use crate::command::command;
+use crate::matches::job_in;
+use clap::Error;
+use clap::error::ErrorKind;
+use std::alloc::{AllocError, Global};
+
+/// What is to be done. Each operand is the name of a file, as it was written.
+#[derive(Debug, Drop)]
+pub enum Job<'a> {
+    /// Replay what stands on standard input: the policy, a line `---`, and the trace.
+    Joined,
+    /// Read the policy of this file, and count what it names.
+    Check(&'a str),
+    /// Read the policy of the first file, and replay the trace of the second.
+    Replay(&'a str, &'a str),
+}
+
+/// Why there is nothing to do.
+#[derive(Debug, Drop)]
+pub enum JobFault {
+    /// Help was asked for: the text for standard output. It isn't an error.
+    Help(String),
+    /// The words aren't a command line of the program: the text for standard error.
+    Line(String),
+    /// An allocation was refused.
+    Memory,
+}
+
+impl From<AllocError> for JobFault {
+    ghost from_gives = { λ _ fault. fault ≡ Memory };
+
+    fn from(_error: AllocError) -> JobFault {
+        JobFault::Memory
+    }
+}
+
+/// The refusal of words that the parser refused.
+fn fault_in(alloc: Global, error: &Error) -> JobFault
+    ensures memory { kind_of error.now ≡ ErrorKind.OutOfMemory → result ≡ JobFault.Memory }
+    ensures told { (result ≡ JobFault.Memory) ⊎ TellsOf (kind_of error.now) result }
+{
+    let kind = error.kind();
+    match error.to_string(alloc) {
+        Err(_) => JobFault::Memory,
+        Ok(_) if kind == ErrorKind::OutOfMemory => JobFault::Memory,
+        Ok(text) if kind == ErrorKind::DisplayHelp => JobFault::Help(text),
+        Ok(text) => JobFault::Line(text),
+    }
+}
+
+/// What the words after the program's name ask for.
+pub fn job_of<'a>(alloc: Global, words: &'a [&'a str]) -> Result<Job<'a>, JobFault>
+    // The job is that of the command and the operands that the parser states for these words.
+    ensures job { IfOk result (IsJobAt (subcommand_of heapguard (map (λ w. w.now) words.now))) }
+    // Words that the program takes are refused for memory alone.
+    ensures taken { IfErr result (λ e.
+        takes heapguard (map (λ w. w.now) words.now) ≡ true → e ≡ JobFault.Memory) }
+    // There is a job only where the parser has nothing against the words.
+    ensures faultless { IfOk result (λ _. fault_of heapguard (map (λ w. w.now) words.now) ≡ []) }
+    // Help is answered where the parser answers help, a line where it has another fault.
+    ensures refused { IfErr result (RefusedBy (fault_of heapguard (map (λ w. w.now) words.now))) }
+{
+    match command(alloc)?.try_get_matches_from(words) {
+        Ok(matches) => Ok(job_in(&matches)),
+        Err(error) => Err(fault_in(alloc, &error)),
+    }
+}

@@ -1,0 +1,12 @@
+//! What the words of a command line ask the program `heapguard` to do: a command with its operands,
+//! or the text that refuses them.
+#![tactic(auto)]
+
+mod command;
+mod job;
+mod matches;
+
+pub use job::{Job, JobFault, job_of};
+
+#[cfg(test)]
+mod tests;
