@@ -156,7 +156,7 @@ fn lines_name_the_program(rt: HostRuntime) -> Result<(), AllocError> {
 }
 
 /// The right answer, or want of memory: for a run in which each allocation is refused in turn. Of
-/// two texts for the same words only one can meet the refusal: they differ if that one is cut short.
+/// two texts for the same words only one can meet the refusal, and would differ if it cut it short.
 #[test]
 fn refused_in_turn(rt: HostRuntime) {
     let alloc = rt.alloc();
