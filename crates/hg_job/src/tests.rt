@@ -155,7 +155,8 @@ fn lines_name_the_program(rt: HostRuntime) -> Result<(), AllocError> {
     Ok(())
 }
 
-/// The right answer, or want of memory: for a run in which each allocation is refused in turn.
+/// The right answer, or want of memory: for a run in which each allocation is refused in turn. Of
+/// two texts for the same words only one can meet the refusal, and would differ if it cut it short.
 #[test]
 fn refused_in_turn(rt: HostRuntime) {
     let alloc = rt.alloc();
@@ -165,9 +166,19 @@ fn refused_in_turn(rt: HostRuntime) {
         Err(JobFault::Memory) => (),
         _ => assert!(rt; false, "neither the job nor want of memory"),
     }
-    match job_of(alloc, &["check", "--help"]) {
-        Err(JobFault::Help(text)) => assert!(rt; text.contains("Usage: heapguard check <POLICY>")),
-        Err(JobFault::Memory) => (),
+    match (
+        job_of(alloc, &["check", "-h"]),
+        job_of(alloc, &["check", "--help"]),
+    ) {
+        (Err(JobFault::Help(short)), Err(JobFault::Help(long))) => assert_eq!(rt; short, long),
+        (Err(JobFault::Memory), Err(JobFault::Help(_))) => (),
+        (Err(JobFault::Help(_)), Err(JobFault::Memory)) => (),
         _ => assert!(rt; false, "neither help nor want of memory"),
+    }
+    match (job_of(alloc, &["jump"]), job_of(alloc, &["jump"])) {
+        (Err(JobFault::Line(one)), Err(JobFault::Line(other))) => assert_eq!(rt; one, other),
+        (Err(JobFault::Memory), Err(JobFault::Line(_))) => (),
+        (Err(JobFault::Line(_)), Err(JobFault::Memory)) => (),
+        _ => assert!(rt; false, "neither a line nor want of memory"),
     }
 }
