@@ -30,7 +30,7 @@ use Rattle.hg_laws.specs.Asked.{actor_of, IsDenied}
 use Rattle.hg_laws.specs.Along.{AtEach}
 use Rattle.hg_laws.specs.Arenas.{arena_asked, DeniedOutside, ArenasAreIsolated}
 use Rattle.hg_laws.specs.Arenas.{UnadmittedGetNothing, BlocksLieInTheArena}
-use Rattle.hg_laws.proofs.Moments.{segment_is, passes, room_arena}
+use Rattle.hg_laws.proofs.MachineFacts.{segment_is, passes, room_arena}
 use Rattle.hg_laws.proofs.LivesLemmas.{denied_answer}
 use Rattle.hg_laws.proofs.Refusals.{was_served}
 

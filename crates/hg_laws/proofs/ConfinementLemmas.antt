@@ -35,8 +35,8 @@ use Rattle.hg_machine.proofs.Follows.{over_stays_over}
 use Rattle.hg_machine.proofs.Preserves.{live_within}
 use Rattle.hg_machine.specs.First.{first_of}
 use Rattle.hg_laws.specs.Asked.{is_refusal}
-use Rattle.hg_laws.proofs.Moments.{room_home, free_cases}
-use Rattle.hg_laws.proofs.Lifes.{unlive, parted_unlive, part_unlive, write_live, write_words}
+use Rattle.hg_laws.proofs.MachineFacts.{room_home, free_cases}
+use Rattle.hg_laws.proofs.LifeChanges.{unlive, parted_unlive, part_unlive, write_live, write_words}
 use Rattle.hg_laws.specs.Confinement.{Puts, NeverPut, IsLastPut, ReadsAreConfined}
 use Rattle.hg_laws.proofs.Refusals.{refused_is, was_served}
 

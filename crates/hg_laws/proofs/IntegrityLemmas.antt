@@ -23,7 +23,7 @@ use Rattle.hg_laws.specs.Asked.{actor_of}
 use Rattle.hg_laws.specs.Along.{AtSome}
 use Rattle.hg_laws.specs.Integrity.{Touches, TouchesAt, BlocksAreKept, GrantsNobody}
 use Rattle.hg_laws.specs.Integrity.{OthersChangeNothing}
-use Rattle.hg_laws.proofs.Moments.{permitted, free_cases}
+use Rattle.hg_laws.proofs.MachineFacts.{permitted, free_cases}
 
 -- what may touch the block and is served touches it
 touched : (s : State) (w : ℕ) (e : Event) (a : Answer) (place : ℕ) → may_touch s e place ≡ true → refusal s w e ≡ None → IsServed s w e a

@@ -1,5 +1,5 @@
-pub mod Moments
-pub mod Lifes
+pub mod MachineFacts
+pub mod LifeChanges
 pub mod Handles
 pub mod Refusals
 pub mod IntegrityLemmas

@@ -40,7 +40,7 @@ use Rattle.hg_machine.proofs.Keeps.{set_cases}
 use Rattle.hg_machine.proofs.Preserves.{held_is, steps_keep_sound, steps_keep_policy}
 use Rattle.hg_machine.proofs.Takes.{settled_at}
 use Rattle.hg_laws.specs.Limits.{is_refill_of, ChargesStayLow, AllocationsAreCharged, LimitsAreKept}
-use Rattle.hg_laws.proofs.Moments.{free_cases}
+use Rattle.hg_laws.proofs.MachineFacts.{free_cases}
 use Rattle.hg_laws.proofs.Refusals.{was_served}
 use Rattle.hg_laws.proofs.Sums.{sum_le, sum_inside}
 

@@ -42,8 +42,8 @@ use Rattle.hg_laws.specs.Asked.{handle_of, is_refusal, IsDenied}
 use Rattle.hg_laws.specs.Lives.{gives_out, LivesAreCounted, LivesAreLimited, FreedIsDenied}
 use Rattle.hg_laws.specs.Lives.{ForgedIsDenied}
 use Rattle.hg_laws.proofs.Handles.{same_handle}
-use Rattle.hg_laws.proofs.Lifes.{part_unlive, write_live}
-use Rattle.hg_laws.proofs.Moments.{free_cases, policy_kept}
+use Rattle.hg_laws.proofs.LifeChanges.{part_unlive, write_live}
+use Rattle.hg_laws.proofs.MachineFacts.{free_cases, policy_kept}
 use Rattle.hg_laws.proofs.Refusals.{refused_is, was_served}
 
 abbrev once : Bool → ℕ

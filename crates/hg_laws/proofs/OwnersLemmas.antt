@@ -31,7 +31,7 @@ use Rattle.hg_machine.proofs.Opening.{all_same}
 use Rattle.hg_machine.proofs.Preserves.{steps_keep_policy}
 use Rattle.hg_machine.proofs.Takes.{settled_at}
 use Rattle.hg_laws.specs.Owners.{HasOwner, OwnersAreTenants}
-use Rattle.hg_laws.proofs.Moments.{free_cases, room_arena}
+use Rattle.hg_laws.proofs.MachineFacts.{free_cases, room_arena}
 
 -- what passes an allocation's verdict
 past_both : (b c : Bool) (r q : Rule) (v : AllocVerdict) (s : State) (w arena : ℕ) → alloc_refusal s w arena (unwrap_or (cond b (Some (alloc.Denied r)) (cond c (Some (alloc.Denied q)) None)) v) ≡ None → (b ≡ false) × (c ≡ false)

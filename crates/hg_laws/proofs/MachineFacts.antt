@@ -1,4 +1,4 @@
--- What a verdict that denies nothing says, and where places are.
+-- Facts of the machine that several laws use.
 use Rattle.std.proofs.Common.{◌≡◌, ◌⊎◌, inl, inr, ℕ, ◌==◌, Option, Some, true, not, is_some, None}
 use Rattle.std.proofs.Common.{sym, subst, arith}
 use Rattle.std.proofs.lemmas.Bool.{eqb-true, not-false, and_parts, or_cases}
