@@ -42,10 +42,12 @@ lists_of a = record {
   entries = length a.owner.items;
 }
 
+-- the links of some lists, which are those that they show
 abbrev pub AreLinked : Inside → Type 0
 AreLinked a =
-    Links (length a.heads.items) (length a.owner.items) a.heads.items a.next.items a.prev.items a.owner.items
-    (lists_of a).by_key
+    let keys : ℕ = length a.heads.items in
+    let entries : ℕ = length a.owner.items in
+    Links keys entries a.heads.items a.next.items a.prev.items a.owner.items (lists_of a).by_key
 
 -- links with what one of them leads to written over
 abbrev pub write_at : List ℕ → ℕ → ℕ → List ℕ

@@ -7,3 +7,4 @@ pub mod Formatted
 pub mod Frames
 pub mod Emptied
 pub mod Unworn
+pub mod Changes
