@@ -12,3 +12,5 @@ pub mod ArenasLemmas
 pub mod VerdictsLemmas
 pub mod OwnersLemmas
 pub mod RowsLemmas
+pub mod WorkersLemmas
+pub mod CountsLemmas

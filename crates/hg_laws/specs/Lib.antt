@@ -9,3 +9,5 @@ pub mod Arenas
 pub mod Verdicts
 pub mod Owners
 pub mod Rows
+pub mod Workers
+pub mod Counts

@@ -12,6 +12,8 @@ ghost use Rattle.hg_laws.specs.Arenas.{BlocksLieInTheArena};
 ghost use Rattle.hg_laws.specs.Verdicts.{WordsDecide};
 ghost use Rattle.hg_laws.specs.Owners.{OwnersAreTenants};
 ghost use Rattle.hg_laws.specs.Rows.{LooksTellTheirLine};
+ghost use Rattle.hg_laws.specs.Workers.{WorkersKeepApart, NewPagesComeLast};
+ghost use Rattle.hg_laws.specs.Counts.{TakenIsCounted, PagesAreCounted};
 
 /// In any run a live block stays as it was, until an actor whom the policy lets do so frees it or
 /// writes into it.
@@ -103,4 +105,25 @@ pub fn owners_are_tenants()
 /// The row of a served look is the line that a listing has of the place.
 pub fn looks_tell_their_line()
     ensures { LooksTellTheirLine }
+{}
+
+/// A step of one worker leaves the others' hands, what they hold, and of segments that it doesn't
+/// hold all but a block that it parts.
+pub fn workers_keep_apart()
+    ensures { WorkersKeepApart }
+{}
+
+/// A page without the class is given one only where no page that has it has room.
+pub fn new_pages_come_last()
+    ensures { NewPagesComeLast }
+{}
+
+/// A take tells how many places came home.
+pub fn taken_is_counted()
+    ensures { TakenIsCounted }
+{}
+
+/// A collect tells how many pages lost their class.
+pub fn pages_are_counted()
+    ensures { PagesAreCounted }
 {}

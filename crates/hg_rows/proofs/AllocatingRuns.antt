@@ -3,6 +3,7 @@ use Rattle.std.proofs.Common.{refl}
 use Rattle.hg_size.specs.Sizes as sizes
 use Rattle.hg_rows.proofs.Computed.{answered}
 use Rattle.hg_rows.specs.Shorthand.{block, next_page}
+use Rattle.hg_rows.specs.Allocating.{LimitBeforeRoom}
 use Rattle.hg_rows.specs.Allocating.{RefillThenAlloc, ExactFitThenOverLimit, ChargeByClassBytes}
 use Rattle.hg_rows.specs.Allocating.{ArenaBeforeSizeLimitAndGrant}
 
@@ -73,3 +74,7 @@ arena_before_size_limit_and_grant =
         ),
       ),
     )
+
+pub limit_before_room : LimitBeforeRoom
+unfolding sizes.size_for
+limit_before_room = answered ((refl, refl), ((refl, refl), tt))

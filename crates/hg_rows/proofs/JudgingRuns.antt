@@ -3,6 +3,7 @@ use Rattle.std.proofs.Common.{refl}
 use Rattle.hg_size.specs.Sizes as sizes
 use Rattle.hg_rows.proofs.Computed.{answered}
 use Rattle.hg_rows.specs.Shorthand.{block, next_page}
+use Rattle.hg_rows.specs.Judging.{StaleThenFreedThenArena}
 use Rattle.hg_rows.specs.Judging.{row_of_alice, StrangerThenStaleThenGrant}
 use Rattle.hg_rows.specs.Judging.{GrantThenHolderThenLength, NoSuchSegment}
 use Rattle.hg_rows.specs.Judging.{LooksShowWhatMayBeListed}
@@ -76,3 +77,8 @@ looks_show_what_may_be_listed =
         ),
       ),
     )
+
+pub stale_then_freed_then_arena : StaleThenFreedThenArena
+unfolding sizes.size_for
+stale_then_freed_then_arena =
+    answered (((0, refl, refl), refl), (((block, refl, record { room = refl; next = refl }), refl), ((refl, refl), ((refl, refl), ((refl, refl), ((refl, refl), tt))))))

@@ -21,6 +21,13 @@ ExactFitThenOverLimit =
     (refills 0 0 ∷ allocs 0 bob 64 ∷ allocs 0 bob 1 ∷ allocs 0 bob 4097 ∷ [])
     (answer.Refilled 0 ∷ answer.Block block ∷ answer.Denied rule.OverLimit ∷ answer.TooLarge ∷ [])
 
+-- the limit is told before there is a question of room, also where the worker holds nothing
+abbrev pub LimitBeforeRoom : Type 0
+LimitBeforeRoom =
+    Answers (start 1 1)
+    (allocs 0 bob 65 ∷ allocs 0 bob 64 ∷ [])
+    (answer.Denied rule.OverLimit ∷ answer.NoRoom ∷ [])
+
 -- 65 bytes take 80, which are above 64; 8 bytes and two blocks of 4096 are above 8192
 abbrev pub ChargeByClassBytes : Type 0
 ChargeByClassBytes =

@@ -4,7 +4,8 @@ use Rattle.hg_machine.specs.declared.Answer.TheVariants as answer
 use Rattle.hg_machine.specs.declared.Rule.TheVariants as rule
 use Rattle.hg_rows.specs.Answers.{Answers}
 use Rattle.hg_machine.specs.declared.Row.{Row}
-use Rattle.hg_rows.specs.WorkedPolicy.{start}
+use Rattle.hg_rows.specs.WorkedPolicy.{start, vault_start}
+use Rattle.hg_rows.specs.Shorthand.{allocs_in, frees}
 use Rattle.hg_rows.specs.Shorthand.{alice, bob, stranger, refills, allocs, reads, writes, looks}
 use Rattle.hg_rows.specs.Shorthand.{takes, abandons, block, ninth_life, neighbour, next_page}
 use Rattle.hg_rows.specs.Shorthand.{nowhere}
@@ -45,6 +46,25 @@ GrantThenHolderThenLength =
     ∷ answer.Elsewhere
     ∷ answer.OutOfBlock
     ∷ answer.Value 0
+    ∷ [])
+
+-- a stale handle and a freed block before an arena that doesn't admit the actor
+abbrev pub StaleThenFreedThenArena : Type 0
+StaleThenFreedThenArena =
+    Answers vault_start
+    (refills 0 1
+    ∷ allocs_in 0 1 alice 8
+    ∷ reads 0 bob ninth_life 0
+    ∷ reads 0 bob block 0
+    ∷ frees 0 alice block
+    ∷ reads 0 bob block 0
+    ∷ [])
+    (answer.Refilled 0
+    ∷ answer.Block block
+    ∷ answer.Denied (rule.Stale 1)
+    ∷ answer.Denied rule.ForeignArena
+    ∷ answer.Done
+    ∷ answer.Denied rule.AlreadyFreed
     ∷ [])
 
 -- what a segment that the policy lacks is answered

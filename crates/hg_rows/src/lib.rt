@@ -3,6 +3,8 @@
 
 ghost use Rattle.hg_rows.specs.Allocating.{RefillThenAlloc, ExactFitThenOverLimit};
 ghost use Rattle.hg_rows.specs.Allocating.{ChargeByClassBytes, ArenaBeforeSizeLimitAndGrant};
+ghost use Rattle.hg_rows.specs.Allocating.{LimitBeforeRoom};
+ghost use Rattle.hg_rows.specs.Judging.{StaleThenFreedThenArena};
 ghost use Rattle.hg_rows.specs.Judging.{StrangerThenStaleThenGrant, GrantThenHolderThenLength};
 ghost use Rattle.hg_rows.specs.Judging.{NoSuchSegment, LooksShowWhatMayBeListed};
 ghost use Rattle.hg_rows.specs.Lives.{StaleAfterReuse, WornPlaceIsNeverGivenOut};
@@ -20,6 +22,11 @@ pub fn refill_then_alloc()
 /// What fits the limit exactly is served, and no byte more.
 pub fn exact_fit_then_over_limit()
     ensures { ExactFitThenOverLimit }
+{}
+
+/// The limit is told before there is a question of room.
+pub fn limit_before_room()
+    ensures { LimitBeforeRoom }
 {}
 
 /// What counts against the limit is the bytes of the size class.
@@ -40,6 +47,11 @@ pub fn stranger_then_stale_then_grant()
 /// What isn't granted is denied wherever it is asked; then holder and length are told.
 pub fn grant_then_holder_then_length()
     ensures { GrantThenHolderThenLength }
+{}
+
+/// A stale handle and a freed block are told before an arena that doesn't admit the actor.
+pub fn stale_then_freed_then_arena()
+    ensures { StaleThenFreedThenArena }
 {}
 
 /// What a segment that the policy lacks is answered.
