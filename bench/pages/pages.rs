@@ -77,7 +77,6 @@ impl Page {
     }
 }
 
-#[inline(never)]
 fn take_all(page: &mut Page, words: &Vec<u64>) -> u64 {
     let mut taken = 0u64;
     for _ in 0..512u16 {
@@ -89,7 +88,6 @@ fn take_all(page: &mut Page, words: &Vec<u64>) -> u64 {
     taken
 }
 
-#[inline(never)]
 fn put_all(page: &mut Page, words: &mut Vec<u64>) -> u64 {
     let mut put = 0u64;
     for index in 0..512u16 {
@@ -101,7 +99,6 @@ fn put_all(page: &mut Page, words: &mut Vec<u64>) -> u64 {
     put
 }
 
-#[inline(never)]
 fn by_turns(page: &mut Page, words: &mut Vec<u64>) -> u64 {
     let mut pairs = 0u64;
     for _ in 0..512u16 {

@@ -1,12 +1,13 @@
 -- What a push and a removal leave of the list of a key.
-use Rattle.std.proofs.Common.{◌≡◌, ◌≢◌, ℕ, ◌<◌, List, [], ◌∷◌, length, map, slice_get, Some, None, refl, sym, ap, ◌∙◌, arith, subst, ◌⊎◌, inl, inr, ⊎_elim, get_or-set_other, get_or-set_same}
+use Rattle.std.proofs.Common.{◌≡◌, ◌≢◌, ℕ, suc, ◌<◌, List, [], ◌∷◌, length, map, slice_get, Some, None, refl, sym, ap, ◌∙◌, arith, subst, ◌⊎◌, inl, inr, ⊎_elim, get_or-set_other, get_or-set_same}
 use Rattle.std.specs.Prelude.{Contains}
 use Rattle.std.proofs.lemmas.List.{length-map, get_or-map, get_or_past}
 use Rattle.std.proofs.lemmas.Bool.{cases_eq, cases_lt}
-use Rattle.hg_lists.specs.Repeats.{IsIn}
+use Rattle.hg_lists.specs.Repeats.{IsIn, HasNoRepeats}
+use Rattle.hg_lists.specs.Links.{list_at}
 use Rattle.hg_lists.specs.Lists.{Lists, list_of, IsNowhere, IsSomewhere, without, with_front, without_entry}
-use Rattle.hg_lists.proofs.RepeatsLemmas.{in_contains, Contains-in, Contains-cons, Contains-cons_cases}
-use Rattle.hg_lists.proofs.Without.{without-same, without-other, In-without}
+use Rattle.hg_lists.proofs.RepeatsLemmas.{in_contains, Contains-in, Contains-cons, Contains-cons_cases, lacks_contains}
+use Rattle.hg_lists.proofs.Without.{without-same, without-other, without-lacks, In-without}
 
 pub list_of-front_same : (m : Lists) (key entry : ℕ) → key < length m.by_key → list_of (with_front m key entry) key ≡ entry ∷ list_of m key
 list_of-front_same m key entry lt = get_or-set_same m.by_key key (entry ∷ list_of m key) [] lt
@@ -69,3 +70,14 @@ Contains-first x (y ∷ ys) e = (0, omega arith, (let s : x ≡ y = cc in sym s)
 pub no_first : (xs : List ℕ) → None ≡ slice_get xs 0 → xs ≡ []
 no_first [] e = refl
 no_first (x ∷ xs) e = cc
+
+-- a removal of an entry that stands nowhere, and of the first of a list
+map_without : (entry : ℕ) (lists : List (List ℕ)) → ((key : ℕ) → ¬ Contains (list_at lists key) entry) → map (without entry) lists ≡ lists
+map_without entry [] f = refl
+map_without entry (xs ∷ lists) f = ap (λ (ys : List ℕ). ys ∷ map (without entry) lists) (without-lacks entry xs (lacks_contains entry xs (f 0))) ∙ ap (λ (ls : List (List ℕ)). xs ∷ ls) (map_without entry lists (λ key. f (suc key)))
+
+pub without_entry-nowhere : (m : Lists) (entry : ℕ) → IsNowhere m entry → without_entry m entry ≡ m
+without_entry-nowhere m entry away = ap (λ (ls : List (List ℕ)). record m { by_key = ls }) (map_without entry m.by_key away)
+
+pub without-first : (entry : ℕ) (entries : List ℕ) → HasNoRepeats (entry ∷ entries) → without entry (entry ∷ entries) ≡ entries
+without-first entry entries once = without-same entry entry entries refl ∙ without-lacks entry entries once.0

@@ -68,3 +68,13 @@ fn greatest_counts(rt: HostRuntime) {
     assert_eq!(&rt; lists.next(u16::MAX - 1), Some(0));
     assert_eq!(&rt; lists.next(0), None);
 }
+
+// The lists are there, or memory was refused: for a run in which requests are refused in turn.
+#[test]
+fn refused_in_turn(rt: HostRuntime) {
+    if let Ok(mut lists) = IndexLists::new(rt.alloc(), 10, 2) {
+        assert_eq!(&rt; lists.front(1), None);
+        push(&rt, &mut lists, 1, 9);
+        assert_eq!(&rt; lists.front(1), Some(9));
+    }
+}

@@ -1,5 +1,5 @@
 -- What each change of the lists leaves listed, and used.
-use Rattle.std.proofs.Common.{◌≡◌, ◌≢◌, ℕ, ◌+◌, ◌<◌, ◌≤◌, Bool, true, false, List, [], ◌∷◌, ◌++◌, length, slice_index_or, slice_set, refl, sym, ap, ◌∙◌, arith, subst, ◌⊎◌, inl, inr, ⊎_elim, get_or-set_other, get_or-set_same}
+use Rattle.std.proofs.Common.{◌≡◌, ◌≢◌, ℕ, Bool, true, false, List, ◌∷◌, ◌++◌, length, slice_index_or, slice_set, refl, sym, ap, ◌∙◌, arith, subst, ◌⊎◌, inl, inr, ⊎_elim, get_or-set_other, get_or-set_same}
 use Rattle.std.specs.Prelude.{Contains}
 use Rattle.std.proofs.lemmas.List.{append-nil, length-set, get_or_past}
 use Rattle.std.proofs.lemmas.List.Elements.{Contains-append_left, Contains-append_right, Contains-append_cases}
@@ -40,8 +40,9 @@ used-popped_other index other old new h ne = ap (λ (used : List Bool). slice_in
 
 pub unused_same : (index : ℕ) (lists : PageLists) → slice_index_or (unused lists index).used index false ≡ false
 unused_same index lists = elim (cases_lt index (length lists.used)) [
-  inl lt ↦ get_or-set_same lists.used index false false lt
-  | inr ge ↦ get_or_past (slice_set lists.used index false) index false (omega (arith, length-set lists.used index false)) ]
+  | inl lt ↦ get_or-set_same lists.used index false false lt
+  | inr ge ↦ get_or_past (slice_set lists.used index false) index false (omega (arith, length-set lists.used index false))
+]
 
 pub unused_other : (index other : ℕ) (lists : PageLists) → other ≢ index → slice_index_or (unused lists index).used other false ≡ slice_index_or lists.used other false
 unused_other index other lists ne = get_or-set_other lists.used index other false false ne
@@ -50,15 +51,15 @@ unused_other index other lists ne = get_or-set_other lists.used index other fals
 
 pub pushed_cases : (index other : ℕ) (lists : PageLists) → Contains (listed (pushed lists index)) other → (other ≡ index) ⊎ Contains (listed lists) other
 pushed_cases index other lists c = ⊎_elim
-  (λ l. inr (Contains-append_left lists.free lists.local_free other l))
-  (λ r. ⊎_elim (λ e. inl e) (λ d. inr (Contains-append_right lists.free lists.local_free other d)) (Contains-cons_cases index other lists.local_free r))
-  (Contains-append_cases lists.free (index ∷ lists.local_free) other c)
+    (λ l. inr (Contains-append_left lists.free lists.local_free other l))
+    (λ r. ⊎_elim (λ e. inl e) (λ d. inr (Contains-append_right lists.free lists.local_free other d)) (Contains-cons_cases index other lists.local_free r))
+    (Contains-append_cases lists.free (index ∷ lists.local_free) other c)
 
 pub Contains-pushed : (index other : ℕ) (lists : PageLists) → Contains (listed lists) other → Contains (listed (pushed lists index)) other
 Contains-pushed index other lists c = ⊎_elim
-  (λ l. Contains-append_left lists.free (index ∷ lists.local_free) other l)
-  (λ r. Contains-append_right lists.free (index ∷ lists.local_free) other (Contains-cons index other lists.local_free r))
-  (Contains-append_cases lists.free lists.local_free other c)
+    (λ l. Contains-append_left lists.free (index ∷ lists.local_free) other l)
+    (λ r. Contains-append_right lists.free (index ∷ lists.local_free) other (Contains-cons index other lists.local_free r))
+    (Contains-append_cases lists.free lists.local_free other c)
 
 pub Contains-pushed_same : (index : ℕ) (lists : PageLists) → Contains (listed (pushed lists index)) index
 Contains-pushed_same index lists = Contains-append_right lists.free (index ∷ lists.local_free) index (0, omega arith, refl)

@@ -19,10 +19,11 @@ const PAGE_WORDS: u16 = 512;
 /// The link at the end of a list.
 const END: u16 = 0;
 
-/// A page. `free` has the places to give out next, `local_free` those that came back since: so a
-/// run of allocations ends now and then, and their order is as if each list were collected whole.
-/// Both are linked through the first words of their blocks, in the words of the page's segment,
-/// which each call is lent: a link is 0 at the end, otherwise the next index plus 1.
+/// A page of blocks of one size. `free` has the places to give out next. `local_free` has those that
+/// came back since, so that a run of allocations comes to an end now and then, where the caller can
+/// take in what else is free. Both are linked through the first words of their blocks, in the words
+/// of the page's segment, which each call is lent: a link is 0 at the end, otherwise the next index
+/// plus 1. No index stands on them twice, and none that is used.
 #[derive(Drop)]
 pub struct Page {
     // in words: where the page begins in its segment, and the size of a block

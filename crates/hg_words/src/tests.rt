@@ -20,3 +20,12 @@ fn words_named(rt: HostRuntime) {
     assert_eq!(&rt; memory.get(10), 0);
     assert_eq!(&rt; memory.get(WORDS - 1), 0);
 }
+
+// The words are there, or memory was refused: for a run in which requests are refused in turn.
+#[test]
+fn refused_in_turn(rt: HostRuntime) {
+    if let Ok(memory) = WordMemory::new(rt.alloc()) {
+        assert_eq!(&rt; memory.get(0), 0);
+        assert_eq!(&rt; memory.get(WORDS - 1), 0);
+    }
+}
