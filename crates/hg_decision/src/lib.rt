@@ -97,3 +97,6 @@ pub fn judge_alloc(
         AllocVerdict::Denied(Rule::OverLimit)
     }
 }
+
+#[cfg(test)]
+mod tests;

@@ -1,0 +1,109 @@
+ghost use Rattle.std.specs.Prelude.{◌<◌, ◌≤◌};
+
+use crate::{judge, judge_alloc};
+use hg_machine::{AllocVerdict, Rule, Verdict};
+use hg_place::{Actor, Handle, Place, Right, pack};
+use hg_policy::read_policy;
+use hg_size::block_words;
+use std::test::Fail;
+
+const DOCUMENT: &str = r#"
+version = 1
+workers = 2
+tenant = [ {name = "alice", limit = 8192}, {name = "bob", limit = 64} ]
+arena = [ {name = "main", segments = 2}, {name = "vault", segments = 1, exclusive = ["alice"]} ]
+grant = [ {owner = "alice", to = "bob", rights = ["read", "free"]} ]
+"#;
+
+const ALICE: Actor = Actor(0);
+
+const BOB: Actor = Actor(1);
+
+const NOBODY: Actor = Actor(255);
+
+const MAIN: u8 = 0;
+
+const VAULT: u8 = 1;
+
+fn handle(segment: u8, generation: u32) -> Handle
+    requires segment { segment < 64 }
+    requires generation { 1 ≤ generation }
+{
+    let place = Place {
+        segment,
+        page: 0,
+        index: 0,
+    };
+    Handle { place, generation }
+}
+
+/// A live block of alice, in its first life.
+fn block() -> u64 {
+    pack(1, 0, true)
+}
+
+#[test]
+fn blocks_by_the_first_rule(rt: HostRuntime) -> Result<(), Fail> {
+    let policy = read_policy(rt.alloc(), DOCUMENT.as_bytes())?;
+    let first = handle(0, 1);
+    let read = Right::Read;
+    assert_eq!(rt; judge(&policy, BOB, read, first, block()), Verdict::Allowed);
+    assert_eq!(rt;
+        judge(&policy, ALICE, Right::Write, first, block()),
+        Verdict::Allowed
+    );
+    assert_eq!(rt;
+        judge(&policy, BOB, Right::Free, first, block()),
+        Verdict::Allowed
+    );
+    for right in [Right::Write, Right::List] {
+        let verdict = judge(&policy, BOB, right, first, block());
+        assert_eq!(rt; verdict, Verdict::Denied(Rule::NotGranted));
+    }
+    let stranger = judge(&policy, NOBODY, read, handle(9, 1), block());
+    assert_eq!(rt; stranger, Verdict::Denied(Rule::Stranger));
+    let stale = judge(&policy, BOB, Right::Write, handle(0, 2), block());
+    assert_eq!(rt; stale, Verdict::Denied(Rule::Stale(1)));
+    let freed = judge(&policy, BOB, Right::Write, first, pack(1, 0, false));
+    assert_eq!(rt; freed, Verdict::Denied(Rule::AlreadyFreed));
+    let foreign = judge(&policy, BOB, read, handle(2, 1), block());
+    assert_eq!(rt; foreign, Verdict::Denied(Rule::ForeignArena));
+    let no_segment = judge(&policy, BOB, read, handle(3, 1), block());
+    assert_eq!(rt; no_segment, Verdict::Denied(Rule::Stale(0)));
+    let no_slot = judge(&policy, ALICE, read, first, 0x0000_0001_0000_0081);
+    assert_eq!(rt; no_slot, Verdict::Denied(Rule::Stale(0)));
+    Ok(())
+}
+
+/// Whether the allocation fits a class of so many words.
+fn fits(verdict: AllocVerdict, words: u16) -> bool {
+    match verdict {
+        AllocVerdict::Fits(class) => block_words(class) == words,
+        _ => false,
+    }
+}
+
+#[test]
+fn allocations_by_the_first_rule(rt: HostRuntime) -> Result<(), Fail> {
+    let policy = read_policy(rt.alloc(), DOCUMENT.as_bytes())?;
+    assert!(rt; fits(judge_alloc(&policy, ALICE, MAIN, 9, 0), 10));
+    assert!(rt; fits(judge_alloc(&policy, ALICE, MAIN, 512, 4096), 512));
+    let over = AllocVerdict::Denied(Rule::OverLimit);
+    assert_eq!(rt; judge_alloc(&policy, ALICE, MAIN, 512, 4097), over);
+    assert_eq!(rt; judge_alloc(&policy, ALICE, MAIN, 1, u64::MAX), over);
+    assert_eq!(rt; judge_alloc(&policy, BOB, MAIN, 9, 0), over);
+    let foreign = AllocVerdict::Denied(Rule::ForeignArena);
+    assert_eq!(rt; judge_alloc(&policy, BOB, VAULT, 513, 0), foreign);
+    assert_eq!(rt; judge_alloc(&policy, ALICE, 255, 1, 0), foreign);
+    let stranger = AllocVerdict::Denied(Rule::Stranger);
+    assert_eq!(rt; judge_alloc(&policy, NOBODY, VAULT, 513, 0), stranger);
+    assert_eq!(rt;
+        judge_alloc(&policy, ALICE, MAIN, 513, u64::MAX),
+        AllocVerdict::TooLarge
+    );
+    assert_eq!(rt;
+        judge_alloc(&policy, ALICE, MAIN, u64::MAX, 0),
+        AllocVerdict::TooLarge
+    );
+    Ok(())
+}
