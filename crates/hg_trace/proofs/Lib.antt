@@ -1,0 +1,5 @@
+pub mod Firsts
+pub mod LineCuts
+pub mod WordCuts
+pub mod NameBytes
+pub mod Numerals

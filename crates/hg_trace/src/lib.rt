@@ -1,0 +1,18 @@
+//! Traces: what their bytes mean, and what a core answers them.
+#![tactic(auto)]
+
+mod fault;
+mod line;
+mod lines;
+mod name;
+mod numbers;
+mod read;
+mod words;
+
+pub use fault::TraceFault;
+pub use line::{Command, Line, Trace};
+pub use name::Name;
+pub use read::read_trace;
+
+#[cfg(test)]
+mod tests;
