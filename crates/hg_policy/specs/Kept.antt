@@ -1,0 +1,35 @@
+-- What the tables that are kept of a policy stand for.
+use Rattle.std.specs.Prelude.{ℕ, Bool, List, map, String, Vec, string_bytes}
+use Rattle.std.specs.declared.alloc.Global.{Global}
+use Rattle.hg_machine.specs.Policy as meaning
+use Rattle.hg_policy.specs.Rights.{rights_of}
+use Rattle.hg_policy.specs.declared.rights.Rights.{Rights}
+use Rattle.hg_policy.specs.declared.policy.Policy.TheInside.{Inside}
+
+-- names with something beside each, by number
+abbrev pub Named : Type 0 → Type 0
+Named A = List (String Global × A)
+
+abbrev pub tenants_of : Named ℕ → List meaning.Tenant
+tenants_of named = map (λ one. record { name = string_bytes one.0; limit = one.1 }) named
+
+abbrev pub names_of : {A : Type 0} → Named A → List (List ℕ)
+names_of named = map (λ one. string_bytes one.0) named
+
+-- the row beside each name
+abbrev pub rows_of : Named (Vec Bool Global) → List (List Bool)
+rows_of named = map (λ one. one.1.items) named
+
+abbrev pub granted_of : List (Vec Rights Global) → List (List meaning.Rights)
+granted_of rows = map (λ row. map rights_of row.items) rows
+
+abbrev pub policy_of : Inside → meaning.Policy
+policy_of p = record {
+  workers = p.workers;
+  max_generation = p.max_generation;
+  tenants = tenants_of p.tenants.entries;
+  arenas = names_of p.arenas.entries;
+  segments = p.segments.items;
+  admitted = rows_of p.arenas.entries;
+  granted = granted_of p.granted.items;
+}

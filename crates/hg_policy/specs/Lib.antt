@@ -1,0 +1,3 @@
+pub mod Rights
+pub mod Names
+pub mod Kept

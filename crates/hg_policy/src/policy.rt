@@ -1,0 +1,160 @@
+//! A policy.
+
+ghost use Rattle.std.specs.Prelude.{◌≡◌, ◌≤◌, ◌<◌, ◌^◌, true, length, IfSome, is_some, option_map};
+ghost use Rattle.hg_machine.specs.Policy as meaning;
+ghost use Rattle.hg_machine.specs.SoundPolicy.{IsSoundPolicy};
+ghost use Rattle.hg_policy.specs.Names.{tenant_number, tenant_name, arena_number};
+
+use crate::rights::Rights;
+use hg_place::{Actor, Right};
+use indexmap::IndexMap;
+use std::marker::Model;
+
+/// Who may do what, and how much of it. Tenants, arenas and segments go by number, from 0.
+///
+/// What each request asks is a table, so that no answer costs more with more grants: whom an
+/// arena admits, by arena and tenant, and the rights on an owner's blocks, by owner and actor,
+/// among them all rights of each owner on its own.
+#[derive(Drop)]
+pub struct Policy {
+    pub(crate) workers: u8,
+    pub(crate) max_generation: u32,
+    /// Names and limits, in bytes.
+    pub(crate) tenants: IndexMap<String, u32>,
+    /// Names, and whether each tenant is admitted.
+    pub(crate) arenas: IndexMap<String, Vec<bool>>,
+    /// The arena of each segment.
+    pub(crate) segments: Vec<u8>,
+    pub(crate) granted: Vec<Vec<Rights>>,
+}
+
+impl Model for Policy {
+    ghost use Rattle.hg_machine.specs.Policy as meaning;
+
+    ghost Value = { meaning.Policy };
+
+    ghost use Rattle.hg_machine.specs.SoundPolicy.{IsSoundPolicy};
+    ghost use Rattle.hg_policy.specs.Kept.{policy_of};
+
+    ghost view = { policy_of };
+
+    ghost invariant = { λ policy. IsSoundPolicy (policy_of policy) };
+}
+
+impl Policy {
+    /// How many workers there are, 1 to 16.
+    pub fn workers(&self) -> u8
+        ensures workers { result ≡ self.now.workers }
+        ensures sound { IsSoundPolicy self.now }
+    {
+        self.workers
+    }
+
+    /// How many tenants there are, at most 64.
+    pub fn tenants(&self) -> u8
+        ensures tenants { result ≡ length self.now.tenants }
+        ensures few { result ≤ 64 }
+    {
+        self.tenants.len() as u8
+    }
+
+    /// How many arenas there are, at most 16.
+    pub fn arenas(&self) -> u8
+        ensures arenas { result ≡ length self.now.arenas }
+        ensures few { result ≤ 16 }
+    {
+        self.arenas.len() as u8
+    }
+
+    /// How many segments there are, at most 64.
+    pub fn segments(&self) -> u8
+        ensures segments { result ≡ length self.now.segments }
+        ensures few { result ≤ 64 }
+        ensures sound { IsSoundPolicy self.now }
+    {
+        self.segments.len() as u8
+    }
+
+    /// The greatest generation of a block, at least 1.
+    pub fn max_generation(&self) -> u32
+        ensures max_generation { result ≡ self.now.max_generation }
+        ensures some { 1 ≤ result }
+        ensures sound { IsSoundPolicy self.now }
+    {
+        self.max_generation
+    }
+
+    /// The number of the tenant of this name.
+    pub fn tenant(&self, name: &str) -> Option<u8>
+        ensures number { result ≡ tenant_number self.now name.now }
+        ensures tenant { IfSome result (λ tenant. meaning.is_tenant self.now tenant ≡ true) }
+    {
+        match self.tenants.get_index_of(name) {
+            Some(tenant) => Some(tenant as u8),
+            None => None,
+        }
+    }
+
+    /// The name of a tenant.
+    pub fn tenant_name(&self, tenant: u8) -> Option<&str>
+        ensures { option_map (λ name. name.now) result ≡ tenant_name self.now tenant }
+    {
+        match self.tenants.get_index(usize::from(tenant)) {
+            Some((name, _)) => Some(name.as_str()),
+            None => None,
+        }
+    }
+
+    /// How many bytes a tenant may have in the heap of each worker.
+    pub fn limit(&self, tenant: u8) -> Option<u64>
+        ensures tenant { is_some result ≡ meaning.is_tenant self.now tenant }
+        ensures limit { IfSome result (λ limit. limit ≡ meaning.limit_of self.now tenant) }
+        ensures range { IfSome result (λ limit. limit < 2 ^ 32) }
+    {
+        match self.tenants.get_index(usize::from(tenant)) {
+            Some((_, limit)) => Some(u64::from(*limit)),
+            None => None,
+        }
+    }
+
+    /// The number of the arena of this name.
+    pub fn arena(&self, name: &str) -> Option<u8>
+        ensures number { result ≡ arena_number self.now name.now }
+        ensures arena { IfSome result (λ arena. arena < length self.now.arenas) }
+    {
+        match self.arenas.get_index_of(name) {
+            Some(arena) => Some(arena as u8),
+            None => None,
+        }
+    }
+
+    /// The arena of a segment.
+    pub fn arena_of(&self, segment: u8) -> Option<u8>
+        ensures { result ≡ meaning.arena_of self.now segment }
+    {
+        self.segments.get(usize::from(segment)).copied()
+    }
+
+    /// Whether an arena admits an actor: a tenant, and one that it is open to.
+    pub fn admits(&self, arena: u8, actor: Actor) -> bool
+        ensures { result ≡ meaning.admits self.now arena actor.0 }
+    {
+        match self.arenas.get_index(usize::from(arena)) {
+            Some((_, admitted)) => admitted.get(usize::from(actor.0)).copied().unwrap_or(false),
+            None => false,
+        }
+    }
+
+    /// Whether an actor has a right on an owner's blocks. Each tenant has each right on its own.
+    pub fn grants(&self, owner: u8, actor: Actor, right: Right) -> bool
+        ensures { result ≡ meaning.grants self.now owner actor.0 right }
+    {
+        match self.granted.get(usize::from(owner)) {
+            Some(granted) => match granted.get(usize::from(actor.0)) {
+                Some(rights) => rights.has(right),
+                None => false,
+            },
+            None => false,
+        }
+    }
+}
