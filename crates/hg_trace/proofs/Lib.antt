@@ -3,3 +3,5 @@ pub mod LineCuts
 pub mod WordCuts
 pub mod NameBytes
 pub mod Numerals
+pub mod Writes
+pub mod Parts

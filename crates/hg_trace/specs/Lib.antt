@@ -4,3 +4,7 @@ pub mod Numbers
 pub mod Faults
 pub mod Commands
 pub mod Trace
+pub mod Text
+pub mod Rows
+pub mod Joined
+pub mod Writes

@@ -2,11 +2,15 @@
 #![tactic(auto)]
 
 mod fault;
+mod input;
+mod joined;
 mod line;
 mod lines;
 mod name;
 mod numbers;
+mod put;
 mod read;
+mod text;
 mod words;
 
 pub use fault::TraceFault;

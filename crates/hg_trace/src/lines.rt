@@ -1,7 +1,7 @@
 //! Lines of bytes.
 
 ghost use Rattle.std.specs.Prelude.{◌≡◌, ◌≤◌, ◌<◌, ◌∷◌, [], length, take, drop, position, MatchOption};
-ghost use Rattle.std.specs.List.{list_all, concat};
+ghost use Rattle.std.specs.List.{list_all, concat, before_first};
 ghost use Rattle.hg_trace.specs.Lines.{lines_of, text_of, ends_line, ends_text, is_blank, is_allowed};
 
 use std::marker::Model;
@@ -79,6 +79,14 @@ fn ends_text(b: u8) -> bool
     ensures { result ≡ ends_text b }
 {
     ends_line(b) || b == b'#'
+}
+
+/// A line without its end.
+#[tactic(auto, using(crate::proofs::Firsts::unwrap_or_position))]
+pub(crate) fn without_end(line: &[u8]) -> &[u8]
+    ensures { result.now ≡ before_first ends_line line.now }
+{
+    &line[..line_end(line).unwrap_or(line.len())]
 }
 
 /// Where a line's text ends.
