@@ -13,3 +13,4 @@ pub mod Stands
 pub mod Enough
 pub mod Plain
 pub mod Looks
+pub mod Serves

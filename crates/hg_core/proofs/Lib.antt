@@ -1,0 +1,12 @@
+pub mod Ranges
+pub mod Sums
+pub mod Records
+pub mod Stores
+pub mod Ranged
+pub mod Changes
+pub mod Openings
+pub mod Given
+pub mod Found
+pub mod Next
+pub mod Runs
+pub mod Kept

@@ -1,0 +1,7 @@
+pub mod Slots
+pub mod Segments
+pub mod Stored
+pub mod Fresh
+pub mod Rooms
+pub mod Keeping
+pub mod Served

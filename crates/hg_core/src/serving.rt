@@ -1,0 +1,96 @@
+ghost use Rattle.std.specs.Prelude.{◌≡◌, ◌<◌, IfOk, OnErr, All};
+ghost use Rattle.hg_machine.specs.SoundPolicy.{IsSoundPolicy};
+ghost use Rattle.hg_machine.specs.State.{opening};
+ghost use Rattle.hg_machine.specs.Steps.{Step, Run};
+ghost use Rattle.hg_machine.specs.Soundness.{IsSound};
+ghost use Rattle.hg_machine.specs.Lists.{IsPartition};
+ghost use Rattle.hg_core.specs.Served.{IsServedYet};
+
+use crate::store::Store;
+use hg_machine::{Answer, Event};
+use hg_policy::Policy;
+use std::alloc::{AllocError, Global};
+use std::marker::Model;
+
+/// The memory service, seen as a state of the machine with its lists.
+#[derive(Drop)]
+pub struct Core {
+    store: Store,
+}
+
+impl Model for Core {
+    ghost use Rattle.hg_machine.specs.Lists.{Kept};
+
+    ghost Value = { Kept };
+
+    ghost use Rattle.hg_core.specs.Keeping.{kept_of, IsKept};
+
+    ghost view = { kept_of };
+
+    ghost invariant = { IsKept };
+}
+
+/// Serves one event of a worker on the store.
+fn serve(store: &mut Store, worker: u8, event: Event) -> Answer
+    requires worker { worker < store.old.policy.workers }
+    requires served { IsServedYet event }
+    ensures { Step store.old worker event result store.new }
+{
+    match event {
+        Event::Alloc {
+            actor,
+            arena,
+            bytes,
+        } => store.alloc(worker, actor, arena, bytes),
+        Event::Refill { arena } => store.refill(worker, arena),
+        _ => unreachable!(),
+    }
+}
+
+impl Core {
+    /// A service in which no place was ever given out and nobody holds a segment.
+    pub fn open(alloc: Global, policy: Policy) -> Result<Core, AllocError>
+        ensures opening { IfOk result (λ core. core.state ≡ opening policy) }
+        ensures kept { IfOk result (λ core. IsSound core.state × IsPartition core) }
+    {
+        let store = Store::open(alloc, policy)?;
+        Ok(Core { store })
+    }
+
+    /// The policy that it serves by.
+    pub fn policy(&self) -> &Policy
+        ensures value { result.now ≡ self.now.state.policy }
+        ensures kept { IsSound self.now.state × IsPartition self.now }
+    {
+        self.store.policy()
+    }
+
+    /// Serves one event of a worker.
+    pub fn step(&mut self, worker: u8, event: Event) -> Answer
+        requires worker { worker < self.old.state.policy.workers }
+        requires served { IsServedYet event }
+        ensures step { Step self.old.state worker event result self.new.state }
+        ensures kept { IsSound self.new.state × IsPartition self.new }
+    {
+        serve(&mut self.store, worker, event)
+    }
+
+    /// Serves events of any workers in turn. Where there is no memory for the answers, it serves
+    /// none.
+    pub fn run(&mut self, alloc: Global, events: &[(u8, Event)]) -> Result<Vec<Answer>, AllocError>
+        requires workers { All (λ event. event.0 < self.old.state.policy.workers) events.now }
+        requires served { All (λ event. IsServedYet event.1) events.now }
+        ensures run { IfOk result
+            (λ answers. Run self.old.state events.now answers.items self.new.state) }
+        ensures kept { IsSound self.new.state × IsPartition self.new }
+        ensures err { OnErr result (self.new ≡ self.old) }
+    {
+        let _store = &self.store;
+        let mut answers = Vec::with_capacity(alloc, events.len())?;
+        for event in events {
+            let answer = self.step(event.0, event.1);
+            answers.push_reserved(answer);
+        }
+        Ok(answers)
+    }
+}
