@@ -5,3 +5,4 @@ pub mod NameBytes
 pub mod Numerals
 pub mod Writes
 pub mod Parts
+pub mod Answering

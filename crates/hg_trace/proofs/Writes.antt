@@ -15,8 +15,14 @@ some_left n h = grind (arith, nat_tests)
 pub front_none : (a b c : Option (List ℕ)) (all done rest : List ℕ) (n : ℕ) → all ≡ done ++ rest → n ≡ 0 → 0 < length rest → Appends a b done
     → Appends b c (take n rest) → AppendsFront a c all
 front_none a b c all done rest n e none some p q =
-    (done ++ take n rest, drop n rest, moves_front all done rest n e, omega (arith, length-drop n rest), Appends-trans a b c done (take n rest) p q)
+    record {
+      front = done ++ take n rest;
+      rest = drop n rest;
+      split = moves_front all done rest n e;
+      not_all = omega (arith, length-drop n rest);
+      written = Appends-trans a b c done (take n rest) p q;
+    }
 
 -- a write that failed
 pub front_kept : (a b c : Option (List ℕ)) (all done rest : List ℕ) → all ≡ done ++ rest → 0 < length rest → Appends a b done → Keeps b c → AppendsFront a c all
-front_kept a b c all done rest e some p q = (done, rest, e, some, Appends-kept a b c done p q)
+front_kept a b c all done rest e some p q = record { front = done; rest = rest; split = e; not_all = some; written = Appends-kept a b c done p q }

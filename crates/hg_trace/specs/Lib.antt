@@ -8,3 +8,5 @@ pub mod Text
 pub mod Rows
 pub mod Joined
 pub mod Writes
+pub mod Events
+pub mod Replays

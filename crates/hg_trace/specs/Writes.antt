@@ -3,5 +3,9 @@ use Rattle.std.specs.Prelude.{◌≡◌, ◌<◌, ℕ, List, ◌++◌, length, O
 use Rattle.std.specs.Io.KnownBytes.{Appends}
 
 -- the known bytes have grown by a part of the text from its front on, and not by all of it
-abbrev pub AppendsFront : Option (List ℕ) → Option (List ℕ) → List ℕ → Type 0
-AppendsFront old new text = (front rest : List ℕ) × (text ≡ front ++ rest) × (0 < length rest) × Appends old new front
+pub record AppendsFront (old new : Option (List ℕ)) (text : List ℕ) : Type 0 where
+  pub front : List ℕ
+  pub rest : List ℕ
+  pub split : text ≡ front ++ rest
+  pub not_all : 0 < length rest
+  pub written : Appends old new front

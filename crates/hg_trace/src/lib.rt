@@ -1,6 +1,7 @@
 //! Traces: what their bytes mean, and what a core answers them.
 #![tactic(auto)]
 
+mod events;
 mod fault;
 mod input;
 mod joined;
@@ -10,13 +11,15 @@ mod name;
 mod numbers;
 mod put;
 mod read;
+mod replaying;
 mod text;
 mod words;
 
-pub use fault::TraceFault;
+pub use fault::{ReplayFault, TraceFault};
 pub use line::{Command, Line, Trace};
 pub use name::Name;
 pub use read::read_trace;
+pub use replaying::replay;
 
 #[cfg(test)]
 mod tests;
