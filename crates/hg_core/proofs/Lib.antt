@@ -9,5 +9,7 @@ pub mod Given
 pub mod Found
 pub mod Next
 pub mod Live
+pub mod Loops
+pub mod Idle
 pub mod Runs
 pub mod Kept

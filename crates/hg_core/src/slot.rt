@@ -1,9 +1,9 @@
 ghost use Rattle.std.specs.Prelude.{◌≡◌, ◌≢◌, ◌<◌, ◌≤◌, []};
-ghost use Rattle.hg_place.specs.Slots.{slot_in};
+ghost use Rattle.hg_place.specs.Slots.{says};
 ghost use Rattle.hg_machine.specs.Life.{owner_of, is_live};
 ghost use Rattle.hg_core.specs.Slots.{life_from};
 
-use hg_place::pack;
+use hg_place::SlotState;
 
 /// Whether a place is home, or whose block stands there.
 #[derive(Clone, Copy, Debug, PartialEq, Eq)]
@@ -25,18 +25,22 @@ pub struct Slot {
 }
 
 impl Slot {
-    /// The slot word of its place.
-    pub fn word(self) -> u64
+    /// What the slot word of its place says.
+    pub fn shown(self) -> SlotState
         requires given_out { self.standing ≢ Standing.Home → 1 ≤ self.generation }
         requires owner { self.standing ≢ Standing.Home → self.owner < 64 }
         ensures { let life = life_from self.standing self.owner [] in
-            slot_in result
+            says result
             ≡ record { generation = self.generation; owner = owner_of life; live = is_live life } }
     {
-        match self.standing {
-            Standing::Home => pack(self.generation, 0, false),
-            Standing::Live => pack(self.generation, self.owner, true),
-            Standing::Parted => pack(self.generation, self.owner, false),
+        SlotState {
+            generation: self.generation,
+            owner: if self.standing == Standing::Home {
+                0
+            } else {
+                self.owner
+            },
+            live: self.standing == Standing::Live,
         }
     }
 }

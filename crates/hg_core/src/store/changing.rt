@@ -1,11 +1,13 @@
 //! The changes of a store, each by what it changes in the state.
 
-ghost use Rattle.std.specs.Prelude.{◌≡◌, ◌+◌, ◌<◌, length, true};
+ghost use Rattle.std.specs.Prelude.{◌≡◌, ◌+◌, ◌<◌, length, true, None, slice_set};
 ghost use Rattle.hg_place.specs.Places.{number_of};
 ghost use Rattle.hg_machine.specs.Policy.{is_tenant};
 ghost use Rattle.hg_machine.specs.Life.{home};
 ghost use Rattle.hg_machine.specs.State.{record_at};
 ghost use Rattle.hg_machine.specs.Changes.{given_out, adopted, with_life, part, write, with_hand};
+ghost use Rattle.hg_machine.specs.Changes.{abandoned};
+ghost use Rattle.hg_machine.specs.Sweeps.{is_idle};
 ghost use Rattle.hg_core.specs.Rooms.{IsUsableAt, IsLiveAt, IsWordAt};
 
 use crate::holder::Holder;
@@ -79,5 +81,24 @@ impl Store {
         ensures { self.new ≡ with_hand self.old worker hand }
     {
         self.hands[usize::from(worker)] = hand;
+    }
+
+    /// Takes its class from a page whose places are all home.
+    pub fn clear_class(&mut self, page: usize)
+        requires within { page < length self.old.classes }
+        requires idle { is_idle self.old page ≡ true }
+        ensures { self.new ≡ record self.old { classes = slice_set self.old.classes page None } }
+    {
+        self.classes[page] = None;
+    }
+
+    /// Nobody holds the segment any more, and it is the last orphan.
+    pub fn give_up(&mut self, segment: u8)
+        requires within { segment < length self.old.policy.segments }
+        requires room { length self.old.orphans < length self.old.policy.segments }
+        ensures { self.new ≡ abandoned self.old segment }
+    {
+        self.holders[usize::from(segment)] = Holder::Orphan;
+        self.orphans.push_reserved(segment);
     }
 }
