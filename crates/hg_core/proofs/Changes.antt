@@ -1,10 +1,10 @@
 -- What a change of one slot changes.
-use Rattle.std.proofs.Common.{◌≡◌, ℕ, ◌<◌, inl, inr, List, length, set, map, filter, not, ◌==◌, Option, refl, sym, ap, subst, ◌∙◌, slice_index_or}
+use Rattle.std.proofs.Common.{◌≡◌, ℕ, ◌<◌, inl, inr, List, length, set, map, filter, not, ◌==◌, Option, refl, sym, ap, subst, ◌∙◌, slice_index_or, ◌++◌, ◌∷◌, []}
 use Rattle.std.proofs.lemmas.Bool.{cases_eq}
 use Rattle.std.proofs.lemmas.Grind.{get_or-set_at}
 use Rattle.std.proofs.lemmas.List.{get_or-set_other, map-set}
-use Rattle.hg_machine.specs.State.{State, held, with_record}
-use Rattle.hg_machine.specs.Changes.{adopted}
+use Rattle.hg_machine.specs.State.{State, Holder, orphan, held, with_record}
+use Rattle.hg_machine.specs.Changes.{adopted, abandoned}
 use Rattle.hg_core.specs.declared.holder.Holder.TheVariants as holder
 use Rattle.hg_core.specs.declared.slot.Slot.{Slot}
 use Rattle.hg_core.specs.declared.store.Store.TheInside.{Inside}
@@ -42,3 +42,13 @@ state_adopted a s worker segment at orphans e f o =
     ∙ ap (λ hs. record (state_of a) { holders = hs; orphans = orphans }) (map-set holder_of a.holders.items segment (holder.Held worker))
     ∙ ap (λ os. record (state_of a) { holders = set (map holder_of a.holders.items) segment (held worker); orphans = os }) o
     ∙ ap (λ t. adopted t worker segment) e
+
+-- the state after a segment was given up
+pub state_abandoned : (a : Inside) (s : State) (segment at : ℕ) (orphans : List ℕ) → state_of a ≡ s → at ≡ segment → orphans ≡ a.orphans.items ++ segment ∷ []
+    → record (state_of a) { holders = map holder_of (set a.holders.items at holder.Orphan); orphans = orphans } ≡ abandoned s segment
+state_abandoned a s segment at orphans e f o =
+    let put : List Holder → List ℕ → State = λ hs os. record (state_of a) { holders = hs; orphans = os } in
+    ap (λ n. put (map holder_of (set a.holders.items n holder.Orphan)) orphans) f
+    ∙ ap (λ hs. put hs orphans) (map-set holder_of a.holders.items segment holder.Orphan)
+    ∙ ap (put (set (map holder_of a.holders.items) segment orphan)) o
+    ∙ ap (λ t. abandoned t segment) e

@@ -1,9 +1,11 @@
 -- What the search for room finds.
-use Rattle.std.proofs.Common.{◌≡◌, ℕ, zero, suc, ◌+◌, ◌<◌, Bool, true, false, cond, not, ◌&&◌, ◌||◌, List, [], ◌∷◌, length, Option, Some, None, find, refl, ap, ◌∙◌, arith}
+use Rattle.std.proofs.Common.{◌≡◌, ℕ, zero, suc, ◌+◌, ◌<◌, Bool, true, false, cond, not, ◌&&◌, ◌||◌, List, [], ◌∷◌, length, Option, Some, None, find, refl, sym, subst, ap, ◌∙◌, arith}
 use Rattle.std.specs.List.{list_any, range_with_len}
 use Rattle.std.proofs.lemmas.Bool.{and_parts, or_left, or_right, ltb-true, eqb-true, not-true}
 use Rattle.hg_size.proofs.Table.{find_passes}
-use Rattle.hg_place.specs.Places.{page_of, segment_of}
+use Rattle.hg_place.specs.declared.Handle.{Handle}
+use Rattle.hg_machine.specs.Served.{IsNext}
+use Rattle.hg_place.specs.Places.{page_of, segment_of, number_of}
 use Rattle.hg_machine.specs.Life.{is_home}
 use Rattle.hg_machine.specs.State.{State, record_at, class_at, places_in}
 use Rattle.hg_machine.specs.Holders.{holds, is_in_arena}
@@ -60,11 +62,13 @@ found_room s worker arena size wanted place e some room page =
     record {
       some = some;
       room = room;
-      within = let h = found_below (is_open_to s worker arena size wanted) 0 (length s.records) place e in omega arith;
-      index = ltb-true _ _ d.0;
-      page = λ class h. page class c.0 h;
-      usable = f.0;
-      unworn = not-true _ f.1;
+      usable = record {
+        within = let h = found_below (is_open_to s worker arena size wanted) 0 (length s.records) place e in omega arith;
+        index = ltb-true _ _ d.0;
+        page = λ class h. page class c.0 h;
+        at_home = f.0;
+        unworn = not-true _ f.1;
+      };
     }
 
 pub room_in_class : (s : State) (worker arena size place : ℕ) → find (is_open_to s worker arena size (Some size)) (places_in s) ≡ Some place → HasRoomAt s worker arena size place
@@ -86,3 +90,11 @@ pub no_room : (s : State) (worker arena size : ℕ) → find (is_open_to s worke
 no_room s worker arena size nothing none =
     ap (λ b. b || has_open s worker arena size None) (none_passes (is_open_to s worker arena size (Some size)) (places_in s) nothing)
     ∙ none_passes (is_open_to s worker arena size None) (places_in s) none
+
+-- the handle of a place with room, one generation up
+pub is_next : (s : State) (worker arena size place : ℕ) (handle : Handle) → HasRoomAt s worker arena size place
+    → number_of handle.place ≡ place → handle.generation ≡ (record_at s place).generation + 1 → IsNext s worker arena size handle
+is_next s worker arena size place handle room n g = record {
+  room = subst (λ z. is_room s worker arena size z ≡ true) (sym n) room.room;
+  next = g ∙ ap (λ z. (record_at s z).generation + 1) (sym n);
+}

@@ -9,15 +9,13 @@ use Rattle.hg_place.specs.Places.{page_of, index_of, first_word, number_of, page
 use Rattle.hg_machine.specs.Policy.{is_tenant}
 use Rattle.hg_machine.specs.Life.{Record, live}
 use Rattle.hg_machine.specs.State.{State, record_at, class_at}
-use Rattle.hg_machine.specs.Room.{is_room}
-use Rattle.hg_machine.specs.Served.{IsNext}
 use Rattle.hg_machine.specs.Changes.{given_out}
 use Rattle.hg_core.specs.declared.slot.Slot.{Slot}
 use Rattle.hg_core.specs.declared.slot.Standing.TheVariants as standing
 use Rattle.hg_core.specs.declared.store.Store.TheInside.{Inside}
 use Rattle.hg_core.specs.Slots.{unused, records_from}
 use Rattle.hg_core.specs.Stored.{IsSlotOf, IsStored, state_of}
-use Rattle.hg_core.specs.Rooms.{HasRoomAt}
+use Rattle.hg_core.specs.Rooms.{IsUsableAt}
 use Rattle.hg_core.proofs.Records.{block_within, records_after}
 use Rattle.hg_core.proofs.Ranged.{zero_part, kept_record}
 use Rattle.hg_core.proofs.Stores.{slot_within, record_is, slot_of}
@@ -102,34 +100,26 @@ records_given a words' place generation owner size stored below one within class
     (zero_part words' (first_word place size) size (omega (arith, clears.len, stored.words)) clears.inside)
 
 -- a place with room has not reached the greatest generation
-pub next_generation : (a : Inside) (s : State) (worker arena size place : ℕ) (slot : Slot) → state_of a ≡ s → IsStored a → HasRoomAt s worker arena size place → slot ≡ slice_index_or a.slots.items place unused
+pub next_generation : (a : Inside) (s : State) (size place : ℕ) (slot : Slot) → state_of a ≡ s → IsStored a → IsUsableAt s size place → slot ≡ slice_index_or a.slots.items place unused
     → slot.generation + 1 ≤ a.policy.max_generation
-next_generation a s worker arena size place slot e stored room read =
+next_generation a s size place slot e stored room read =
     let same : (record_at s place).generation ≡ slot.generation = ap (λ r. r.generation) (record_is a s place slot e read) in
     let most : slot.generation ≤ a.policy.max_generation = (slot_of a place slot stored read).generation in
     let policy : a.policy.max_generation ≡ s.policy.max_generation = ap (λ t. t.policy.max_generation) e in
     let unequal : ((record_at s place).generation == s.policy.max_generation) ≡ false =
-    ap (λ b. b && ((record_at s place).generation == s.policy.max_generation)) (sym room.usable) ∙ room.unworn in
+    ap (λ b. b && ((record_at s place).generation == s.policy.max_generation)) (sym room.at_home) ∙ room.unworn in
     let differ = eqb-false _ _ unequal in
     let differs : slot.generation ≢ a.policy.max_generation = λ z. differ (same ∙ z ∙ policy) in
     omega (arith, differs)
 
 -- the class of a place's page is the wanted one, if it has one
-pub class_known : (a : Inside) (s : State) (worker arena size place : ℕ) → state_of a ≡ s → HasRoomAt s worker arena size place
+pub class_known : (a : Inside) (s : State) (size place : ℕ) → state_of a ≡ s → IsUsableAt s size place
     → (class : ℕ) → slice_index_or a.classes.items (page_of place) None ≡ Some class → class ≡ size
-class_known a s worker arena size place e room class h = room.page class (ap (λ t. class_at t (page_of place)) (sym e) ∙ h)
-
--- the handle is one generation up, at a place with room
-pub is_next : (a : Inside) (s : State) (worker arena size place : ℕ) (slot : Slot) (handle : Handle) → state_of a ≡ s → HasRoomAt s worker arena size place → slot ≡ slice_index_or a.slots.items place unused
-    → number_of handle.place ≡ place → handle.generation ≡ slot.generation + 1 → IsNext s worker arena size handle
-is_next a s worker arena size place slot handle e room read n g = record {
-  room = subst (λ z. is_room s worker arena size z ≡ true) (sym n) room.room;
-  next = g ∙ ap (λ r. r.generation + 1) (sym (record_is a s place slot e read)) ∙ ap (λ z. (record_at s z).generation + 1) (sym n);
-}
+class_known a s size place e room class h = room.page class (ap (λ t. class_at t (page_of place)) (sym e) ∙ h)
 
 -- the state after a place was given out
-pub state_given : (a : Inside) (s : State) (worker arena actor size size' place generation : ℕ) (words' : List ℕ) (handle : Handle)
-    → state_of a ≡ s → size' ≡ size → IsStored a → HasRoomAt s worker arena size place → 1 ≤ size
+pub state_given : (a : Inside) (s : State) (actor size size' place generation : ℕ) (words' : List ℕ) (handle : Handle)
+    → state_of a ≡ s → size' ≡ size → IsStored a → IsUsableAt s size place → 1 ≤ size
     → Clears a.words.items words' (first_word place size) size
     → number_of handle.place ≡ place → page_number handle.place ≡ page_of place → handle.generation ≡ generation
     → record (state_of a) {
@@ -137,7 +127,7 @@ pub state_given : (a : Inside) (s : State) (worker arena actor size size' place 
       classes = set a.classes.items (page_of place) (Some size);
     }
     ≡ given_out s actor handle size
-state_given a s worker arena actor size size' place generation words' handle e f stored room one clears n q g =
+state_given a s actor size size' place generation words' handle e f stored room one clears n q g =
     let slot : ℕ → Slot = λ z. record { generation = generation; standing = standing.Live; owner = actor; size = z } in
     let put : State → ℕ → ℕ → ℕ → State = λ t at page life.
     record t { records = set t.records at (record { generation = life; life = live actor (replicate size 0) }); classes = set t.classes page (Some size) } in
@@ -145,7 +135,7 @@ state_given a s worker arena actor size size' place generation words' handle e f
     let kept : State → List Record → State = λ t r. record t { records = r; classes = set t.classes (page_of place) (Some size) } in
     ap (sized (state_of a)) f
     ∙ ap (kept (state_of a))
-    (records_given a words' place generation actor size stored (slot_within a s place e room.within) one room.index (class_known a s worker arena size place e room) clears)
+    (records_given a words' place generation actor size stored (slot_within a s place e room.within) one room.index (class_known a s size place e room) clears)
     ∙ ap (λ t. put t place (page_of place) generation) e
     ∙ ap (λ z. put s z (page_of place) generation) (sym n)
     ∙ ap (λ z. put s (number_of handle.place) z generation) (sym q)

@@ -8,5 +8,8 @@ pub mod Openings
 pub mod Given
 pub mod Found
 pub mod Next
+pub mod Live
+pub mod Loops
+pub mod Idle
 pub mod Runs
 pub mod Kept

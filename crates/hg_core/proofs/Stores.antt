@@ -50,4 +50,6 @@ slot_shows a s place slot e stored h read =
           let block : IsBlock a.classes.items place slot = (slot_of a place slot stored read).block used in
           length-block a.words.items place slot.size
           (let fits = block_within place slot.size (length a.policy.segments) block.sized (omega (arith, stored.slots)) block.within in omega (arith, stored.words));
+      given_out = λ used. ((slot_of a place slot stored read).block used).given_out;
+      owner = λ used. ((slot_of a place slot stored read).block used).owner;
     }

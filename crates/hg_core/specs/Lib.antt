@@ -4,4 +4,3 @@ pub mod Stored
 pub mod Fresh
 pub mod Rooms
 pub mod Keeping
-pub mod Served

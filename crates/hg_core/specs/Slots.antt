@@ -1,5 +1,6 @@
 -- What a slot of the plain store means.
-use Rattle.std.specs.Prelude.{◌≡◌, ◌≢◌, ℕ, ◌+◌, List, length, map, slice_index_or, slice_range}
+use Rattle.std.specs.Prelude.{◌≡◌, ◌≢◌, ℕ, ◌+◌, ◌<◌}
+use Rattle.std.specs.Prelude.{◌≤◌, List, length, map, slice_index_or, slice_range}
 use Rattle.std.specs.List.{range_with_len}
 use Rattle.hg_place.specs.Places.{first_word}
 use Rattle.hg_machine.specs.Life.{Record, Life, home, live, parted}
@@ -32,9 +33,12 @@ records_from slots words =
     map (λ place. record_from words place (slice_index_or slots place unused))
     (range_with_len 0 (length slots))
 
--- the slot and the record say the same, and the block has the slot's size
+-- the slot and the record say the same; a block has the slot's size, was given out, and is some
+-- tenant's
 pub record Shows (slot : Slot) (r : Record) : Type 0 where
   pub words : List ℕ
   pub same :
       r ≡ record { generation = slot.generation; life = life_from slot.standing slot.owner words }
   pub sized : slot.standing ≢ standing.Home → length words ≡ slot.size
+  pub given_out : slot.standing ≢ standing.Home → 1 ≤ slot.generation
+  pub owner : slot.standing ≢ standing.Home → slot.owner < 64

@@ -1,8 +1,8 @@
 ghost use Rattle.hg_machine.specs.Steps.{Step};
 
 use crate::store::Store;
-use crate::verdict::judge_alloc;
-use hg_machine::{AllocVerdict, Answer, Event};
+use hg_decision::{AllocVerdict, judge_alloc};
+use hg_machine::{Answer, Event};
 use hg_place::Actor;
 use hg_size::words_of;
 
@@ -18,7 +18,7 @@ impl Store {
             AllocVerdict::TooLarge => Answer::TooLarge,
             AllocVerdict::Fits(class) => match self.room_for(worker, arena, class) {
                 None => Answer::NoRoom,
-                Some(place) => Answer::Block(self.give_out(worker, arena, actor, class, place)),
+                Some(place) => Answer::Block(self.give_out(actor, class, place)),
             },
         }
     }

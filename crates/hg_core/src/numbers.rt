@@ -1,7 +1,7 @@
 //! Places and their numbers, counted over all segments.
 
 ghost use Rattle.std.specs.Prelude.{◌≡◌, ◌<◌, ◌≤◌, ◌^◌};
-ghost use Rattle.hg_place.specs.Places.{number_of, page_number, page_of};
+ghost use Rattle.hg_place.specs.Places.{number_of, page_number, page_of, first_word};
 
 use hg_place::{Handle, Place};
 
@@ -19,4 +19,19 @@ pub fn handle_at(place: usize, generation: u32) -> Handle
         index: (place % 512) as u16,
     };
     Handle { place, generation }
+}
+
+/// The number of a place.
+pub fn place_number(place: Place) -> usize
+    ensures number { result ≡ number_of place }
+{
+    (usize::from(place.segment) * 16 + usize::from(place.page)) * 512 + usize::from(place.index)
+}
+
+/// The word at which a block of so many words begins.
+pub fn first_word(place: usize, size: u16) -> usize
+    requires { place < 2 ^ 19 }
+    ensures { result ≡ first_word place size }
+{
+    place / 512 * 512 + place % 512 * usize::from(size)
 }

@@ -4,7 +4,6 @@ ghost use Rattle.hg_machine.specs.State.{opening};
 ghost use Rattle.hg_machine.specs.Steps.{Step, Run};
 ghost use Rattle.hg_machine.specs.Soundness.{IsSound};
 ghost use Rattle.hg_machine.specs.Lists.{IsPartition};
-ghost use Rattle.hg_core.specs.Served.{IsServedYet};
 
 use crate::store::Store;
 use hg_machine::{Answer, Event};
@@ -33,7 +32,7 @@ impl Model for Core {
 /// Serves one event of a worker on the store.
 fn serve(store: &mut Store, worker: u8, event: Event) -> Answer
     requires worker { worker < store.old.policy.workers }
-    requires served { IsServedYet event }
+    requires sound { IsSound store.old }
     ensures { Step store.old worker event result store.new }
 {
     match event {
@@ -42,8 +41,24 @@ fn serve(store: &mut Store, worker: u8, event: Event) -> Answer
             arena,
             bytes,
         } => store.alloc(worker, actor, arena, bytes),
+        Event::Free { actor, handle } => store.free(worker, actor, handle),
+        Event::Deliver => store.deliver(worker),
+        Event::Take { segment } => store.take(worker, segment),
+        Event::Collect => store.collect(worker),
+        Event::Read {
+            actor,
+            handle,
+            index,
+        } => store.read(worker, actor, handle, index),
+        Event::Write {
+            actor,
+            handle,
+            index,
+            value,
+        } => store.write(worker, actor, handle, index, value),
+        Event::Look { actor, place } => store.look(worker, actor, place),
+        Event::Abandon { segment } => store.abandon(worker, segment),
         Event::Refill { arena } => store.refill(worker, arena),
-        _ => unreachable!(),
     }
 }
 
@@ -68,7 +83,6 @@ impl Core {
     /// Serves one event of a worker.
     pub fn step(&mut self, worker: u8, event: Event) -> Answer
         requires worker { worker < self.old.state.policy.workers }
-        requires served { IsServedYet event }
         ensures step { Step self.old.state worker event result self.new.state }
         ensures kept { IsSound self.new.state × IsPartition self.new }
     {
@@ -78,8 +92,7 @@ impl Core {
     /// Serves events of any workers in turn. Where there is no memory for the answers, it serves
     /// none.
     pub fn run(&mut self, alloc: Global, events: &[(u8, Event)]) -> Result<Vec<Answer>, AllocError>
-        requires workers { All (λ event. event.0 < self.old.state.policy.workers) events.now }
-        requires served { All (λ event. IsServedYet event.1) events.now }
+        requires { All (λ event. event.0 < self.old.state.policy.workers) events.now }
         ensures run { IfOk result
             (λ answers. Run self.old.state events.now answers.items self.new.state) }
         ensures kept { IsSound self.new.state × IsPartition self.new }

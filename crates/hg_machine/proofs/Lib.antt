@@ -14,3 +14,4 @@ pub mod Enough
 pub mod Plain
 pub mod Looks
 pub mod Serves
+pub mod Orphans

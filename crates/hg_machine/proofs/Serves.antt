@@ -1,24 +1,31 @@
 -- When a step is served.
-use Rattle.std.proofs.Common.{◌≡◌, ℕ, ◌+◌, ◌*◌, Bool, true, false, cond, not, nat_le, if◌then◌else◌, Option, Some, None, MatchOption, unwrap_or, refl, sym, ap, subst, ◌∙◌}
+use Rattle.std.proofs.Common.{◌≡◌, ℕ, ◌+◌, ◌*◌, Bool, true, false, cond, not, nat_le, max, ◌≤◌, [], ◌∷◌, if◌then◌else◌, Option, Some, None, MatchOption, unwrap_or, refl, sym, ap, subst, ◌∙◌, arith}
 use Rattle.std.proofs.lemmas.Bool.{not-false}
 use Rattle.hg_size.specs.Sizes.{size_for}
 use Rattle.hg_place.specs.declared.Actor.{Actor}
 use Rattle.hg_place.specs.declared.Handle.{Handle}
+use Rattle.hg_place.specs.declared.Place.{Place}
+use Rattle.hg_place.specs.declared.Right.TheVariants as right
+use Rattle.hg_place.specs.Places.{number_of}
 use Rattle.hg_machine.specs.declared.Event.{Event}
 use Rattle.hg_machine.specs.declared.Event.TheVariants as event
 use Rattle.hg_machine.specs.declared.Answer.{Answer}
 use Rattle.hg_machine.specs.declared.Answer.TheVariants as answer
+use Rattle.hg_machine.specs.declared.Rule.{Rule}
 use Rattle.hg_machine.specs.declared.Rule.TheVariants as rule
+use Rattle.hg_machine.specs.declared.Row.{Row}
 use Rattle.hg_machine.specs.declared.AllocVerdict.{AllocVerdict}
 use Rattle.hg_machine.specs.declared.AllocVerdict.TheVariants as alloc
 use Rattle.hg_machine.specs.Policy.{Policy, is_tenant, limit_of, admits}
-use Rattle.hg_machine.specs.State.{State}
+use Rattle.hg_machine.specs.State.{State, record_at}
+use Rattle.hg_machine.specs.Holders.{holds}
+use Rattle.hg_machine.specs.Denial.{denial}
 use Rattle.hg_machine.specs.Charge.{charge}
 use Rattle.hg_machine.specs.Room.{has_room}
 use Rattle.hg_machine.specs.Request.{words_for, size_of, verdict_on_size, alloc_verdict}
 use Rattle.hg_machine.specs.Changes.{given_out}
-use Rattle.hg_machine.specs.Served.{IsServed, IsNext}
-use Rattle.hg_machine.specs.Refusal.{refusal, alloc_refusal}
+use Rattle.hg_machine.specs.Served.{IsServed, IsNext, IsRow}
+use Rattle.hg_machine.specs.Refusal.{refusal, alloc_refusal, denial_or}
 use Rattle.hg_machine.specs.Steps.{Step, successor}
 
 matched : (o : Option Answer) (P : Type 0) (Q : Answer → Type 0) → o ≡ None → P → MatchOption o P Q
@@ -60,3 +67,22 @@ alloc_served s w actor arena bytes size handle new verdict room next after =
     (ap (alloc_refusal s w arena) verdict ∙ ap (λ b. if b then None else Some answer.NoRoom) room)
     (handle, refl, subst (λ n. IsNext s w arena n handle) (sym size_is) next)
     (after ∙ ap (given_out s actor.0 handle) (sym size_is))
+
+max_given : (n : ℕ) → 1 ≤ n → max 1 n ≡ n
+max_given n h = omega arith
+
+listed : (o : Option Rule) (b : Bool) → o ≡ None → b ≡ true → denial_or o ((not b, answer.Elsewhere) ∷ []) ≡ None
+listed None true e h = refl
+listed None false e h = absurd (cc)
+listed (Some r) b e h = absurd (cc)
+
+-- a look at a block that the worker holds, and that nothing denies, answered by its row
+pub look_served : (s : State) (w : ℕ) (actor : Actor) (place : Place) (row : Row)
+    → denial s actor.0 right.List place row.handle.generation ≡ None → holds s w place.segment ≡ true → IsRow s place row
+    → Step s w (event.Look actor place) (answer.Listed row) s
+look_served s w actor place row none here is =
+    let most : max 1 (record_at s (number_of place)).generation ≡ row.handle.generation = ap (max 1) (sym is.generation) ∙ max_given row.handle.generation row.handle.given_out in
+    served_step s w (event.Look actor place) (answer.Listed row) s
+    (listed _ _ (ap (denial s actor.0 right.List place) most ∙ none) here)
+    (row, refl, is)
+    refl

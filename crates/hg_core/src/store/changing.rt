@@ -1,14 +1,17 @@
 //! The changes of a store, each by what it changes in the state.
 
-ghost use Rattle.std.specs.Prelude.{◌≡◌, ◌<◌, length, true};
+ghost use Rattle.std.specs.Prelude.{◌≡◌, ◌+◌, ◌<◌, length, true, None, slice_set};
+ghost use Rattle.hg_place.specs.Places.{number_of};
 ghost use Rattle.hg_machine.specs.Policy.{is_tenant};
+ghost use Rattle.hg_machine.specs.Life.{home};
 ghost use Rattle.hg_machine.specs.State.{record_at};
-ghost use Rattle.hg_machine.specs.Served.{IsNext};
-ghost use Rattle.hg_machine.specs.Changes.{given_out, adopted};
-ghost use Rattle.hg_core.specs.Rooms.{HasRoomAt};
+ghost use Rattle.hg_machine.specs.Changes.{given_out, adopted, with_life, part, write, with_hand};
+ghost use Rattle.hg_machine.specs.Changes.{abandoned};
+ghost use Rattle.hg_machine.specs.Sweeps.{is_idle};
+ghost use Rattle.hg_core.specs.Rooms.{IsUsableAt, IsLiveAt, IsWordAt};
 
 use crate::holder::Holder;
-use crate::numbers::handle_at;
+use crate::numbers::{first_word, handle_at};
 use crate::slot::{Slot, Standing};
 use crate::store::Store;
 use crate::words::clear_words;
@@ -26,17 +29,11 @@ impl Store {
     }
 
     /// Gives out the place as a block of the class, with zero words.
-    pub fn give_out(
-        &mut self,
-        worker: u8,
-        arena: u8,
-        actor: Actor,
-        class: Class,
-        place: usize,
-    ) -> Handle
-        requires room { HasRoomAt self.old worker arena class place }
+    pub fn give_out(&mut self, actor: Actor, class: Class, place: usize) -> Handle
+        requires usable { IsUsableAt self.old class place }
         requires tenant { is_tenant self.old.policy actor.0 ≡ true }
-        ensures next { IsNext self.old worker arena class result }
+        ensures place { number_of result.place ≡ place }
+        ensures next { result.generation ≡ (record_at self.old place).generation + 1 }
         ensures after { self.new ≡ given_out self.old actor.0 result class }
     {
         let generation = self.slots[place].generation + 1;
@@ -47,9 +44,61 @@ impl Store {
             owner: actor.0,
             size,
         };
-        let start = place / 512 * 512 + place % 512 * usize::from(size);
-        clear_words(&mut self.words, start, usize::from(size));
+        clear_words(&mut self.words, first_word(place, size), usize::from(size));
         self.classes[place / 512] = Some(class);
         handle_at(place, generation)
+    }
+
+    /// The block at a place is given back.
+    pub fn make_home(&mut self, place: usize)
+        requires { place < length self.old.records }
+        ensures { self.new ≡ with_life self.old place home }
+    {
+        self.slots[place].standing = Standing::Home;
+    }
+
+    /// The live block at a place is parted.
+    pub fn part(&mut self, place: usize)
+        requires { IsLiveAt self.old place }
+        ensures { self.new ≡ with_life self.old place (part (record_at self.old place).life) }
+    {
+        self.slots[place].standing = Standing::Parted;
+    }
+
+    /// Writes a word of a live block.
+    pub fn set_word(&mut self, place: usize, index: u32, value: u64)
+        requires { IsWordAt self.old place index }
+        ensures { self.new
+            ≡ with_life self.old place (write (record_at self.old place).life index value) }
+    {
+        let start = first_word(place, self.block_len(place));
+        self.words[start + index as usize] = value;
+    }
+
+    /// Puts something else into the worker's hand, or nothing.
+    pub fn set_hand(&mut self, worker: u8, hand: Option<u32>)
+        requires { worker < self.old.policy.workers }
+        ensures { self.new ≡ with_hand self.old worker hand }
+    {
+        self.hands[usize::from(worker)] = hand;
+    }
+
+    /// Takes its class from a page whose places are all home.
+    pub fn clear_class(&mut self, page: usize)
+        requires within { page < length self.old.classes }
+        requires idle { is_idle self.old page ≡ true }
+        ensures { self.new ≡ record self.old { classes = slice_set self.old.classes page None } }
+    {
+        self.classes[page] = None;
+    }
+
+    /// Nobody holds the segment any more, and it is the last orphan.
+    pub fn give_up(&mut self, segment: u8)
+        requires within { segment < length self.old.policy.segments }
+        requires room { length self.old.orphans < length self.old.policy.segments }
+        ensures { self.new ≡ abandoned self.old segment }
+    {
+        self.holders[usize::from(segment)] = Holder::Orphan;
+        self.orphans.push_reserved(segment);
     }
 }

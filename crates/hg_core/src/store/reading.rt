@@ -1,16 +1,20 @@
 //! What a store tells of its state.
 
-ghost use Rattle.std.specs.Prelude.{◌≡◌, ◌≤◌, ◌<◌, ◌^◌, length, find};
-ghost use Rattle.std.specs.List.{range_with_len};
+ghost use Rattle.std.specs.Prelude.{◌≡◌, ◌≤◌, ◌<◌, ◌^◌, length, find, slice_index, ◌*◌, is_some};
+ghost use Rattle.std.specs.List.{range_with_len, list_any};
 ghost use Rattle.hg_place.specs.Places.{page_of, segment_of};
 ghost use Rattle.hg_machine.specs.SoundPolicy.{IsSoundPolicy};
-ghost use Rattle.hg_machine.specs.State.{record_at, class_at};
-ghost use Rattle.hg_machine.specs.Holders.{holds, is_in_arena};
+ghost use Rattle.hg_machine.specs.State.{record_at, class_at, hand_of};
+ghost use Rattle.hg_machine.specs.Life.{words_of, is_home};
+ghost use Rattle.hg_machine.specs.Holders.{holds, is_in_arena, is_number};
+ghost use Rattle.hg_machine.specs.Sweeps.{is_sent};
 ghost use Rattle.hg_core.specs.Slots.{Shows};
+ghost use Rattle.hg_core.specs.Rooms.{IsLiveAt, IsWordAt};
 ghost use Rattle.hg_core.specs.Fresh.{is_fresh_in};
 
 use crate::holder::Holder;
-use crate::slot::Slot;
+use crate::numbers::first_word;
+use crate::slot::{Slot, Standing};
 use crate::store::Store;
 use hg_policy::Policy;
 use hg_size::Class;
@@ -116,5 +120,76 @@ impl Store {
             }
         }
         None
+    }
+
+    /// How many words a live block has.
+    pub fn block_len(&self, place: usize) -> u16
+        requires { IsLiveAt self.now place }
+        ensures len { result ≡ length (words_of (record_at self.now place).life) }
+        ensures place { place < 2 ^ 19 }
+    {
+        self.slots[place].size
+    }
+
+    /// A word of a live block.
+    pub fn word_at(&self, place: usize, index: u32) -> u64
+        requires { IsWordAt self.now place index }
+        ensures { result ≡ slice_index (words_of (record_at self.now place).life) index }
+    {
+        let start = first_word(place, self.block_len(place));
+        self.words[start + index as usize]
+    }
+
+    /// What the worker has in hand.
+    pub fn hand_of(&self, worker: u8) -> Option<u32>
+        requires { worker < self.now.policy.workers }
+        ensures { result ≡ hand_of self.now worker }
+    {
+        self.hands[usize::from(worker)]
+    }
+
+    /// Whether some worker has the place in hand.
+    fn is_in_hand(&self, place: usize) -> bool
+        ensures { result ≡ list_any (is_number place) self.now.hands }
+    {
+        self.hands.iter().any(|hand| match hand {
+            Some(held) => *held as usize == place,
+            None => false,
+        })
+    }
+
+    /// Whether the place is parted and in no hand.
+    pub fn is_sent(&self, place: usize) -> bool
+        requires { place < length self.now.records }
+        ensures { result ≡ is_sent self.now place }
+    {
+        let parted = self.slot_at(place).standing == Standing::Parted;
+        let in_hand = self.is_in_hand(place);
+        parted && !in_hand
+    }
+
+    /// Whether the place is home.
+    pub fn is_home(&self, place: usize) -> bool
+        requires { place < length self.now.records }
+        ensures { result ≡ is_home (record_at self.now place).life }
+    {
+        self.slot_at(place).standing == Standing::Home
+    }
+
+    /// How many pages there are.
+    pub fn count_pages(&self) -> usize
+        ensures count { result ≡ length self.now.classes }
+        ensures places { length self.now.records ≡ result * 512 }
+        ensures few { result ≤ 1024 }
+    {
+        self.classes.len()
+    }
+
+    /// Whether the page has a class.
+    pub fn has_class(&self, page: usize) -> bool
+        requires { page < length self.now.classes }
+        ensures { result ≡ is_some (class_at self.now page) }
+    {
+        self.classes[page].is_some()
     }
 }
