@@ -36,11 +36,11 @@ module _ (policy q : Policy) (from mid end : State) (lines : List Line) (i : ℕ
   replay_goes_on written =
       let (answers, run, text) = so_far in
       let more : take (i + 1) lines ≡ take i lines ++ line ∷ [] =
-          take_more lines i line within ∙ ap (λ l. take i lines ++ l ∷ []) (sym here) in
+      take_more lines i line within ∙ ap (λ l. take i lines ++ l ∷ []) (sym here) in
       let events : events_of policy (take (i + 1) lines) ≡ events_of policy (take i lines) ++ (line.worker, event_of policy line.command) ∷ [] =
-          ap (events_of policy) more ∙ events_of-more policy (take i lines) line in
+      ap (events_of policy) more ∙ events_of-more policy (take i lines) line in
       let whole : Run from (events_of policy (take i lines) ++ (line.worker, event_of policy line.command) ∷ []) (answers ++ answer ∷ []) end =
-          run_more (events_of policy (take i lines)) answers from mid end (line.worker, event_of policy line.command) answer run step_is in
+      run_more (events_of policy (take i lines)) answers from mid end (line.worker, event_of policy line.command) answer run step_is in
       let last : Appends b c (answer_line policy answer) = subst (λ p. Appends b c (answer_line p answer)) same written in
       let both : Appends a c (answer_lines policy answers ++ answer_line policy answer) = Appends-trans a b c _ _ text last in (
         answers ++ answer ∷ [],
@@ -54,8 +54,8 @@ module _ (policy q : Policy) (from mid end : State) (lines : List Line) (i : ℕ
     line = line;
     after = drop (i + 1) lines;
     split =
-      sym (take-append-drop i lines)
-      ∙ ap (λ l. take i lines ++ l) (drop_more lines i line within ∙ ap (λ l. l ∷ drop (i + 1) lines) (sym here));
+        sym (take-append-drop i lines)
+        ∙ ap (λ l. take i lines ++ l) (drop_more lines i line within ∙ ap (λ l. l ∷ drop (i + 1) lines) (sym here));
     mid = mid;
     whole = b;
     replayed = so_far;

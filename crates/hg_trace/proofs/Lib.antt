@@ -6,3 +6,5 @@ pub mod Numerals
 pub mod Writes
 pub mod Parts
 pub mod Answering
+pub mod Endings
+pub mod NoRows

@@ -5,13 +5,13 @@ use Rattle.std.specs.List.{list_all}
 use Rattle.std.proofs.lemmas.Bool.Decides.{nat_tests}
 use Rattle.std.proofs.lemmas.Str.{IsUtf8-from_ascii}
 use Rattle.std.proofs.lemmas.Str.Ascii.{IsAscii-nil, IsAscii-cons}
-use Rattle.hg_trace.specs.Names.{is_letter, is_name_byte, is_name}
+use Rattle.hg_policy.specs.NameForm.{is_lower, is_name_byte, is_name}
 
 both : (a b : Bool) → a && b ≡ true → (a ≡ true) × (b ≡ true)
 both true b h = (refl, h)
 both false b h = absurd (cc)
 
-pub letter_is_ascii : (b : ℕ) → is_letter b ≡ true → b < 128
+pub letter_is_ascii : (b : ℕ) → is_lower b ≡ true → b < 128
 letter_is_ascii b h = grind (arith, nat_tests)
 
 pub name_byte_is_ascii : (b : ℕ) → is_name_byte b ≡ true → b < 128
@@ -26,6 +26,6 @@ IsAscii-from_name_bytes (b ∷ bs) h =
 pub IsUtf8-from_name : (bs : List ℕ) → is_name bs ≡ true → IsUtf8 bs
 IsUtf8-from_name [] h = absurd (cc)
 IsUtf8-from_name (b ∷ bs) h =
-    let parts = both (is_letter b) (ltb (length bs) 16 && list_all is_name_byte bs) h in
+    let parts = both (is_lower b) (ltb (length bs) 16 && list_all is_name_byte bs) h in
     let rest = both (ltb (length bs) 16) (list_all is_name_byte bs) parts.1 in
     IsUtf8-from_ascii (b ∷ bs) (IsAscii-cons b bs (letter_is_ascii b parts.0) (IsAscii-from_name_bytes bs rest.1))

@@ -1,17 +1,20 @@
 -- What the words of a line mean, or its first fault.
-use Rattle.std.specs.Prelude.{ℕ, ◌^◌, List, [], ◌∷◌, Option, Some, None, Result, Ok, Err, ok_or, bytes_eq, codes, if◌then◌else◌}
+use Rattle.std.specs.Prelude.{ℕ, ◌^◌, ◌==◌, List, [], ◌∷◌, Option, Some, None, Result, Ok, Err}
+use Rattle.std.specs.Prelude.{ok_or}
+use Rattle.std.specs.Prelude.{bytes_eq, codes, if◌then◌else◌}
 use Rattle.hg_trace.specs.declared.line.Command.{Command}
 use Rattle.hg_trace.specs.declared.line.Command.TheVariants as command
 use Rattle.hg_trace.specs.declared.fault.LineFault.{LineFault}
 use Rattle.hg_trace.specs.declared.fault.LineFault.TheVariants as fault
 use Rattle.hg_trace.specs.Faults.{◌>>=◌}
-use Rattle.hg_trace.specs.Names.{is_name}
+use Rattle.hg_policy.specs.NameForm.{is_name}
 use Rattle.hg_trace.specs.Numbers.{number_below}
 
 -- a `w` and a number from 0 to 15
 abbrev pub worker_at : List ℕ → Result ℕ LineFault
 worker_at [] = Err fault.Command
-worker_at (b ∷ digits) = if bytes_eq (b ∷ []) (codes "w") then ok_or (number_below 16 digits) fault.Command else Err fault.Command
+worker_at (b ∷ digits) =
+    if b == 119 then ok_or (number_below 16 digits) fault.Command else Err fault.Command
 
 -- An operand is the next word. It is read with the words after it
 abbrev pub name_at : List (List ℕ) → Result (List ℕ × List (List ℕ)) LineFault
@@ -20,7 +23,8 @@ name_at (word ∷ words) = if is_name word then Ok (word, words) else Err fault.
 
 abbrev pub number_at : ℕ → List (List ℕ) → Result (ℕ × List (List ℕ)) LineFault
 number_at limit [] = Err fault.Operand
-number_at limit (word ∷ words) = ok_or (number_below limit word) fault.Operand >>= λ n. Ok (n, words)
+number_at limit (word ∷ words) =
+    ok_or (number_below limit word) fault.Operand >>= λ n. Ok (n, words)
 
 -- there is no further operand
 abbrev pub end_at : List (List ℕ) → Command → Result Command LineFault

@@ -14,7 +14,10 @@ or_nobody number = unwrap_or number 255
 
 abbrev pub event_of : Policy → Command → Event
 event_of policy (command.Alloc actor arena bytes) =
-    event.Alloc (record { 0 = or_nobody (tenant_number policy actor) }) (or_nobody (arena_number policy arena)) bytes
+    event.Alloc
+    (record { 0 = or_nobody (tenant_number policy actor) })
+    (or_nobody (arena_number policy arena))
+    bytes
 event_of policy (command.Refill arena) = event.Refill (or_nobody (arena_number policy arena))
 
 abbrev pub events_of : Policy → List Line → List (ℕ × Event)
@@ -22,4 +25,5 @@ events_of policy lines = map (λ line. (line.worker, event_of policy line.comman
 
 -- the number of the first line whose worker isn't below the count
 abbrev pub unknown_worker : ℕ → List Line → Option ℕ
-unknown_worker workers lines = option_map (λ line. line.number) (find (λ line. nat_le workers line.worker) lines)
+unknown_worker workers lines =
+    option_map (λ line. line.number) (find (λ line. nat_le workers line.worker) lines)

@@ -1,5 +1,4 @@
 pub mod Lines
-pub mod Names
 pub mod Numbers
 pub mod Faults
 pub mod Commands
@@ -10,3 +9,5 @@ pub mod Joined
 pub mod Writes
 pub mod Events
 pub mod Replays
+pub mod Statuses
+pub mod RunFaults

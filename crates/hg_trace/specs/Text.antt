@@ -1,5 +1,6 @@
 -- The line of each answer.
-use Rattle.std.specs.Prelude.{ℕ, ◌-◌, ◌++◌, List, [], ◌∷◌, length, replicate, unwrap_or, codes, decimal, flat_map}
+use Rattle.std.specs.Prelude.{ℕ, ◌-◌, ◌++◌, List, [], ◌∷◌, length, replicate, unwrap_or, codes}
+use Rattle.std.specs.Prelude.{decimal, flat_map}
 use Rattle.hg_place.specs.declared.Handle.{Handle}
 use Rattle.hg_machine.specs.Policy.{Policy}
 use Rattle.hg_machine.specs.declared.Row.{Row}
@@ -12,8 +13,8 @@ use Rattle.hg_policy.specs.Names.{tenant_name}
 -- `@`, segment, page, index and generation
 abbrev pub handle_text : Handle → List ℕ
 handle_text h =
-    codes "@" ++ decimal h.place.segment ++ codes "." ++ decimal h.place.page ++ codes "." ++ decimal h.place.index
-    ++ codes "." ++ decimal h.generation
+    codes "@" ++ decimal h.place.segment ++ codes "." ++ decimal h.place.page
+    ++ codes "." ++ decimal h.place.index ++ codes "." ++ decimal h.generation
 
 -- a text at the left, or the right, of so many places
 abbrev pub at_left : ℕ → List ℕ → List ℕ

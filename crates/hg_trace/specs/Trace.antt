@@ -1,5 +1,6 @@
 -- What the bytes of a trace mean, or the fault of the first faulty line.
-use Rattle.std.specs.Prelude.{ℕ, ◌+◌, List, [], ◌∷◌, ◌++◌, Option, Some, None, Result, Ok, Err, if◌then◌else◌}
+use Rattle.std.specs.Prelude.{ℕ, ◌+◌, List, [], ◌∷◌, ◌++◌, Option, Some, None, Result, Ok, Err}
+use Rattle.std.specs.Prelude.{if◌then◌else◌}
 use Rattle.std.specs.List.{list_all}
 use Rattle.hg_trace.specs.declared.line.Command.{Command}
 use Rattle.hg_trace.specs.declared.line.Line.{Line}
@@ -12,13 +13,16 @@ use Rattle.hg_trace.specs.Commands.{words_at}
 
 -- what a line means, if anything
 unfoldable pub line_at : List ℕ → Result (Option (ℕ × Command)) LineFault
-line_at line = if list_all is_allowed (text_of line) then words_at (words_of (text_of line)) else Err fault.Byte
+line_at line =
+    if list_all is_allowed (text_of line) then words_at (words_of (text_of line))
+    else Err fault.Byte
 
 -- a line with its number, if it means something
 abbrev pub numbered : ℕ → Result (Option (ℕ × Command)) LineFault → Result (List Line) TraceFault
 numbered number (Err fault) = Err (fault_in number fault)
 numbered number (Ok None) = Ok []
-numbered number (Ok (Some (worker, command))) = Ok (record { number = number; worker = worker; command = command } ∷ [])
+numbered number (Ok (Some (worker, command))) =
+    Ok (record { number = number; worker = worker; command = command } ∷ [])
 
 -- what the lines from this number on mean, or the fault of the first faulty one
 abbrev pub lines_from : ℕ → List (List ℕ) → Result (List Line) TraceFault

@@ -1,8 +1,8 @@
 //! The events that lines mean.
 
-ghost use Rattle.std.specs.Prelude.{◌≡◌};
-ghost use Rattle.hg_core.specs.Served.{IsServedYet};
+ghost use Rattle.std.specs.Prelude.{◌≡◌, false};
 ghost use Rattle.hg_trace.specs.Events.{event_of, unknown_worker};
+ghost use Rattle.hg_trace.specs.Rows.{is_look};
 
 use crate::line::{Command, Line};
 use hg_machine::Event;
@@ -15,7 +15,7 @@ const NOBODY: u8 = 255;
 /// The event that a command means under a policy.
 pub(crate) fn event_of(policy: &Policy, command: &Command) -> Event
     ensures event { result ≡ event_of policy.now command.now }
-    ensures served { IsServedYet result }
+    ensures no_look { is_look result ≡ false }
 {
     match command {
         Command::Alloc {

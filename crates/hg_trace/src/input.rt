@@ -4,14 +4,18 @@ ghost use Rattle.std.specs.Prelude.{◌≡◌, ◌≤◌, ◌<◌, IfOk, IfSome,
 
 use std::alloc::Global;
 use std::io::Read;
+use thiserror::Error;
 
 /// Why an input was not read.
-#[derive(Clone, Copy, Debug, PartialEq, Eq, Drop)]
+#[derive(Clone, Copy, Debug, PartialEq, Eq, Drop, Error)]
 pub(crate) enum ReadFault {
     /// A read failed, for whatever cause.
+    #[error("read fault")]
     Failed,
     /// There is more than the limit.
+    #[error("read fault")]
     Long,
+    #[error("no memory")]
     Memory,
 }
 
@@ -20,9 +24,11 @@ pub(crate) const LIMIT: usize = 16_777_216;
 
 /// All that the reader gives, where that is not more than the limit.
 pub(crate) fn read_limited<R: Read>(alloc: Global, input: &mut R) -> Result<Vec<u8>, ReadFault>
-    ensures ok { IfOk result (λ read. IfSome (R.remaining input.old) (λ bytes. read.items ≡ bytes)) }
+    ensures ok { IfOk result
+        (λ read. IfSome (R.remaining input.old) (λ bytes. read.items ≡ bytes)) }
     ensures fits { IfOk result (λ read. vec_len read ≤ LIMIT) }
-    ensures long { result ≡ Err ReadFault.Long → IfSome (R.remaining input.old) (λ bytes. LIMIT < length bytes) }
+    ensures long { result ≡ Err ReadFault.Long
+        → IfSome (R.remaining input.old) (λ bytes. LIMIT < length bytes) }
 {
     let mut bytes = Vec::new(alloc);
     let mut buf = [0u8; 4096];

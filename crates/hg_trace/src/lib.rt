@@ -12,6 +12,7 @@ mod numbers;
 mod put;
 mod read;
 mod replaying;
+mod run;
 mod text;
 mod words;
 
@@ -20,6 +21,7 @@ pub use line::{Command, Line, Trace};
 pub use name::Name;
 pub use read::read_trace;
 pub use replaying::replay;
+pub use run::{run_joined, run_texts};
 
 #[cfg(test)]
 mod tests;

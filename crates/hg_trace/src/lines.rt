@@ -1,8 +1,10 @@
 //! Lines of bytes.
 
-ghost use Rattle.std.specs.Prelude.{◌≡◌, ◌≤◌, ◌<◌, ◌∷◌, [], length, take, drop, position, MatchOption};
+ghost use Rattle.std.specs.Prelude.{◌≡◌, ◌≤◌, ◌<◌, ◌∷◌, [], length, take, drop, position};
+ghost use Rattle.std.specs.Prelude.{MatchOption};
 ghost use Rattle.std.specs.List.{list_all, concat, before_first};
-ghost use Rattle.hg_trace.specs.Lines.{lines_of, text_of, ends_line, ends_text, is_blank, is_allowed};
+ghost use Rattle.hg_trace.specs.Lines.{lines_of, text_of, ends_line, ends_text, is_blank};
+ghost use Rattle.hg_trace.specs.Lines.{is_allowed};
 
 use std::marker::Model;
 
@@ -31,7 +33,9 @@ impl<'a> Lines<'a> {
 
     /// The next line, with its end.
     pub(crate) fn next_line(&mut self) -> Option<&'a [u8]>
-        ensures { MatchOption result ((self.old ≡ []) × (self.new ≡ [])) (λ line. self.old ≡ line.now ∷ self.new) }
+        ensures { MatchOption result
+            ((self.old ≡ []) × (self.new ≡ []))
+            (λ line. self.old ≡ line.now ∷ self.new) }
     {
         if self.rest.is_empty() {
             return None;

@@ -2,7 +2,7 @@
 
 ghost use Rattle.std.specs.Prelude.{◌≡◌, IfSome, is_some};
 ghost use Rattle.std.specs.List.{list_all};
-ghost use Rattle.hg_trace.specs.Names.{is_letter, is_name, is_name_byte};
+ghost use Rattle.hg_policy.specs.NameForm.{is_lower, is_name, is_name_byte};
 
 use arrayvec::ArrayString;
 use std::marker::Model;
@@ -44,8 +44,8 @@ impl Name {
     }
 }
 
-fn is_letter(b: u8) -> bool
-    ensures { result ≡ is_letter b }
+fn is_lower(b: u8) -> bool
+    ensures { result ≡ is_lower b }
 {
     b.is_ascii_lowercase()
 }
@@ -61,7 +61,7 @@ fn is_name(word: &[u8]) -> bool
 {
     match word {
         [] => false,
-        [first, rest @ ..] => { is_letter(*first) && rest.len() < 16 && are_name_bytes(rest) }
+        [first, rest @ ..] => { is_lower(*first) && rest.len() < 16 && are_name_bytes(rest) }
     }
 }
 

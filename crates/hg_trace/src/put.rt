@@ -13,7 +13,8 @@ pub(crate) struct WriteStopped;
 /// Writes all the bytes by `write` alone, and tries nothing again.
 pub(crate) fn put<W: Write>(out: &mut W, bytes: &[u8]) -> Result<(), WriteStopped>
     ensures ok { OnOk result (Appends (W.contents out.old) (W.contents out.new) bytes.now) }
-    ensures stopped { OnErr result (AppendsFront (W.contents out.old) (W.contents out.new) bytes.now) }
+    ensures stopped { OnErr result
+        (AppendsFront (W.contents out.old) (W.contents out.new) bytes.now) }
 {
     let mut rest = bytes;
     while !rest.is_empty() {

@@ -86,7 +86,8 @@ fn line_means(line: &[u8]) -> Result<Option<(u8, Command)>, LineFault>
 /// The trace that the bytes mean, or the fault of their first faulty line.
 pub fn read_trace(alloc: Global, bytes: &[u8]) -> Result<Trace, TraceFault>
     ensures ok { IfOk result (λ trace. trace_of bytes.now ≡ Ok trace) }
-    ensures err { IfErr result (λ fault. fault ≢ TraceFault.Memory → trace_of bytes.now ≡ Err fault) }
+    ensures err { IfErr result
+        (λ fault. fault ≢ TraceFault.Memory → trace_of bytes.now ≡ Err fault) }
 {
     let mut read = Vec::new(alloc);
     let mut lines = Lines::new(bytes);

@@ -2,12 +2,8 @@
 
 ghost use Rattle.std.specs.Prelude.{◌≡◌, ◌<◌, OnOk, OnErr, All};
 ghost use Rattle.std.specs.Io.KnownBytes.{Appends};
-ghost use Rattle.hg_machine.specs.declared.Answer.{Answer};
-ghost use Rattle.hg_machine.specs.Steps.{Step};
-ghost use Rattle.hg_trace.specs.Events.{event_of};
-ghost use Rattle.hg_trace.specs.Text.{answer_line};
 ghost use Rattle.hg_trace.specs.Writes.{AppendsFront};
-ghost use Rattle.hg_trace.specs.Replays.{Replays, StopsWithin, EndsReplay};
+ghost use Rattle.hg_trace.specs.Replays.{Answers, Replays, StopsWithin, EndsReplay};
 
 use crate::events::{event_of, unknown_worker};
 use crate::fault::ReplayFault;
@@ -22,8 +18,12 @@ use std::io::Write;
 /// Serves a line's event, and then writes the line of its answer.
 fn replay_line<W: Write>(core: &mut Core, line: &Line, out: &mut W) -> Result<(), WriteStopped>
     requires { line.now.worker < core.old.state.policy.workers }
-    ensures ok { OnOk result ((answer : Answer) × Step core.old.state line.now.worker (event_of core.old.state.policy line.now.command) answer core.new.state × Appends (W.contents out.old) (W.contents out.new) (answer_line core.old.state.policy answer)) }
-    ensures stopped { OnErr result ((answer : Answer) × Step core.old.state line.now.worker (event_of core.old.state.policy line.now.command) answer core.new.state × AppendsFront (W.contents out.old) (W.contents out.new) (answer_line core.old.state.policy answer)) }
+    ensures ok { OnOk result
+        (Answers core.old.state line.now core.new.state
+        (Appends (W.contents out.old) (W.contents out.new))) }
+    ensures stopped { OnErr result
+        (Answers core.old.state line.now core.new.state
+        (AppendsFront (W.contents out.old) (W.contents out.new))) }
 {
     let event = event_of(core.policy(), &line.command);
     let answer = core.step(line.worker, event);
@@ -33,8 +33,12 @@ fn replay_line<W: Write>(core: &mut Core, line: &Line, out: &mut W) -> Result<()
 /// Replays the lines. It asks for no memory, and ends early only where a write stops.
 fn replay_lines<W: Write>(core: &mut Core, lines: &[Line], out: &mut W) -> Result<(), WriteStopped>
     requires { All (λ line. line.worker < core.old.state.policy.workers) lines.now }
-    ensures ok { OnOk result (Replays core.old.state.policy core.old.state lines.now core.new.state (W.contents out.old) (W.contents out.new)) }
-    ensures stopped { OnErr result (StopsWithin core.old.state.policy core.old.state lines.now (W.contents out.old) (W.contents out.new)) }
+    ensures ok { OnOk result
+        (Replays core.old.state.policy core.old.state lines.now core.new.state
+        (W.contents out.old) (W.contents out.new)) }
+    ensures stopped { OnErr result
+        (StopsWithin core.old.state.policy core.old.state lines.now
+        (W.contents out.old) (W.contents out.new)) }
 {
     for line in lines {
         replay_line(core, line, out)?;

@@ -1,1 +1,5 @@
+mod fakes;
 mod reading;
+mod refusals;
+mod running;
+mod texts;

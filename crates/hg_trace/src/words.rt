@@ -1,6 +1,7 @@
 //! Words of a line, and what they are as operands.
 
-ghost use Rattle.std.specs.Prelude.{◌≡◌, ◌≤◌, ◌^◌, ◌∷◌, [], not, position, MatchOption, MatchResult, Ok, Err};
+ghost use Rattle.std.specs.Prelude.{◌≡◌, ◌^◌, ◌∷◌, [], not, position, Ok, Err};
+ghost use Rattle.std.specs.Prelude.{MatchOption, MatchResult};
 ghost use Rattle.hg_trace.specs.Lines.{is_blank, words_of};
 ghost use Rattle.hg_trace.specs.Commands.{name_at, number_at, end_at};
 
@@ -34,7 +35,9 @@ impl<'a> Words<'a> {
     }
 
     pub(crate) fn next_word(&mut self) -> Option<&'a [u8]>
-        ensures { MatchOption result ((self.old ≡ []) × (self.new ≡ [])) (λ word. self.old ≡ word.now ∷ self.new) }
+        ensures { MatchOption result
+            ((self.old ≡ []) × (self.new ≡ []))
+            (λ word. self.old ≡ word.now ∷ self.new) }
     {
         match word_start(self.rest) {
             Some(start) => {
@@ -52,7 +55,9 @@ impl<'a> Words<'a> {
 
     /// The next word, as a name.
     pub(crate) fn next_name(&mut self) -> Result<Name, LineFault>
-        ensures { MatchResult result (λ name. name_at self.old ≡ Ok (name, self.new)) (λ fault. name_at self.old ≡ Err fault) }
+        ensures { MatchResult result
+            (λ name. name_at self.old ≡ Ok (name, self.new))
+            (λ fault. name_at self.old ≡ Err fault) }
     {
         let word = self.next_word().ok_or(LineFault::Operand)?;
         Name::of(word).ok_or(LineFault::Operand)
@@ -60,7 +65,9 @@ impl<'a> Words<'a> {
 
     /// The next word, as a number of at most 64 bits.
     pub(crate) fn next_number(&mut self) -> Result<u64, LineFault>
-        ensures { MatchResult result (λ n. number_at (2 ^ 64) self.old ≡ Ok (n, self.new)) (λ fault. number_at (2 ^ 64) self.old ≡ Err fault) }
+        ensures { MatchResult result
+            (λ n. number_at (2 ^ 64) self.old ≡ Ok (n, self.new))
+            (λ fault. number_at (2 ^ 64) self.old ≡ Err fault) }
     {
         let word = self.next_word().ok_or(LineFault::Operand)?;
         number_of(word).ok_or(LineFault::Operand)

@@ -1,6 +1,6 @@
 //! What traces are read as.
 
-use crate::{Command, Line, TraceFault, read_trace};
+use crate::{Command, Line, read_trace};
 use std::alloc::{AllocError, Global};
 use std::process::Abort;
 use std::test::Fail;
@@ -184,16 +184,4 @@ fn first_fault_is_told(rt: HostRuntime) -> Result<(), Fail> {
         b"\n# x\nw0 refill main\nw0",
         "trace fault 2 at line 4: command",
     )
-}
-
-/// Either the trace or want of memory: for a run in which requests for memory are refused.
-#[test]
-fn refused_memory_is_told(rt: HostRuntime) -> Result<(), Fail> {
-    let text = b"w0 alloc alice main 24\nw0 refill main\nw0 alloc alice main 24\n";
-    match read_trace(rt.alloc(), text) {
-        Ok(trace) => assert_eq!(&rt; trace.lines().len(), 3),
-        Err(TraceFault::Memory) => {}
-        Err(_) => assert!(&rt; false, "another fault"),
-    }
-    Ok(())
 }

@@ -12,9 +12,9 @@ returns-in_err-replay_line-clause-stopped g c =
     let contents = g.W.Write.contents in
     rw p.1
     (replay_stops c.args.core.now.state.policy c.loop-line.core.state.policy c.args.core.now.state c.loop-line.core.state
-      c.replay_line.new.core.state c.args.lines.now c.loop-line.line-index c.line-item.result answer (contents c.args.out.now)
-      (contents c.loop-line.out) (contents c.replay_line.new.out) (omega arith) c.line-item.is c.loop-line.invariant.policy
-      c.loop-line.invariant.replayed step stopped)
+    c.replay_line.new.core.state c.args.lines.now c.loop-line.line-index c.line-item.result answer (contents c.args.out.now)
+    (contents c.loop-line.out) (contents c.replay_line.new.out) (omega arith) c.line-item.is c.loop-line.invariant.policy
+    c.loop-line.invariant.replayed step stopped)
 
 pub loop-line-preserved : goal.loop-line-preserved
 loop-line-preserved g c =
@@ -22,11 +22,11 @@ loop-line-preserved g c =
     let contents = g.W.Write.contents in
     let line = c.line-item.result in
     let kept = steps_keep_policy c.loop-line.core.state line.worker (event_of c.loop-line.core.state.policy line.command) answer
-        c.replay_line.new.core.state step in
+    c.replay_line.new.core.state step in
     record {
       policy = kept ∙ c.loop-line.invariant.policy;
       replayed =
-        replay_goes_on c.args.core.now.state.policy c.loop-line.core.state.policy c.args.core.now.state c.loop-line.core.state
+          replay_goes_on c.args.core.now.state.policy c.loop-line.core.state.policy c.args.core.now.state c.loop-line.core.state
           c.replay_line.new.core.state c.args.lines.now c.loop-line.line-index line answer (contents c.args.out.now)
           (contents c.loop-line.out) (contents c.replay_line.new.out) (omega arith) c.line-item.is c.loop-line.invariant.policy
           c.loop-line.invariant.replayed step written;
