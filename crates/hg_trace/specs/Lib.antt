@@ -1,0 +1,13 @@
+pub mod Lines
+pub mod Numbers
+pub mod Faults
+pub mod Commands
+pub mod Trace
+pub mod Text
+pub mod Rows
+pub mod Joined
+pub mod Writes
+pub mod Events
+pub mod Replays
+pub mod Statuses
+pub mod RunFaults

@@ -1,0 +1,37 @@
+-- What the bytes of a trace mean, or the fault of the first faulty line.
+use Rattle.std.specs.Prelude.{ℕ, ◌+◌, List, [], ◌∷◌, ◌++◌, Option, Some, None, Result, Ok, Err}
+use Rattle.std.specs.Prelude.{if◌then◌else◌}
+use Rattle.std.specs.List.{list_all}
+use Rattle.hg_trace.specs.declared.line.Command.{Command}
+use Rattle.hg_trace.specs.declared.line.Line.{Line}
+use Rattle.hg_trace.specs.declared.fault.LineFault.{LineFault}
+use Rattle.hg_trace.specs.declared.fault.LineFault.TheVariants as fault
+use Rattle.hg_trace.specs.declared.fault.TraceFault.{TraceFault}
+use Rattle.hg_trace.specs.Faults.{◌>>=◌, fault_in}
+use Rattle.hg_trace.specs.Lines.{lines_of, text_of, words_of, is_allowed}
+use Rattle.hg_trace.specs.Commands.{words_at}
+
+-- what a line means, if anything
+unfoldable pub line_at : List ℕ → Result (Option (ℕ × Command)) LineFault
+line_at line =
+    if list_all is_allowed (text_of line) then words_at (words_of (text_of line))
+    else Err fault.Byte
+
+-- a line with its number, if it means something
+abbrev pub numbered : ℕ → Result (Option (ℕ × Command)) LineFault → Result (List Line) TraceFault
+numbered number (Err fault) = Err (fault_in number fault)
+numbered number (Ok None) = Ok []
+numbered number (Ok (Some (worker, command))) =
+    Ok (record { number = number; worker = worker; command = command } ∷ [])
+
+-- what the lines from this number on mean, or the fault of the first faulty one
+abbrev pub lines_from : ℕ → List (List ℕ) → Result (List Line) TraceFault
+lines_from number [] = Ok []
+lines_from number (line ∷ lines) = do
+  here ← numbered number (line_at line)
+  rest ← lines_from (number + 1) lines
+  Ok (here ++ rest)
+
+-- lines are numbered from 1
+abbrev pub trace_of : List ℕ → Result (List Line) TraceFault
+trace_of bytes = lines_from 1 (lines_of bytes)

@@ -1,0 +1,56 @@
+//! What a trace says, line by line.
+
+ghost use Rattle.std.specs.Prelude.{◌≡◌};
+
+use crate::name::Name;
+use std::marker::Model;
+
+/// A command of a worker, with its operands.
+#[derive(Drop)]
+pub enum Command {
+    Alloc {
+        actor: Name,
+        arena: Name,
+        bytes: u64,
+    },
+    Refill {
+        arena: Name,
+    },
+}
+
+/// A line that has a command. Lines are numbered from 1.
+#[derive(Drop)]
+pub struct Line {
+    pub number: u64,
+    pub worker: u8,
+    pub command: Command,
+}
+
+/// The lines that have a command, in order.
+#[derive(Drop)]
+pub struct Trace {
+    lines: Vec<Line>,
+}
+
+impl Model for Trace {
+    ghost use Rattle.std.specs.Prelude.{List};
+    ghost use Rattle.hg_trace.specs.declared.line.Line.{Line};
+
+    ghost Value = { List Line };
+
+    ghost view = { λ trace. trace.lines.items };
+}
+
+impl Trace {
+    pub(crate) fn new(lines: Vec<Line>) -> Trace
+        ensures { result ≡ lines.items }
+    {
+        Trace { lines }
+    }
+
+    pub fn lines(&self) -> &[Line]
+        ensures { result.now ≡ self.now }
+    {
+        &self.lines
+    }
+}

@@ -1,0 +1,72 @@
+//! Names of tenants and arenas.
+
+ghost use Rattle.std.specs.Prelude.{◌≡◌, IfSome, is_some};
+ghost use Rattle.std.specs.List.{list_all};
+ghost use Rattle.hg_policy.specs.NameForm.{is_lower, is_name, is_name_byte};
+
+use arrayvec::ArrayString;
+use std::marker::Model;
+
+/// A name of 1 to 16 bytes. It takes no memory of its own.
+#[derive(Drop)]
+pub struct Name {
+    text: ArrayString<16>,
+}
+
+impl Model for Name {
+    ghost use Rattle.std.specs.Prelude.{ℕ, List};
+
+    ghost Value = { List ℕ };
+
+    ghost view = { λ name. name.text.bytes };
+}
+
+impl Name {
+    /// The name that a word is.
+    pub(crate) fn of(word: &[u8]) -> Option<Name>
+        ensures some { IfSome result (λ name. name ≡ word.now) }
+        ensures cases { is_some result ≡ is_name word.now }
+    {
+        if !is_name(word) {
+            return None;
+        }
+        let Ok(text) = str::from_utf8(word) else {
+            return None;
+        };
+        let text = ArrayString::from(text).ok()?;
+        Some(Name { text })
+    }
+
+    pub fn as_str(&self) -> &str
+        ensures { result.now ≡ self.now }
+    {
+        self.text.as_str()
+    }
+}
+
+fn is_lower(b: u8) -> bool
+    ensures { result ≡ is_lower b }
+{
+    b.is_ascii_lowercase()
+}
+
+fn is_name_byte(b: u8) -> bool
+    ensures { result ≡ is_name_byte b }
+{
+    matches!(b, b'a'..=b'z' | b'0'..=b'9' | b'_' | b'-')
+}
+
+fn is_name(word: &[u8]) -> bool
+    ensures { result ≡ is_name word.now }
+{
+    match word {
+        [] => false,
+        [first, rest @ ..] => { is_lower(*first) && rest.len() < 16 && are_name_bytes(rest) }
+    }
+}
+
+fn are_name_bytes(bytes: &[u8]) -> bool
+    ensures { result ≡ list_all is_name_byte bytes.now }
+{
+    bytes.iter().all(|b| is_name_byte(*b))
+}

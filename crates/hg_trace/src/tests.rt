@@ -1,0 +1,5 @@
+mod fakes;
+mod reading;
+mod refusals;
+mod running;
+mod texts;

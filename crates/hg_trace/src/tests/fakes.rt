@@ -1,0 +1,83 @@
+//! Readers and writers that fail.
+
+use std::io;
+use std::io::{Read, Write};
+
+/// A writer that takes one byte a call, and fails after so many.
+#[derive(Drop)]
+pub struct Stingy {
+    pub held: Vec<u8>,
+    pub left: usize,
+}
+
+impl Write for Stingy {
+    fn write(&mut self, buf: &[u8]) -> io::Result<usize> {
+        let Some(first) = buf.first() else {
+            return Ok(0);
+        };
+        if self.left == 0 {
+            return Err(io::Error::from(io::ErrorKind::Interrupted));
+        }
+        self.held.push(*first)?;
+        self.left -= 1;
+        Ok(1)
+    }
+
+    fn flush(&mut self) -> io::Result<()> {
+        Ok(())
+    }
+}
+
+/// A writer that takes nothing.
+#[derive(Drop)]
+pub struct Full;
+
+impl Write for Full {
+    fn write(&mut self, _buf: &[u8]) -> io::Result<usize> {
+        Ok(0)
+    }
+
+    fn flush(&mut self) -> io::Result<()> {
+        Ok(())
+    }
+}
+
+/// A reader of one byte over and over, that fails at its call with this number, from 0.
+#[derive(Drop)]
+pub struct Flaky {
+    pub calls: usize,
+    pub byte: u8,
+}
+
+impl Read for Flaky {
+    fn read(&mut self, buf: &mut [u8]) -> io::Result<usize> {
+        if self.calls == 0 {
+            return Err(io::Error::from(io::ErrorKind::Interrupted));
+        }
+        self.calls -= 1;
+        match buf.first_mut() {
+            Some(first) => {
+                *first = self.byte;
+                Ok(1)
+            }
+            None => Ok(0),
+        }
+    }
+}
+
+/// A reader of so many blanks, as many a call as there is room for.
+#[derive(Drop)]
+pub struct Blanks {
+    pub left: usize,
+}
+
+impl Read for Blanks {
+    fn read(&mut self, buf: &mut [u8]) -> io::Result<usize> {
+        let n = buf.len().min(self.left);
+        for byte in &mut buf[..n] {
+            *byte = b' ';
+        }
+        self.left -= n;
+        Ok(n)
+    }
+}

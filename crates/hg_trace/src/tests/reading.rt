@@ -1,0 +1,187 @@
+//! What traces are read as.
+
+use crate::{Command, Line, read_trace};
+use std::alloc::{AllocError, Global};
+use std::process::Abort;
+use std::test::Fail;
+
+fn shown(alloc: Global, line: &Line) -> Result<String, AllocError> {
+    let number = line.number;
+    let worker = line.worker;
+    match &line.command {
+        Command::Alloc {
+            actor,
+            arena,
+            bytes,
+        } => {
+            let actor = actor.as_str();
+            let arena = arena.as_str();
+            format!(in alloc; "{number}: w{worker} alloc {actor} {arena} {bytes}; ")
+        }
+        Command::Refill { arena } => {
+            let arena = arena.as_str();
+            format!(in alloc; "{number}: w{worker} refill {arena}; ")
+        }
+    }
+}
+
+/// The text is read, and its lines are these.
+fn reads(rt: &impl Abort, alloc: Global, text: &[u8], want: &str) -> Result<(), Fail> {
+    let mut told = String::new(alloc);
+    match read_trace(alloc, text) {
+        Ok(trace) => {
+            for line in trace.lines() {
+                told.push_str(shown(alloc, line)?.as_str())?;
+            }
+        }
+        Err(fault) => assert!(rt; false, "{fault} in place of {want}"),
+    }
+    assert_eq!(rt; told.as_str(), want);
+    Ok(())
+}
+
+/// The text is refused, with this line.
+fn refuses(rt: &impl Abort, alloc: Global, text: &[u8], want: &str) -> Result<(), Fail> {
+    match read_trace(alloc, text) {
+        Ok(_) => assert!(rt; false, "read in place of {want}"),
+        Err(fault) => assert_eq!(rt; format!(in alloc; "{fault}")?.as_str(), want),
+    }
+    Ok(())
+}
+
+#[test]
+fn traces_are_read(rt: HostRuntime) -> Result<(), Fail> {
+    let a = rt.alloc();
+    reads(&rt, a, b"", "")?;
+    reads(&rt, a, b"\n\n \t\r\n# w0\n", "")?;
+    reads(&rt, a, b"w0 refill main", "1: w0 refill main; ")?;
+    reads(&rt, a, b"w0 refill main\n", "1: w0 refill main; ")?;
+    reads(
+        &rt,
+        a,
+        b"w0 alloc alice main 24\nw0 refill main\n",
+        "1: w0 alloc alice main 24; 2: w0 refill main; ",
+    )?;
+    reads(
+        &rt,
+        a,
+        b"#\n\tw15  refill\r main#x\r\n\nw1 refill a-_9 # \x00\xff",
+        "2: w15 refill main; 4: w1 refill a-_9; ",
+    )?;
+    reads(
+        &rt,
+        a,
+        b"w0 alloc alloc w0 0\nw0 refill abcdefghijklmnop",
+        "1: w0 alloc alloc w0 0; 2: w0 refill abcdefghijklmnop; ",
+    )?;
+    reads(
+        &rt,
+        a,
+        b"w7 alloc a b 18446744073709551615",
+        "1: w7 alloc a b 18446744073709551615; ",
+    )
+}
+
+#[test]
+fn bytes_are_refused(rt: HostRuntime) -> Result<(), Fail> {
+    let a = rt.alloc();
+    let byte = "trace fault 1 at line 1: byte";
+    refuses(&rt, a, b"\x00", byte)?;
+    refuses(&rt, a, b"w0 refill main\x7f", byte)?;
+    refuses(&rt, a, b"w0 refill main \x1f# main", byte)?;
+    refuses(&rt, a, b"w0 refill m\xc3\xa9", byte)?;
+    refuses(&rt, a, b"\x0b", byte)
+}
+
+#[test]
+fn commands_are_refused(rt: HostRuntime) -> Result<(), Fail> {
+    let a = rt.alloc();
+    let command = "trace fault 2 at line 1: command";
+    refuses(&rt, a, b"w0", command)?;
+    refuses(&rt, a, b"w refill main", command)?;
+    refuses(&rt, a, b"w00 refill main", command)?;
+    refuses(&rt, a, b"w01 refill main", command)?;
+    refuses(&rt, a, b"w16 refill main", command)?;
+    refuses(&rt, a, b"w99999999999999999999 refill main", command)?;
+    refuses(&rt, a, b"W0 refill main", command)?;
+    refuses(&rt, a, b"x0 refill main", command)?;
+    refuses(&rt, a, b"refill main", command)?;
+    refuses(&rt, a, b"w0 refills main", command)?;
+    refuses(&rt, a, b"w0 Refill main", command)?;
+    refuses(&rt, a, b"w0 free alice @0.0.0.1", command)?;
+    refuses(&rt, a, b"---", command)
+}
+
+#[test]
+fn operands_are_refused(rt: HostRuntime) -> Result<(), Fail> {
+    let a = rt.alloc();
+    let operand = "trace fault 3 at line 1: operand";
+    refuses(&rt, a, b"w0 refill", operand)?;
+    refuses(&rt, a, b"w0 refill main main", operand)?;
+    refuses(&rt, a, b"w0 refill Main", operand)?;
+    refuses(&rt, a, b"w0 refill 9main", operand)?;
+    refuses(&rt, a, b"w0 refill abcdefghijklmnopq", operand)?;
+    refuses(&rt, a, b"w0 alloc", operand)?;
+    refuses(&rt, a, b"w0 alloc alice main", operand)?;
+    refuses(&rt, a, b"w0 alloc alice main x", operand)?;
+    refuses(&rt, a, b"w0 alloc alice main 01", operand)?;
+    refuses(&rt, a, b"w0 alloc alice main 00", operand)?;
+    refuses(&rt, a, b"w0 alloc alice main +1", operand)?;
+    refuses(&rt, a, b"w0 alloc alice main -1", operand)?;
+    refuses(&rt, a, b"w0 alloc alice main 18446744073709551616", operand)?;
+    refuses(&rt, a, b"w0 alloc alice main 24 as x", operand)?;
+    refuses(&rt, a, b"w0 alloc alice main 24 24", operand)
+}
+
+#[test]
+fn first_fault_is_told(rt: HostRuntime) -> Result<(), Fail> {
+    let a = rt.alloc();
+    // Two faults in one line.
+    refuses(
+        &rt,
+        a,
+        b"w0 frees main \x01",
+        "trace fault 1 at line 1: byte",
+    )?;
+    refuses(
+        &rt,
+        a,
+        b"w0 refill Main \x01",
+        "trace fault 1 at line 1: byte",
+    )?;
+    refuses(
+        &rt,
+        a,
+        b"w16 refill Main",
+        "trace fault 2 at line 1: command",
+    )?;
+    // Two faults in two lines.
+    refuses(&rt, a, b"w16\n\x01", "trace fault 2 at line 1: command")?;
+    refuses(&rt, a, b"\x01\nw16", "trace fault 1 at line 1: byte")?;
+    refuses(
+        &rt,
+        a,
+        b"w0 refill\n\x01",
+        "trace fault 3 at line 1: operand",
+    )?;
+    refuses(&rt, a, b"\x01\nw0 refill", "trace fault 1 at line 1: byte")?;
+    refuses(
+        &rt,
+        a,
+        b"w0 refill\nw16",
+        "trace fault 3 at line 1: operand",
+    )?;
+    refuses(
+        &rt,
+        a,
+        b"w16\nw0 refill",
+        "trace fault 2 at line 1: command",
+    )?;
+    // Lines that mean nothing count.
+    refuses(
+        &rt,
+        a,
+        b"\n# x\nw0 refill main\nw0",
+        "trace fault 2 at line 4: command",
+    )
+}

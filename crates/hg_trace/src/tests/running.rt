@@ -1,0 +1,210 @@
+//! Runs from bytes to bytes.
+
+use crate::tests::fakes::{Blanks, Flaky, Full, Stingy};
+use crate::{run_joined, run_texts};
+use std::alloc::Global;
+use std::process::Abort;
+use std::test::Fail;
+
+pub const POLICY: &str = "version = 1
+workers = 1
+tenant = [ {name = \"alice\", limit = 8192} ]
+arena = [ {name = \"main\", segments = 1} ]
+";
+
+pub const TRACE: &str = "w0 alloc alice main 24\nw0 refill main\nw0 alloc alice main 24\n";
+
+pub const ANSWERS: &str = "noroom\nsegment 0\nok @0.0.0.1\n";
+
+/// The run ends with this status, output and line on standard error.
+fn ends(
+    rt: &impl Abort,
+    alloc: Global,
+    policy: &str,
+    trace: &[u8],
+    want: (u8, &str, &str),
+) -> Result<(), Fail> {
+    let mut out = Vec::new(alloc);
+    let mut err = Vec::new(alloc);
+    let status = run_texts(alloc, policy.as_bytes(), trace, &mut out, &mut err);
+    assert_eq!(rt; status, want.0);
+    assert_eq!(rt; out.as_slice(), want.1.as_bytes());
+    assert_eq!(rt; err.as_slice(), want.2.as_bytes());
+    Ok(())
+}
+
+#[test]
+fn rows_first_path(rt: HostRuntime) -> Result<(), Fail> {
+    let a = rt.alloc();
+    ends(&rt, a, POLICY, b"", (0, "", ""))?;
+    ends(&rt, a, POLICY, TRACE.as_bytes(), (0, ANSWERS, ""))?;
+    let coloured = format!(in a; "colour = 1\n{POLICY}")?;
+    ends(
+        &rt,
+        a,
+        coloured.as_str(),
+        TRACE.as_bytes(),
+        (1, "", "policy fault 4: unknown colour\n"),
+    )
+}
+
+#[test]
+fn answers_are_judged(rt: HostRuntime) -> Result<(), Fail> {
+    let a = rt.alloc();
+    ends(
+        &rt,
+        a,
+        POLICY,
+        b"w0 refill nowhere\nw0 refill main\nw0 refill main\nw0 alloc eve main 8\n",
+        (0, "nosegment\nsegment 0\nnosegment\ndenied stranger\n", ""),
+    )?;
+    ends(
+        &rt,
+        a,
+        POLICY,
+        b"w0 refill main\nw0 alloc alice main 4097\nw0 alloc alice nowhere 8\n",
+        (0, "segment 0\nlarge\ndenied arena\n", ""),
+    )
+}
+
+#[test]
+fn faults_have_statuses(rt: HostRuntime) -> Result<(), Fail> {
+    let a = rt.alloc();
+    let main = b"w0 refill main\n".as_slice();
+    ends(
+        &rt,
+        a,
+        "version",
+        main,
+        (1, "", "policy fault 1: not toml\n"),
+    )?;
+    ends(
+        &rt,
+        a,
+        "",
+        b"\x01",
+        (1, "", "policy fault 2: missing version\n"),
+    )?;
+    ends(
+        &rt,
+        a,
+        POLICY,
+        b"w0 refill main\n\x01\n",
+        (2, "", "trace fault 1 at line 2: byte\n"),
+    )?;
+    ends(
+        &rt,
+        a,
+        POLICY,
+        b"w0 refill main\nw0\n",
+        (2, "", "trace fault 2 at line 2: command\n"),
+    )?;
+    ends(
+        &rt,
+        a,
+        POLICY,
+        b"w0 refill main\nw0 refill\n",
+        (2, "", "trace fault 3 at line 2: operand\n"),
+    )?;
+    ends(
+        &rt,
+        a,
+        POLICY,
+        b"w0 refill main\n\nw1 refill main\nw2 refill main",
+        (2, "", "trace fault 6 at line 3: worker\n"),
+    )?;
+    ends(
+        &rt,
+        a,
+        POLICY,
+        b"w1 refill main\nw0 refill\n",
+        (2, "", "trace fault 3 at line 2: operand\n"),
+    )
+}
+
+#[test]
+fn failed_writes_are_told(rt: HostRuntime) -> Result<(), Fail> {
+    let a = rt.alloc();
+    for left in 0..ANSWERS.len() {
+        let mut out = Stingy {
+            held: Vec::new(a),
+            left,
+        };
+        let mut err = Vec::new(a);
+        let status = run_texts(a, POLICY.as_bytes(), TRACE.as_bytes(), &mut out, &mut err);
+        assert_eq!(&rt; status, 3, "at {left}");
+        assert_eq!(&rt; out.held.len(), left);
+        assert!(&rt;
+            ANSWERS.as_bytes().starts_with(out.held.as_slice()),
+            "at {left}"
+        );
+        assert_eq!(&rt; err.as_slice(), b"write fault\n".as_slice());
+    }
+    let mut out = Stingy {
+        held: Vec::new(a),
+        left: ANSWERS.len(),
+    };
+    // Standard error that takes nothing changes no status.
+    let status = run_texts(a, POLICY.as_bytes(), TRACE.as_bytes(), &mut out, &mut Full);
+    assert_eq!(&rt; status, 0);
+    assert_eq!(&rt; out.held.as_slice(), ANSWERS.as_bytes());
+    let status = run_texts(a, POLICY.as_bytes(), TRACE.as_bytes(), &mut Full, &mut Full);
+    assert_eq!(&rt; status, 3);
+    Ok(())
+}
+
+#[test]
+fn joined_input_is_run(rt: HostRuntime) -> Result<(), Fail> {
+    let a = rt.alloc();
+    let joined = format!(in a; "{POLICY}---\n{TRACE}---\n")?;
+    let mut out = Vec::new(a);
+    let mut err = Vec::new(a);
+    // The second mark is a line of the trace.
+    let status = run_joined(a, &mut joined.as_bytes(), &mut out, &mut err);
+    assert_eq!(&rt; status, 2);
+    assert_eq!(&rt; out.len(), 0);
+    assert_eq!(&rt;
+        err.as_slice(),
+        b"trace fault 2 at line 4: command\n".as_slice()
+    );
+    let joined = format!(in a; "{POLICY}---\n{TRACE}")?;
+    let mut err = Vec::new(a);
+    let status = run_joined(a, &mut joined.as_bytes(), &mut out, &mut err);
+    assert_eq!(&rt; status, 0);
+    assert_eq!(&rt; out.as_slice(), ANSWERS.as_bytes());
+    assert_eq!(&rt; err.len(), 0);
+    Ok(())
+}
+
+#[test]
+fn failed_reads_are_told(rt: HostRuntime) -> Result<(), Fail> {
+    let a = rt.alloc();
+    for calls in 0..2usize {
+        let mut out = Vec::new(a);
+        let mut err = Vec::new(a);
+        let status = run_joined(a, &mut Flaky { calls, byte: b' ' }, &mut out, &mut err);
+        assert_eq!(&rt; status, 3);
+        assert_eq!(&rt; out.len(), 0);
+        assert_eq!(&rt; err.as_slice(), b"read fault\n".as_slice());
+    }
+    Ok(())
+}
+
+#[test]
+fn long_input_is_a_read_fault(rt: HostRuntime) -> Result<(), Fail> {
+    let a = rt.alloc();
+    let mut out = Vec::new(a);
+    let mut err = Vec::new(a);
+    let status = run_joined(a, &mut Blanks { left: 16_777_216 }, &mut out, &mut err);
+    assert_eq!(&rt; status, 1);
+    assert_eq!(&rt;
+        err.as_slice(),
+        b"policy fault 2: missing version\n".as_slice()
+    );
+    let mut err = Vec::new(a);
+    let status = run_joined(a, &mut Blanks { left: 16_777_217 }, &mut out, &mut err);
+    assert_eq!(&rt; status, 3);
+    assert_eq!(&rt; err.as_slice(), b"read fault\n".as_slice());
+    assert_eq!(&rt; out.len(), 0);
+    Ok(())
+}

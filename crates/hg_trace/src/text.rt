@@ -1,0 +1,123 @@
+//! The line of an answer.
+
+ghost use Rattle.std.specs.Prelude.{◌≡◌, ◌+◌, ◌≤◌, ◌++◌, length, decimal, codes, false};
+ghost use Rattle.arrayvec.specs.ArrayString.{array_string_len};
+ghost use Rattle.hg_machine.specs.Policy.{Policy};
+ghost use Rattle.hg_trace.specs.Text.{handle_text, rule_text, answer_line};
+ghost use Rattle.hg_trace.specs.Rows.{is_row};
+
+use arrayvec::ArrayString;
+use hg_machine::{Answer, Rule};
+use hg_place::Handle;
+
+/// A line of output, with its end.
+pub(crate) type Text = ArrayString<64>;
+
+/// Appends a number of at most 32 bits, which takes 10 bytes at most.
+fn push_short(text: &mut Text, n: u32)
+    requires { array_string_len text.old + 10 ≤ 64 }
+    ensures bytes { text.new.bytes ≡ text.old.bytes ++ decimal n }
+    ensures len { array_string_len text.new ≤ array_string_len text.old + 10 }
+{
+    let mut digits = itoa::Buffer::new();
+    text.push_str(digits.format(n));
+}
+
+fn push_handle(text: &mut Text, handle: Handle)
+    requires { array_string_len text.old ≤ 8 }
+    ensures bytes { text.new.bytes ≡ text.old.bytes ++ handle_text handle }
+    ensures len { array_string_len text.new ≤ array_string_len text.old + 44 }
+{
+    text.push_str("@");
+    push_short(text, u32::from(handle.place.segment));
+    text.push_str(".");
+    push_short(text, u32::from(handle.place.page));
+    text.push_str(".");
+    push_short(text, u32::from(handle.place.index));
+    text.push_str(".");
+    push_short(text, handle.generation);
+}
+
+/// A word and a number behind it.
+fn tagged(word: &str, n: u64) -> Text
+    requires { length word.now ≤ 8 }
+    ensures bytes { result.bytes ≡ word.now ++ decimal n }
+    ensures len { array_string_len result ≤ 28 }
+{
+    let mut text = Text::new();
+    let mut digits = itoa::Buffer::new();
+    text.push_str(word);
+    text.push_str(digits.format(n));
+    text
+}
+
+fn rule_word(rule: Rule) -> &'static str
+    ensures text { result.now ≡ rule_text rule }
+    ensures len { length result.now ≤ 8 }
+{
+    match rule {
+        Rule::Stranger => "stranger",
+        Rule::Stale(_) => "stale",
+        Rule::AlreadyFreed => "freed",
+        Rule::ForeignArena => "arena",
+        Rule::NotGranted => "grant",
+        Rule::OverLimit => "limit",
+    }
+}
+
+fn block_text(handle: Handle) -> Text
+    ensures bytes { result.bytes ≡ codes "ok " ++ handle_text handle }
+    ensures len { array_string_len result ≤ 47 }
+{
+    let mut text = Text::new();
+    text.push_str("ok ");
+    push_handle(&mut text, handle);
+    text
+}
+
+fn denied_text(rule: Rule) -> Text
+    ensures bytes { result.bytes ≡ codes "denied " ++ rule_text rule }
+    ensures len { array_string_len result ≤ 15 }
+{
+    let mut text = Text::new();
+    text.push_str("denied ");
+    text.push_str(rule_word(rule));
+    text
+}
+
+fn word_text(word: &str) -> Text
+    requires { length word.now ≤ 16 }
+    ensures { result.bytes ≡ word.now }
+{
+    let mut text = Text::new();
+    text.push_str(word);
+    text
+}
+
+/// The line of an answer that is no row.
+pub(crate) fn line_of(answer: Answer) -> Text
+    requires { is_row answer ≡ false }
+    ensures { (policy : Policy) → result.bytes ≡ answer_line policy answer }
+{
+    let mut text = match answer {
+        Answer::Block(handle) => block_text(handle),
+        Answer::Done => word_text("ok"),
+        Answer::Parted => word_text("parted"),
+        Answer::Value(n) => tagged("word ", n),
+        Answer::Taken(n) => tagged("taken ", u64::from(n)),
+        Answer::Pages(n) => tagged("pages ", u64::from(n)),
+        Answer::Refilled(segment) => tagged("segment ", u64::from(segment)),
+        Answer::Listed(_) => unreachable!(),
+        Answer::Denied(rule) => denied_text(rule),
+        Answer::TooLarge => word_text("large"),
+        Answer::NoRoom => word_text("noroom"),
+        Answer::Elsewhere => word_text("elsewhere"),
+        Answer::OutOfBlock => word_text("range"),
+        Answer::Busy => word_text("busy"),
+        Answer::NothingInHand => word_text("empty"),
+        Answer::NotHeld => word_text("notheld"),
+        Answer::NoSegment => word_text("nosegment"),
+    };
+    text.push_str("\n");
+    text
+}

@@ -1,0 +1,57 @@
+/* A library to preload that refuses the Nth request for memory, where REFUSE=N, and ends the
+   process with status 99 where there were fewer requests. */
+#define _GNU_SOURCE
+#include <dlfcn.h>
+#include <stddef.h>
+#include <stdlib.h>
+#include <unistd.h>
+
+static long requests, refused = -1;
+
+static int is_refused(void)
+{
+    if (refused < 0) {
+        const char *text = getenv("REFUSE");
+        refused = text ? atol(text) : 0;
+    }
+    return ++requests == refused;
+}
+
+#define REAL(name) \
+    static __typeof__(name) *real; \
+    if (!real) real = (__typeof__(name) *)dlsym(RTLD_NEXT, #name)
+
+void *malloc(size_t size)
+{
+    REAL(malloc);
+    return is_refused() ? NULL : real(size);
+}
+
+void *calloc(size_t count, size_t size)
+{
+    REAL(calloc);
+    return is_refused() ? NULL : real(count, size);
+}
+
+void *realloc(void *old, size_t size)
+{
+    REAL(realloc);
+    return is_refused() ? NULL : real(old, size);
+}
+
+void *aligned_alloc(size_t align, size_t size)
+{
+    REAL(aligned_alloc);
+    return is_refused() ? NULL : real(align, size);
+}
+
+int posix_memalign(void **out, size_t align, size_t size)
+{
+    REAL(posix_memalign);
+    return is_refused() ? 12 : real(out, align, size);
+}
+
+__attribute__((destructor)) static void not_reached(void)
+{
+    if (refused > 0 && requests < refused) _exit(99);
+}
