@@ -11,3 +11,4 @@ pub mod Events
 pub mod Replays
 pub mod Statuses
 pub mod RunFaults
+pub mod Checks

@@ -8,7 +8,7 @@ use thiserror::Error;
 
 /// Why an input was not read.
 #[derive(Clone, Copy, Debug, PartialEq, Eq, Drop, Error)]
-pub(crate) enum ReadFault {
+pub enum ReadFault {
     /// A read failed, for whatever cause.
     #[error("read fault")]
     Failed,
@@ -20,10 +20,10 @@ pub(crate) enum ReadFault {
 }
 
 /// The most bytes of an input.
-pub(crate) const LIMIT: usize = 16_777_216;
+pub const LIMIT: usize = 16_777_216;
 
 /// All that the reader gives, where that is not more than the limit.
-pub(crate) fn read_limited<R: Read>(alloc: Global, input: &mut R) -> Result<Vec<u8>, ReadFault>
+pub fn read_limited<R: Read>(alloc: Global, input: &mut R) -> Result<Vec<u8>, ReadFault>
     ensures ok { IfOk result
         (λ read. IfSome (R.remaining input.old) (λ bytes. read.items ≡ bytes)) }
     ensures fits { IfOk result (λ read. vec_len read ≤ LIMIT) }

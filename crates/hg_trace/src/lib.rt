@@ -1,6 +1,7 @@
 //! Traces: what their bytes mean, and what a core answers them.
 #![tactic(auto)]
 
+mod check;
 mod events;
 mod fault;
 mod input;
@@ -16,7 +17,9 @@ mod run;
 mod text;
 mod words;
 
+pub use check::run_check;
 pub use fault::{ReplayFault, TraceFault};
+pub use input::{LIMIT, ReadFault, read_limited};
 pub use line::{Command, Line, Trace};
 pub use name::Name;
 pub use read::read_trace;
