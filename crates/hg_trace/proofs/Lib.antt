@@ -3,6 +3,7 @@ pub mod LineCuts
 pub mod WordCuts
 pub mod NameBytes
 pub mod Numerals
+pub mod Decimals
 pub mod Writes
 pub mod Parts
 pub mod Answering

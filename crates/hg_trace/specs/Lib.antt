@@ -1,5 +1,6 @@
 pub mod Lines
 pub mod Numbers
+pub mod NumberLaws
 pub mod Faults
 pub mod Commands
 pub mod Trace

@@ -43,7 +43,8 @@ pub record StopsWithin (policy : Policy) (from : State) (lines : List Line)
 
 -- how a replay under a policy from its opening state ends
 abbrev pub EndsReplay
-    : Policy → List Line → Option (List ℕ) → Option (List ℕ) → Result (Unit {0}) ReplayFault → Type 0
+    : Policy → List Line → Option (List ℕ) → Option (List ℕ)
+    → Result (Unit {0}) ReplayFault → Type 0
 EndsReplay policy lines old new (Ok done) =
     (unknown_worker policy.workers lines ≡ None)
     × (end : State) × Replays policy (opening policy) lines end old new

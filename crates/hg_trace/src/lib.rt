@@ -6,6 +6,7 @@ mod events;
 mod fault;
 mod input;
 mod joined;
+pub mod laws;
 mod line;
 mod lines;
 mod name;
