@@ -1,1 +1,9 @@
 pub mod Names
+pub mod Unknown
+pub mod InTurn
+pub mod Tables
+pub mod Chains
+pub mod Wholes
+pub mod TenantRows
+pub mod ArenaRows
+pub mod Sound

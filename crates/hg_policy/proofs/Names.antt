@@ -1,11 +1,15 @@
--- The first place of a name, in a map and in the list that it stands for.
-use Rattle.std.proofs.Common.{◌≡◌, ℕ, Bool, List, [], ◌∷◌, not, map, string_bytes, refl, sym, ◌∙◌}
+-- Names in a map and in the list that it stands for.
+use Rattle.std.proofs.Common.{◌≡◌, ℕ, Bool, true, false, List, [], ◌∷◌, not, map, length, Option, Some, None, is_some, string_bytes, refl, sym, ap, ◌∙◌}
 use Rattle.std.specs.Str.{bytes_eq}
-use Rattle.std.specs.Map.{keys_of}
-use Rattle.std.specs.List.{prefix_len, position}
+use Rattle.std.specs.Map.{keys_of, lookup}
+use Rattle.std.specs.List.{prefix_len, position, list_any}
+use Rattle.std.proofs.lemmas.Bool.{true≢false}
 use Rattle.std.proofs.lemmas.List.{length-map}
+use Rattle.std.proofs.lemmas.Map.Made.{is_some-lookup}
 use Rattle.hg_machine.specs.Policy.{Tenant}
 use Rattle.hg_policy.specs.Kept.{Named, names_of, tenants_of}
+use Rattle.hg_policy.specs.NameForm.{is_among}
+use Rattle.hg_policy.specs.Tenants.{tenant_names}
 
 prefix_len-map : {X Y : Type 0} (p : Y → Bool) (f : X → Y) (xs : List X) → prefix_len p (map f xs) ≡ prefix_len (λ x. p (f x)) xs
 prefix_len-map p f [] = refl
@@ -24,3 +28,22 @@ module _ (name : List ℕ) where
   position-tenants named =
       position-map (λ key. bytes_eq name (string_bytes key)) (λ one. one.0) named
       ∙ sym (position-map (λ (tenant : Tenant). bytes_eq name tenant.name) (λ one. record { name = string_bytes one.0; limit = one.1 }) named)
+
+list_any-map : {X Y : Type 0} (p : Y → Bool) (f : X → Y) (xs : List X) → list_any p (map f xs) ≡ list_any (λ x. p (f x)) xs
+list_any-map p f [] = refl
+list_any-map p f (x ∷ xs) = rw (list_any-map p f xs) refl
+
+-- what a map has at a text
+pub among-names : {A : Type 0} (name : List ℕ) (named : Named A) → is_some (lookup (λ key. bytes_eq name (string_bytes key)) named) ≡ is_among name (names_of named)
+among-names name named =
+    is_some-lookup (λ key. bytes_eq name (string_bytes key)) named
+    ∙ list_any-map (λ key. bytes_eq name (string_bytes key)) (λ one. one.0) named
+    ∙ sym (list_any-map (λ other. bytes_eq name other) (λ one. string_bytes one.0) named)
+
+pub names-tenants : (named : Named ℕ) → tenant_names (tenants_of named) ≡ names_of named
+names-tenants [] = refl
+names-tenants (one ∷ named) = ap (λ names. string_bytes one.0 ∷ names) (names-tenants named)
+
+pub none_from : {A : Type 0} (o : Option A) → is_some o ≡ false → o ≡ None
+none_from None h = refl
+none_from (Some x) h = absurd (true≢false h)

@@ -4,6 +4,8 @@ use Rattle.std.specs.declared.alloc.Global.{Global}
 use Rattle.hg_machine.specs.Policy as meaning
 use Rattle.hg_policy.specs.Rights.{rights_of}
 use Rattle.hg_policy.specs.declared.rights.Rights.{Rights}
+use Rattle.hg_policy.specs.Arenas.{Arenas}
+use Rattle.hg_policy.specs.declared.arenas.ArenaTables.{ArenaTables}
 use Rattle.hg_policy.specs.declared.policy.Policy.TheInside.{Inside}
 
 -- names with something beside each, by number
@@ -19,6 +21,13 @@ names_of named = map (λ one. string_bytes one.0) named
 -- the row beside each name
 abbrev pub rows_of : Named (Vec Bool Global) → List (List Bool)
 rows_of named = map (λ one. one.1.items) named
+
+abbrev pub arenas_of : ArenaTables → Arenas
+arenas_of tables = record {
+  names = names_of tables.named.entries;
+  admitted = rows_of tables.named.entries;
+  segments = tables.segments.items;
+}
 
 abbrev pub granted_of : List (Vec Rights Global) → List (List meaning.Rights)
 granted_of rows = map (λ row. map rights_of row.items) rows

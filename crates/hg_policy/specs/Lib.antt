@@ -1,3 +1,11 @@
 pub mod Rights
 pub mod Names
 pub mod Kept
+pub mod Keys
+pub mod Faults
+pub mod Values
+pub mod NameForm
+pub mod Tenants
+pub mod Arenas
+pub mod Grants
+pub mod Document

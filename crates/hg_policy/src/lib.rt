@@ -1,7 +1,21 @@
 //! Policies: workers, tenants with their limits, arenas with their segments, and grants.
+//! A policy is read from a document, and is sound.
 #![tactic(auto)]
 
+mod arenas;
+mod document;
+mod fault;
+mod grants;
+mod key;
+mod name_form;
 mod policy;
 mod rights;
+mod tenants;
+#[cfg(test)]
+mod tests;
+mod values;
 
+pub use document::read_policy;
+pub use fault::PolicyFault;
+pub use key::{Counted, Key};
 pub use policy::Policy;

@@ -1,7 +1,8 @@
 //! Sets of rights.
 
 ghost use Rattle.std.specs.Prelude.{⊤, ◌≡◌};
-ghost use Rattle.hg_machine.specs.Policy.{has_right};
+ghost use Rattle.hg_machine.specs.Policy.{has_right, no_rights};
+ghost use Rattle.hg_policy.specs.Grants.{all_rights};
 ghost use Rattle.hg_policy.specs.Rights.{rights_of, bit_of, rights_table};
 
 use bitflags::{Flag, Flags, bitflag_items};
@@ -53,6 +54,20 @@ impl Rights {
             Right::List => Rights::LIST,
             Right::Free => Rights::FREE,
         }
+    }
+
+    /// No right.
+    pub(crate) fn none() -> Rights
+        ensures { rights_of result ≡ no_rights }
+    {
+        Rights::empty()
+    }
+
+    /// Each right.
+    pub(crate) fn each() -> Rights
+        ensures { rights_of result ≡ all_rights }
+    {
+        Rights::all()
     }
 
     /// Whether the set has a right.

@@ -1,0 +1,93 @@
+-- What holds of the arenas that are read.
+use Rattle.std.proofs.Common.{◌≡◌, ℕ, ◌+◌, ◌-◌, ◌<◌, ◌≤◌, Bool, true, false, List, [], ◌∷◌, ◌++◌, length, map, take, replicate, nat_lt, Ok, Err, refl, sym, ap, ◌∙◌, zero-add, arith, inl, inr, All}
+use Rattle.std.proofs.lemmas.Bool.{cases_Bool, ltb-false}
+use Rattle.std.proofs.lemmas.List.{length_push, length-append, length-replicate, take_all}
+use Rattle.std.proofs.lemmas.List.Elements.{All-push, All-nil, All-append, All-replicate, All-weaker}
+use Rattle.toml.specs.Data.{Members}
+use Rattle.hg_policy.specs.declared.key.Key.TheVariants as key
+use Rattle.hg_policy.specs.declared.key.Counted.TheVariants as counted
+use Rattle.hg_policy.specs.declared.key.Level.TheVariants as level
+use Rattle.hg_policy.specs.Faults.{Read, ◌>>=◌, in_turn, repeated, too_many}
+use Rattle.hg_policy.specs.Values.{known_keys, whole_at}
+use Rattle.hg_policy.specs.NameForm.{name_at, is_among}
+use Rattle.hg_policy.specs.Arenas.{Arenas, no_arenas, and_arena, with_arena, admitted_at, arena_at, arenas_in}
+use Rattle.hg_policy.proofs.Chains.{bind_at, in_turn-keeps, in_turn-counts}
+
+-- the items of a list that is made longer
+pub items-resize : (xs : List ℕ) (len more v n : ℕ) → len ≡ length xs → n ≡ len + more → take n xs ++ replicate (n - len) v ≡ xs ++ replicate more v
+items-resize xs len more v n is e =
+    let left : n - len ≡ more = omega (arith, e) in
+    rw (take_all n xs (omega (arith, e, is)), left) refl
+
+-- what holds of the arenas: a row of tenants for each, and an arena for each segment
+pub record IsArenas (tenants : ℕ) (a : Arenas) : Type 0 where
+  pub each : length a.admitted ≡ length a.names
+  pub rows : All (λ row. length row ≡ tenants) a.admitted
+  pub in_arenas : All (λ arena. arena < length a.names) a.segments
+  pub few : length a.segments ≤ 64
+
+with_arena-is : (done out : Arenas) (name : List ℕ) (segments : ℕ) (admitted : List Bool) → with_arena done name segments admitted ≡ Ok out → (out ≡ and_arena done name segments admitted) × (length done.segments + segments ≤ 64)
+with_arena-is done out name segments admitted e =
+    elim (cases_Bool (is_among name done.names)) [
+      | inl there ↦ let f : Err (repeated name) ≡ Ok out = rw there at e in cc
+      | inr new ↦ elim (cases_Bool (nat_lt 64 (length done.segments + segments))) [
+        | inl over ↦ let f : Err (too_many counted.Segments) ≡ Ok out = rw (new, over) at e in cc
+        | inr fits ↦ let f : Ok (and_arena done name segments admitted) ≡ Ok out = rw (new, fits) at e in (cc, ltb-false 64 (length done.segments + segments) fits)
+      ]
+    ]
+
+admitted_at-row : (tenants : ℕ) (row : Members) (admitted : List Bool) → admitted_at tenants row ≡ Ok admitted → length admitted ≡ tenants
+admitted_at-row tenants row admitted e =
+    let f : replicate tenants true ≡ admitted = cc in
+    rw (← f) (length-replicate tenants true)
+
+-- one more arena, after those before
+record IsNext (tenants : ℕ) (done out : Arenas) : Type 0 where
+  name : List ℕ
+  segments : ℕ
+  admitted : List Bool
+  is : out ≡ and_arena done name segments admitted
+  fits : length done.segments + segments ≤ 64
+  row : length admitted ≡ tenants
+
+arena_at-is : (tenants : ℕ) (done : Arenas) (row : Members) (out : Arenas) → arena_at tenants done row ≡ Ok out → IsNext tenants done out
+unfolding arena_at
+arena_at-is tenants done row out e =
+    let (known, at1, e1) = bind_at (known_keys level.Arena row) _ out e in
+    let (name, at2, e2) = bind_at (name_at key.Name row) _ out e1 in
+    let (segments, at3, e3) = bind_at (whole_at key.Segments 0 9223372036854775807 row) _ out e2 in
+    let (admitted, at4, e4) = bind_at (admitted_at tenants row) (λ admitted. with_arena done name segments admitted) out e3 in
+    let w = with_arena-is done out name segments admitted e4 in
+    record { name = name; segments = segments; admitted = admitted; is = w.0; fits = w.1; row = admitted_at-row tenants row admitted at4 }
+
+pub arena_at-one : (tenants : ℕ) (done : Arenas) (row : Members) (out : Arenas) → arena_at tenants done row ≡ Ok out → length out.names ≡ length done.names + 1
+arena_at-one tenants done row out e =
+    let n = arena_at-is tenants done row out e in
+    rw n.is (length_push done.names n.name)
+
+arena_at-keeps : (tenants : ℕ) (done : Arenas) (row : Members) (out : Arenas) → arena_at tenants done row ≡ Ok out → IsArenas tenants done → IsArenas tenants out
+arena_at-keeps tenants done row out e kept =
+    let n = arena_at-is tenants done row out e in
+    let more : length (done.names ++ n.name ∷ []) ≡ length done.names + 1 = length_push done.names n.name in
+    rw n.is record {
+      each = omega (arith, more, length_push done.admitted n.admitted, kept.each);
+      rows = All-push (λ (row : List Bool). length row ≡ tenants) done.admitted n.admitted kept.rows n.row;
+      in_arenas = All-append (λ arena. arena < length (done.names ++ n.name ∷ [])) done.segments (replicate n.segments (length done.names))
+          (All-weaker (λ arena. arena < length done.names) (λ arena. arena < length (done.names ++ n.name ∷ [])) (λ arena h. omega (arith, more, h)) done.segments kept.in_arenas)
+          (All-replicate (λ arena. arena < length (done.names ++ n.name ∷ [])) n.segments (length done.names) (omega (arith, more)));
+      few = omega (arith, length-append done.segments (replicate n.segments (length done.names)), length-replicate n.segments (length done.names), n.fits);
+    }
+
+pub arenas_in-length : (tenants : ℕ) (rows : List Members) (out : Arenas) → arenas_in tenants rows ≡ Ok out → length out.names ≡ length rows
+unfolding arenas_in
+arenas_in-length tenants rows out e = in_turn-counts (arena_at tenants) (λ arenas. length arenas.names) (arena_at-one tenants) no_arenas rows out e ∙ zero-add (length rows)
+
+pub arenas_in-holds : (tenants : ℕ) (rows : List Members) (out : Arenas) → arenas_in tenants rows ≡ Ok out → IsArenas tenants out
+unfolding arenas_in
+arenas_in-holds tenants rows out e =
+    in_turn-keeps (arena_at tenants) (IsArenas tenants) (arena_at-keeps tenants) no_arenas rows out e record {
+      each = refl;
+      rows = All-nil (λ (row : List Bool). length row ≡ tenants);
+      in_arenas = All-nil (λ arena. arena < 0);
+      few = omega arith;
+    }

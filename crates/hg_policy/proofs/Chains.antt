@@ -1,0 +1,24 @@
+-- What was read before, where a whole chain was read.
+use Rattle.std.proofs.Common.{◌≡◌, ℕ, ◌+◌, List, [], ◌∷◌, length, Ok, Err, refl, sym, ap, ◌∙◌, arith, add-zero}
+use Rattle.hg_policy.specs.Faults.{Read, ◌>>=◌, in_turn}
+
+pub bind_at : {A B : Type 0} (r : Read A) (next : A → Read B) (y : B) → (r >>= next) ≡ Ok y → (x : A) × (r ≡ Ok x) × (next x ≡ Ok y)
+bind_at (Ok x) next y e = (x, refl, e)
+bind_at (Err f) next y e = cc
+
+module _ {A X : Type 0} (step : A → X → Read A) where
+  -- what each step keeps is kept
+  pub in_turn-keeps : (P : A → Type 0) → ((done : A) (x : X) (next : A) → step done x ≡ Ok next → P done → P next) → (done : A) (xs : List X) (out : A) → in_turn step done xs ≡ Ok out → P done → P out
+  unfolding in_turn
+  in_turn-keeps P keeps done [] out e kept = let f : done ≡ out = cc in rw (← f) kept
+  in_turn-keeps P keeps done (x ∷ xs) out e kept =
+      let (next, at, rest) = bind_at (step done x) (λ next. in_turn step next xs) out e in
+      in_turn-keeps P keeps next xs out rest (keeps done x next at kept)
+
+  -- where each step counts one, there is one for each element
+  pub in_turn-counts : (count : A → ℕ) → ((done : A) (x : X) (next : A) → step done x ≡ Ok next → count next ≡ count done + 1) → (done : A) (xs : List X) (out : A) → in_turn step done xs ≡ Ok out → count out ≡ count done + length xs
+  unfolding in_turn
+  in_turn-counts count one done [] out e = let f : done ≡ out = cc in rw (← f) (sym (add-zero (count done)))
+  in_turn-counts count one done (x ∷ xs) out e =
+      let (next, at, rest) = bind_at (step done x) (λ next. in_turn step next xs) out e in
+      omega (arith, in_turn-counts count one next xs out rest, one done x next at)

@@ -1,0 +1,45 @@
+-- What holds of the tenants that are read.
+use Rattle.std.proofs.Common.{◌≡◌, ℕ, ◌+◌, ◌<◌, ◌≤◌, ◌^◌, true, false, List, [], ◌∷◌, ◌++◌, length, map, Ok, Err, refl, ◌∙◌, zero-add, arith, inl, inr, nat_le, ◌&&◌, All}
+use Rattle.std.proofs.lemmas.Bool.{cases_Bool}
+use Rattle.std.proofs.lemmas.List.{length_push}
+use Rattle.std.proofs.lemmas.List.Elements.{All-push, All-nil}
+use Rattle.toml.specs.Data.{Members}
+use Rattle.hg_machine.specs.Policy.{Tenant}
+use Rattle.hg_policy.specs.declared.key.Key.{Key}
+use Rattle.hg_policy.specs.declared.key.Key.TheVariants as key
+use Rattle.hg_policy.specs.declared.key.Level.TheVariants as level
+use Rattle.hg_policy.specs.Faults.{Read, ◌>>=◌, in_turn, repeated, kind}
+use Rattle.hg_policy.specs.Values.{known_keys, whole_at, whole_in, member_at}
+use Rattle.hg_policy.specs.NameForm.{name_at, is_among}
+use Rattle.hg_policy.specs.Tenants.{with_tenant, tenant_at, tenants_in, tenant_names}
+use Rattle.hg_policy.proofs.Chains.{bind_at, in_turn-keeps, in_turn-counts}
+use Rattle.hg_policy.proofs.Wholes.{whole_at-range}
+
+-- one more tenant, after those before
+with_tenant-is : (done out : List Tenant) (name : List ℕ) (limit : ℕ) → with_tenant done name limit ≡ Ok out → out ≡ done ++ record { name = name; limit = limit } ∷ []
+with_tenant-is done out name limit e =
+    elim (cases_Bool (is_among name (tenant_names done))) [
+      | inl there ↦ let f : Err (repeated name) ≡ Ok out = rw there at e in cc
+      | inr new ↦ let f : Ok (done ++ record { name = name; limit = limit } ∷ []) ≡ Ok out = rw new at e in cc
+    ]
+
+tenant_at-is : (done : List Tenant) (row : Members) (out : List Tenant) → tenant_at done row ≡ Ok out → (tenant : Tenant) × (out ≡ done ++ tenant ∷ []) × (tenant.limit < 2 ^ 32)
+unfolding tenant_at
+tenant_at-is done row out e =
+    let (known, at1, e1) = bind_at (known_keys level.Tenant row) _ out e in
+    let (name, at2, e2) = bind_at (name_at key.Name row) _ out e1 in
+    let (limit, at3, e3) = bind_at (whole_at key.Limit 0 4294967295 row) _ out e2 in
+    let range = whole_at-range key.Limit 0 4294967295 row limit at3 in
+    (record { name = name; limit = limit }, with_tenant-is done out name limit e3, omega (arith, range))
+
+pub tenants_in-length : (rows : List Members) (out : List Tenant) → tenants_in rows ≡ Ok out → length out ≡ length rows
+unfolding tenants_in
+tenants_in-length rows out e =
+    in_turn-counts tenant_at length (λ done row next at. let (tenant, is, range) = tenant_at-is done row next at in rw is (length_push done tenant)) [] rows out e ∙ zero-add (length rows)
+
+pub tenants_in-limits : (rows : List Members) (out : List Tenant) → tenants_in rows ≡ Ok out → All (λ tenant. tenant.limit < 2 ^ 32) out
+unfolding tenants_in
+tenants_in-limits rows out e =
+    in_turn-keeps tenant_at (λ (tenants : List Tenant). All (λ tenant. tenant.limit < 2 ^ 32) tenants)
+    (λ done row next at kept. let (tenant, is, range) = tenant_at-is done row next at in rw is (All-push (λ (tenant : Tenant). tenant.limit < 2 ^ 32) done tenant kept range))
+    [] rows out e (All-nil (λ (tenant : Tenant). tenant.limit < 2 ^ 32))

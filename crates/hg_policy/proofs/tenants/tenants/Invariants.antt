@@ -1,0 +1,9 @@
+use Rattle.std.proofs.Common.{◌≡◌, map, drop}
+use Rattle.toml.specs.View.{table_view}
+use Rattle.hg_policy.specs.Faults.{in_turn}
+use Rattle.hg_policy.specs.Kept.{tenants_of}
+use Rattle.hg_policy.specs.Tenants.{tenant_at, tenants_in}
+use Rattle.hg_policy.proofs.tenants.tenants.Given as goal
+
+abbrev pub invariant-loop-row : goal.invariant-loop-row
+invariant-loop-row l = in_turn tenant_at (tenants_of l.tenants.entries) (map (λ row. table_view row.now) (drop l.row-index l.rows)) ≡ tenants_in (map (λ row. table_view row.now) l.rows)

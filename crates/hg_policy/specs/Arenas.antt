@@ -1,0 +1,49 @@
+-- The rows of arenas.
+use Rattle.std.specs.Prelude.{ℕ, ◌+◌, Bool, true, List, [], ◌∷◌, ◌++◌, length, replicate}
+use Rattle.std.specs.Prelude.{Ok, Err, nat_lt, if◌then◌else◌}
+use Rattle.toml.specs.Data.{Members}
+use Rattle.hg_policy.specs.declared.key.Key.TheVariants as key
+use Rattle.hg_policy.specs.declared.key.Counted.TheVariants as counted
+use Rattle.hg_policy.specs.declared.key.Level.TheVariants as level
+use Rattle.hg_policy.specs.Faults.{Read, ◌>>=◌, in_turn, repeated, too_many}
+use Rattle.hg_policy.specs.Values.{known_keys, whole_at}
+use Rattle.hg_policy.specs.NameForm.{name_at, is_among}
+
+-- by arena its name and which tenants it admits, and by segment its arena
+pub record Arenas : Type 0 where
+  pub names : List (List ℕ)
+  pub admitted : List (List Bool)
+  pub segments : List ℕ
+
+abbrev pub no_arenas : Arenas
+no_arenas = record { names = []; admitted = []; segments = [] }
+
+-- one more arena, with the next segments
+abbrev pub and_arena : Arenas → List ℕ → ℕ → List Bool → Arenas
+and_arena done name segments admitted = record {
+  names = done.names ++ name ∷ [];
+  admitted = done.admitted ++ admitted ∷ [];
+  segments = done.segments ++ replicate segments (length done.names);
+}
+
+-- its name is no arena's before it, and all segments together are at most 64
+abbrev pub with_arena : Arenas → List ℕ → ℕ → List Bool → Read Arenas
+with_arena done name segments admitted =
+    if is_among name done.names then Err (repeated name) else
+    (if nat_lt 64 (length done.segments + segments) then Err (too_many counted.Segments)
+    else Ok (and_arena done name segments admitted))
+
+-- an arena is open to all tenants
+abbrev pub admitted_at : ℕ → Members → Read (List Bool)
+admitted_at tenants row = Ok (replicate tenants true)
+
+unfoldable pub arena_at : ℕ → Arenas → Members → Read Arenas
+arena_at tenants done row = do
+  known ← known_keys level.Arena row
+  name ← name_at key.Name row
+  segments ← whole_at key.Segments 0 9223372036854775807 row
+  admitted ← admitted_at tenants row
+  with_arena done name segments admitted
+
+unfoldable pub arenas_in : ℕ → List Members → Read Arenas
+arenas_in tenants rows = in_turn (arena_at tenants) no_arenas rows

@@ -1,0 +1,60 @@
+-- What a document means: the policy, or the first fault.
+use Rattle.std.specs.Prelude.{ℕ, ◌==◌, pos, negsuc, Bool, true, List, length, Option, None}
+use Rattle.std.specs.Prelude.{Ok, Err, nat_lt, if◌then◌else◌}
+use Rattle.std.specs.Str.{is_utf8}
+use Rattle.toml.specs.Data.{Data, Members, integer}
+use Rattle.toml.specs.Parse.{parse_document}
+use Rattle.hg_machine.specs.Policy.{Policy, Tenant}
+use Rattle.hg_policy.specs.declared.key.Key.TheVariants as key
+use Rattle.hg_policy.specs.declared.key.Counted.TheVariants as counted
+use Rattle.hg_policy.specs.declared.key.Level.TheVariants as level
+use Rattle.hg_policy.specs.Faults.{Read, ◌>>=◌, or_fault, not_toml, kind, too_many, version}
+use Rattle.hg_policy.specs.Values.{member_at, whole_at, known_keys, rows_at}
+use Rattle.hg_policy.specs.Tenants.{tenants_in}
+use Rattle.hg_policy.specs.Arenas.{Arenas, arenas_in}
+use Rattle.hg_policy.specs.Grants.{granted_among}
+
+-- version 1 is the one that is read
+abbrev pub version_in : Data → Read Bool
+version_in (integer (pos n)) = if n == 1 then Ok true else Err version
+version_in (integer (negsuc n)) = Err version
+version_in _ = Err (kind key.Version)
+
+unfoldable pub version_at : Members → Read Bool
+version_at members = member_at key.Version members >>= version_in
+
+-- one worker
+abbrev pub workers_in : ℕ → Read ℕ
+workers_in n = if nat_lt 1 n then Err (too_many counted.Workers) else Ok n
+
+unfoldable pub workers_at : Members → Read ℕ
+workers_at members = whole_at key.Workers 1 9223372036854775807 members >>= workers_in
+
+abbrev pub policy_from : ℕ → List Tenant → Arenas → Policy
+policy_from workers tenants arenas = record {
+  workers = workers;
+  max_generation = 4294967295;
+  tenants = tenants;
+  arenas = arenas.names;
+  segments = arenas.segments;
+  admitted = arenas.admitted;
+  granted = granted_among (length tenants);
+}
+
+unfoldable pub policy_at : Members → Read Policy
+policy_at members = do
+  said ← version_at members
+  known ← known_keys level.Top members
+  workers ← workers_at members
+  tenant_rows ← rows_at key.Tenant counted.Tenants 64 members
+  arena_rows ← rows_at key.Arena counted.Arenas 16 members
+  tenants ← tenants_in tenant_rows
+  arenas ← arenas_in (length tenants) arena_rows
+  Ok (policy_from workers tenants arenas)
+
+-- the tree of the bytes
+abbrev pub tree_of : List ℕ → Option Members
+tree_of text = if is_utf8 text then parse_document text else None
+
+unfoldable pub document_of : List ℕ → Read Policy
+document_of text = or_fault not_toml (tree_of text) >>= policy_at

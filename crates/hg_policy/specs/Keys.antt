@@ -1,0 +1,23 @@
+-- The words of a document.
+use Rattle.std.specs.Prelude.{ℕ, List, codes}
+use Rattle.hg_policy.specs.declared.key.Key.{Key}
+use Rattle.hg_policy.specs.declared.key.Key.TheVariants as key
+use Rattle.hg_policy.specs.declared.key.Counted.{Counted}
+use Rattle.hg_policy.specs.declared.key.Counted.TheVariants as counted
+
+-- a key as it is written
+abbrev pub key_text : Key → List ℕ
+key_text key.Version = codes "version"
+key_text key.Workers = codes "workers"
+key_text key.Tenant = codes "tenant"
+key_text key.Arena = codes "arena"
+key_text key.Name = codes "name"
+key_text key.Limit = codes "limit"
+key_text key.Segments = codes "segments"
+
+-- the word for what is counted
+abbrev pub counted_text : Counted → List ℕ
+counted_text counted.Workers = codes "workers"
+counted_text counted.Tenants = codes "tenant"
+counted_text counted.Arenas = codes "arena"
+counted_text counted.Segments = codes "segments"

@@ -1,0 +1,28 @@
+-- The rows of tenants.
+use Rattle.std.specs.Prelude.{ℕ, List, [], ◌∷◌, ◌++◌, map, Ok, Err, if◌then◌else◌}
+use Rattle.toml.specs.Data.{Members}
+use Rattle.hg_machine.specs.Policy.{Tenant}
+use Rattle.hg_policy.specs.declared.key.Key.TheVariants as key
+use Rattle.hg_policy.specs.declared.key.Level.TheVariants as level
+use Rattle.hg_policy.specs.Faults.{Read, ◌>>=◌, in_turn, repeated}
+use Rattle.hg_policy.specs.Values.{known_keys, whole_at}
+use Rattle.hg_policy.specs.NameForm.{name_at, is_among}
+
+abbrev pub tenant_names : List Tenant → List (List ℕ)
+tenant_names tenants = map (λ tenant. tenant.name) tenants
+
+-- one more tenant, whose name no tenant before it has
+abbrev pub with_tenant : List Tenant → List ℕ → ℕ → Read (List Tenant)
+with_tenant done name limit =
+    if is_among name (tenant_names done) then Err (repeated name)
+    else Ok (done ++ record { name = name; limit = limit } ∷ [])
+
+unfoldable pub tenant_at : List Tenant → Members → Read (List Tenant)
+tenant_at done row = do
+  known ← known_keys level.Tenant row
+  name ← name_at key.Name row
+  limit ← whole_at key.Limit 0 4294967295 row
+  with_tenant done name limit
+
+unfoldable pub tenants_in : List Members → Read (List Tenant)
+tenants_in rows = in_turn tenant_at [] rows

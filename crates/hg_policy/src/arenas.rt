@@ -1,0 +1,91 @@
+//! The rows of arenas.
+
+ghost use Rattle.std.specs.Prelude.{◌≡◌, ◌≤◌, ◌<◌, ◌^◌, true, length, map, replicate, IfOk};
+ghost use Rattle.toml.specs.View.{table_view};
+ghost use Rattle.hg_policy.specs.Faults.{Gives};
+ghost use Rattle.hg_policy.specs.Kept.{arenas_of};
+ghost use Rattle.hg_policy.specs.Arenas.{with_arena, arena_at, arenas_in};
+
+use crate::fault::PolicyFault;
+use crate::key::{Counted, Key, Level};
+use crate::name_form::name;
+use crate::values::{known, whole};
+use indexmap::IndexMap;
+use std::alloc::{AllocError, Global};
+use toml::Table;
+
+/// By arena its name and which tenants it admits, and by segment its arena.
+#[derive(Drop)]
+pub(crate) struct ArenaTables {
+    pub(crate) named: IndexMap<String, Vec<bool>>,
+    pub(crate) segments: Vec<u8>,
+}
+
+/// The arenas in the order of their rows, for so many tenants.
+pub(crate) fn arenas(
+    alloc: Global,
+    tenants: usize,
+    rows: &[&Table],
+) -> Result<ArenaTables, PolicyFault>
+    requires { length rows.now ≤ 16 }
+    ensures { Gives arenas_of result (arenas_in tenants (map (λ r. table_view r.now) rows.now)) }
+{
+    let mut arenas = ArenaTables {
+        named: IndexMap::with_capacity(alloc, rows.len())?,
+        segments: Vec::with_capacity(alloc, 64)?,
+    };
+    for row in rows {
+        arena(alloc, tenants, &mut arenas, *row)?;
+    }
+    Ok(arenas)
+}
+
+#[tactic(auto, unfolding(crate::specs::Arenas::arena_at))]
+fn arena(
+    alloc: Global,
+    tenants: usize,
+    arenas: &mut ArenaTables,
+    row: &Table,
+) -> Result<(), PolicyFault>
+    requires { length arenas.old.named.entries < 256 }
+    ensures { Gives (λ _. arenas_of arenas.new) result
+        (arena_at tenants (arenas_of arenas.old) (table_view row.now)) }
+{
+    known(alloc, Level::Arena, row)?;
+    let name = name(row, Key::Name)?;
+    let segments = whole(row, Key::Segments, 0, 9_223_372_036_854_775_807)?;
+    let admitted = all_tenants(alloc, tenants)?;
+    add_arena(alloc, arenas, name, segments, admitted)
+}
+
+fn all_tenants(alloc: Global, tenants: usize) -> Result<Vec<bool>, AllocError>
+    ensures { IfOk result (λ admitted. admitted.items ≡ replicate tenants true) }
+{
+    vec![in alloc; true; tenants]
+}
+
+fn add_arena(
+    alloc: Global,
+    arenas: &mut ArenaTables,
+    name: &str,
+    segments: u64,
+    admitted: Vec<bool>,
+) -> Result<(), PolicyFault>
+    requires few { length arenas.old.named.entries < 256 }
+    requires fits { segments < 2 ^ 63 }
+    ensures { Gives (λ _. arenas_of arenas.new) result
+        (with_arena (arenas_of arenas.old) name.now segments admitted.items) }
+{
+    let name = String::from_str(alloc, name)?;
+    if arenas.named.contains_key(name.as_str()) {
+        return Err(PolicyFault::Repeated(name));
+    }
+    let total = arenas.segments.len() as u64 + segments;
+    if total > 64 {
+        return Err(PolicyFault::TooMany(Counted::Segments));
+    }
+    let number = arenas.named.len() as u8;
+    arenas.segments.resize(total as usize, number)?;
+    arenas.named.insert(name, admitted)?;
+    Ok(())
+}

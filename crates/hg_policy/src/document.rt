@@ -1,0 +1,85 @@
+//! The policy document.
+
+ghost use Rattle.std.specs.Prelude.{◌≡◌, ◌≤◌, true, IfOk};
+ghost use Rattle.toml.specs.View.{table_view};
+ghost use Rattle.hg_policy.specs.Faults.{Gives, or_fault, not_toml};
+ghost use Rattle.hg_policy.specs.Document.{version_at, workers_at, policy_at, tree_of, document_of};
+
+use crate::arenas::arenas;
+use crate::fault::PolicyFault;
+use crate::grants::granted;
+use crate::key::{Counted, Key, Level};
+use crate::policy::Policy;
+use crate::tenants::tenants;
+use crate::values::{known, member, rows, whole};
+use std::alloc::Global;
+use toml::Table;
+
+/// Reads a policy document, which is TOML.
+#[tactic(auto, unfolding(crate::specs::Document::document_of))]
+pub fn read_policy(alloc: Global, text: &[u8]) -> Result<Policy, PolicyFault>
+    ensures { Gives (λ policy. policy) result (document_of text.now) }
+{
+    let table = tree(alloc, text)?;
+    policy(alloc, &table)
+}
+
+fn tree(alloc: Global, text: &[u8]) -> Result<Table, PolicyFault>
+    ensures { Gives (λ table. table_view table) result (or_fault not_toml (tree_of text.now)) }
+{
+    match toml::table_from_slice(alloc, text) {
+        Ok(table) => Ok(table),
+        Err(fault) => {
+            if fault.is_memory() {
+                Err(PolicyFault::Memory)
+            } else {
+                Err(PolicyFault::NotToml)
+            }
+        }
+    }
+}
+
+#[tactic(auto, unfolding(crate::specs::Document::policy_at))]
+fn policy(alloc: Global, table: &Table) -> Result<Policy, PolicyFault>
+    ensures { Gives (λ policy. policy) result (policy_at (table_view table.now)) }
+{
+    version(table)?;
+    known(alloc, Level::Top, table)?;
+    let workers = workers(table)?;
+    let tenant_rows = rows(alloc, table, Key::Tenant, Counted::Tenants, 64)?;
+    let arena_rows = rows(alloc, table, Key::Arena, Counted::Arenas, 16)?;
+    let tenants = tenants(alloc, tenant_rows.as_slice())?;
+    let arenas = arenas(alloc, tenants.len(), arena_rows.as_slice())?;
+    let granted = granted(alloc, tenants.len())?;
+    Ok(Policy {
+        workers,
+        max_generation: 4_294_967_295,
+        tenants,
+        arenas: arenas.named,
+        segments: arenas.segments,
+        granted,
+    })
+}
+
+#[tactic(auto, unfolding(crate::specs::Document::version_at))]
+fn version(table: &Table) -> Result<(), PolicyFault>
+    ensures { Gives (λ _. true) result (version_at (table_view table.now)) }
+{
+    let value = member(table, Key::Version)?;
+    match value.as_integer() {
+        Some(1) => Ok(()),
+        Some(_) => Err(PolicyFault::Version),
+        None => Err(PolicyFault::Kind(Key::Version)),
+    }
+}
+
+#[tactic(auto, unfolding(crate::specs::Document::workers_at))]
+fn workers(table: &Table) -> Result<u8, PolicyFault>
+    ensures { Gives (λ n. n) result (workers_at (table_view table.now)) }
+{
+    let n = whole(table, Key::Workers, 1, 9_223_372_036_854_775_807)?;
+    if n > 1 {
+        return Err(PolicyFault::TooMany(Counted::Workers));
+    }
+    Ok(n as u8)
+}

@@ -1,0 +1,98 @@
+//! The words of a document.
+
+ghost use Rattle.std.specs.Prelude.{◌≡◌, Some};
+ghost use Rattle.hg_policy.specs.Keys.{key_text, counted_text};
+ghost use Rattle.hg_policy.specs.Values.{knows};
+
+use std::fmt;
+
+/// A key of the document.
+#[derive(Clone, Copy, Debug, PartialEq, Eq)]
+pub enum Key {
+    Version,
+    Workers,
+    Tenant,
+    Arena,
+    Name,
+    Limit,
+    Segments,
+}
+
+impl Key {
+    /// The key as it is written.
+    pub(crate) fn text(self) -> &'static str
+        ensures { result.now ≡ key_text self }
+    {
+        match self {
+            Key::Version => "version",
+            Key::Workers => "workers",
+            Key::Tenant => "tenant",
+            Key::Arena => "arena",
+            Key::Name => "name",
+            Key::Limit => "limit",
+            Key::Segments => "segments",
+        }
+    }
+}
+
+impl fmt::Display for Key {
+    ghost output = { λ key. Some (key_text key) };
+
+    fn fmt<W: fmt::Write>(&self, f: &mut fmt::Formatter<W>) -> fmt::Result {
+        write!(f, "{}", self.text())
+    }
+}
+
+/// What a document may have too many of.
+#[derive(Clone, Copy, Debug, PartialEq, Eq)]
+pub enum Counted {
+    Workers,
+    Tenants,
+    Arenas,
+    Segments,
+}
+
+impl Counted {
+    /// The word for it.
+    pub(crate) fn text(self) -> &'static str
+        ensures { result.now ≡ counted_text self }
+    {
+        match self {
+            Counted::Workers => "workers",
+            Counted::Tenants => "tenant",
+            Counted::Arenas => "arena",
+            Counted::Segments => "segments",
+        }
+    }
+}
+
+impl fmt::Display for Counted {
+    ghost output = { λ counted. Some (counted_text counted) };
+
+    fn fmt<W: fmt::Write>(&self, f: &mut fmt::Formatter<W>) -> fmt::Result {
+        write!(f, "{}", self.text())
+    }
+}
+
+/// The tables of a document, by the keys that they may have.
+#[derive(Clone, Copy, Debug, PartialEq, Eq)]
+pub(crate) enum Level {
+    Top,
+    Tenant,
+    Arena,
+}
+
+impl Level {
+    /// Whether such a table may have a key.
+    pub(crate) fn knows(self, key: &str) -> bool
+        ensures { result ≡ knows self key.now }
+    {
+        match self {
+            Level::Top => {
+                key == "version" || key == "workers" || key == "tenant" || key == "arena"
+            }
+            Level::Tenant => key == "name" || key == "limit",
+            Level::Arena => key == "name" || key == "segments",
+        }
+    }
+}

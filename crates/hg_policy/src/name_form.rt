@@ -1,0 +1,55 @@
+//! The form of a name.
+
+ghost use Rattle.std.specs.Prelude.{◌≡◌};
+ghost use Rattle.std.specs.List.{list_all};
+ghost use Rattle.toml.specs.View.{table_view};
+ghost use Rattle.hg_policy.specs.Faults.{Gives};
+ghost use Rattle.hg_policy.specs.NameForm.{is_name, is_name_byte, name_at};
+
+use crate::fault::PolicyFault;
+use crate::key::Key;
+use crate::values::member;
+use toml::Table;
+
+/// Whether a text is 1 to 16 bytes of `a` to `z`, `0` to `9`, `_` and `-`, the first a letter.
+pub(crate) fn is_name(text: &str) -> bool
+    ensures { result ≡ is_name text.now }
+{
+    let bytes = text.as_bytes();
+    match bytes {
+        [] => false,
+        [first, rest @ ..] => {
+            first.is_ascii_lowercase() && rest.len() < 16 && are_name_bytes(rest)
+        }
+    }
+}
+
+fn are_name_bytes(bytes: &[u8]) -> bool
+    ensures { result ≡ list_all is_name_byte bytes.now }
+{
+    bytes.iter().all(|b| is_name_byte(*b))
+}
+
+fn is_name_byte(b: u8) -> bool
+    ensures { result ≡ is_name_byte b }
+{
+    matches!(b, b'a'..=b'z' | b'0'..=b'9' | b'_' | b'-')
+}
+
+/// The name at a key.
+#[tactic(auto, unfolding(crate::specs::NameForm::name_at))]
+pub(crate) fn name<'a>(table: &'a Table, key: Key) -> Result<&'a str, PolicyFault>
+    ensures { Gives (λ name. name.now) result (name_at key (table_view table.now)) }
+{
+    let value = member(table, key)?;
+    match value.as_str() {
+        Some(text) => {
+            if is_name(text) {
+                Ok(text)
+            } else {
+                Err(PolicyFault::Kind(key))
+            }
+        }
+        None => Err(PolicyFault::Kind(key)),
+    }
+}

@@ -1,0 +1,104 @@
+//! The values at keys.
+
+ghost use Rattle.std.specs.Prelude.{◌≡◌, ◌≤◌, true, [], length, map, option_map, IfOk};
+ghost use Rattle.toml.specs.View.{view, items_view, table_view};
+ghost use Rattle.hg_policy.specs.Faults.{Gives, in_turn};
+ghost use Rattle.hg_policy.specs.Values.{field_at, member_at, whole_at, known_keys, elements};
+ghost use Rattle.hg_policy.specs.Values.{with_table, rows_in, rows_at};
+
+use crate::fault::PolicyFault;
+use crate::key::{Counted, Key, Level};
+use std::alloc::Global;
+use toml::{Table, Value};
+
+/// The value at a key, if there is one.
+pub(crate) fn field<'a>(table: &'a Table, key: Key) -> Option<&'a Value>
+    ensures { option_map (λ value. view value.now) result ≡ field_at key (table_view table.now) }
+{
+    table.get(key.text())
+}
+
+#[tactic(auto, unfolding(crate::specs::Values::member_at))]
+pub(crate) fn member<'a>(table: &'a Table, key: Key) -> Result<&'a Value, PolicyFault>
+    ensures { Gives (λ value. view value.now) result (member_at key (table_view table.now)) }
+{
+    match field(table, key) {
+        Some(value) => Ok(value),
+        None => Err(PolicyFault::Missing(key)),
+    }
+}
+
+/// The whole number at a key, from `low` to `high`.
+#[tactic(auto, unfolding(crate::specs::Values::whole_at))]
+pub(crate) fn whole(table: &Table, key: Key, low: u64, high: u64) -> Result<u64, PolicyFault>
+    ensures value { Gives (λ n. n) result (whole_at key low high (table_view table.now)) }
+    ensures range { IfOk result (λ n. n ≤ high) }
+{
+    let value = member(table, key)?;
+    match value.as_integer() {
+        Some(n) if n >= 0 && low <= n as u64 && n as u64 <= high => Ok(n as u64),
+        _ => Err(PolicyFault::Kind(key)),
+    }
+}
+
+/// A key that such a table may not have is a fault.
+pub(crate) fn known(alloc: Global, level: Level, table: &Table) -> Result<(), PolicyFault>
+    ensures { Gives (λ _. true) result (known_keys level (table_view table.now)) }
+{
+    for key in table.keys() {
+        if !level.knows(key.as_str()) {
+            return Err(PolicyFault::Unknown(String::from_str(alloc, key.as_str())?));
+        }
+    }
+    Ok(())
+}
+
+/// The rows at a key, at most so many.
+#[tactic(auto, unfolding(crate::specs::Values::rows_at))]
+pub(crate) fn rows<'a>(
+    alloc: Global,
+    table: &'a Table,
+    key: Key,
+    counted: Counted,
+    most: usize,
+) -> Result<Vec<&'a Table>, PolicyFault>
+    ensures rows { Gives (λ rows. map (λ row. table_view row.now) rows.items) result
+        (rows_at key counted most (table_view table.now)) }
+    ensures few { IfOk result (λ rows. length rows.items ≤ most) }
+{
+    let value = member(table, key)?;
+    let rows = tables(alloc, value, key)?;
+    if most < rows.len() {
+        return Err(PolicyFault::TooMany(counted));
+    }
+    Ok(rows)
+}
+
+/// The tables of an array that has nothing else.
+fn tables<'a>(alloc: Global, value: &'a Value, key: Key) -> Result<Vec<&'a Table>, PolicyFault>
+    ensures { Gives (λ rows. map (λ row. table_view row.now) rows.items) result
+        (rows_in key (view value.now)) }
+{
+    match value.as_array() {
+        Some(array) => tables_in(alloc, array, key),
+        None => Err(PolicyFault::Kind(key)),
+    }
+}
+
+fn tables_in<'a>(
+    alloc: Global,
+    array: &'a Vec<Value>,
+    key: Key,
+) -> Result<Vec<&'a Table>, PolicyFault>
+    ensures { Gives (λ rows. map (λ row. table_view row.now) rows.items) result
+        (in_turn (with_table key) [] (elements (items_view array.now.items))) }
+{
+    let mut tables = Vec::with_capacity(alloc, array.len())?;
+    for element in array {
+        match element.as_table() {
+            Some(table) => tables.push(table)?,
+            None => return Err(PolicyFault::Kind(key)),
+        }
+    }
+    Ok(tables)
+}
