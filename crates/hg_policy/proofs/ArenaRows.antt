@@ -1,16 +1,19 @@
 -- What holds of the arenas that are read.
-use Rattle.std.proofs.Common.{◌≡◌, ℕ, ◌+◌, ◌-◌, ◌<◌, ◌≤◌, Bool, true, false, List, [], ◌∷◌, ◌++◌, length, map, take, replicate, nat_lt, Ok, Err, refl, sym, ap, ◌∙◌, zero-add, arith, inl, inr, All}
+use Rattle.std.proofs.Common.{◌≡◌, ℕ, ◌+◌, ◌-◌, ◌<◌, ◌≤◌, Bool, true, List, [], ◌∷◌, ◌++◌, length, take, replicate, nat_lt, ◌==◌, Option, Some, None, Ok, Err, refl, ◌∙◌, zero-add, arith, inl, inr, All}
 use Rattle.std.proofs.lemmas.Bool.{cases_Bool, ltb-false}
 use Rattle.std.proofs.lemmas.List.{length_push, length-append, length-replicate, take_all}
 use Rattle.std.proofs.lemmas.List.Elements.{All-push, All-nil, All-append, All-replicate, All-weaker}
-use Rattle.toml.specs.Data.{Members}
+use Rattle.std.specs.List.{list_any}
+use Rattle.std.proofs.lemmas.List.FromFn.{length-map-range_with_len}
+use Rattle.toml.specs.Data.{Data, Members}
+use Rattle.hg_machine.specs.Policy.{Tenant}
 use Rattle.hg_policy.specs.declared.key.Key.TheVariants as key
 use Rattle.hg_policy.specs.declared.key.Counted.TheVariants as counted
 use Rattle.hg_policy.specs.declared.key.Level.TheVariants as level
-use Rattle.hg_policy.specs.Faults.{Read, ◌>>=◌, in_turn, repeated, too_many}
-use Rattle.hg_policy.specs.Values.{known_keys, whole_at}
+use Rattle.hg_policy.specs.Faults.{repeated, too_many}
+use Rattle.hg_policy.specs.Values.{field_at, known_keys, whole_at, or_else}
 use Rattle.hg_policy.specs.NameForm.{name_at, is_among}
-use Rattle.hg_policy.specs.Arenas.{Arenas, no_arenas, and_arena, with_arena, admitted_at, arena_at, arenas_in}
+use Rattle.hg_policy.specs.Arenas.{Arenas, no_arenas, and_arena, with_arena, members_in, just, admitted_in, admitted_at, arena_at, arenas_in}
 use Rattle.hg_policy.proofs.Chains.{bind_at, in_turn-keeps, in_turn-counts}
 
 -- the items of a list that is made longer
@@ -36,21 +39,30 @@ with_arena-is done out name segments admitted e =
       ]
     ]
 
-admitted_at-row : (tenants : ℕ) (row : Members) (admitted : List Bool) → admitted_at tenants row ≡ Ok admitted → length admitted ≡ tenants
-admitted_at-row tenants row admitted e =
-    let f : replicate tenants true ≡ admitted = cc in
-    rw (← f) (length-replicate tenants true)
+admitted_else-row : (tenants : List Tenant) (value : Option Data) (admitted : List Bool) → or_else (replicate (length tenants) true) (admitted_in tenants) value ≡ Ok admitted → length admitted ≡ length tenants
+admitted_else-row tenants None admitted e =
+    let f : replicate (length tenants) true ≡ admitted = cc in
+    rw (← f) (length-replicate (length tenants) true)
+admitted_else-row tenants (Some value) admitted e =
+    let (members, at, rest) = bind_at (members_in tenants value) (λ members. Ok (just (length tenants) members)) admitted e in
+    let f : just (length tenants) members ≡ admitted = cc in
+    rw (← f) (length-map-range_with_len (λ tenant. list_any (λ member. member == tenant) members) 0 (length tenants))
+
+-- a row of whom an arena admits has an entry for each tenant
+admitted_at-row : (tenants : List Tenant) (row : Members) (admitted : List Bool) → admitted_at tenants row ≡ Ok admitted → length admitted ≡ length tenants
+unfolding admitted_at
+admitted_at-row tenants row admitted e = admitted_else-row tenants (field_at key.Exclusive row) admitted e
 
 -- one more arena, after those before
-record IsNext (tenants : ℕ) (done out : Arenas) : Type 0 where
+record IsNext (tenants : List Tenant) (done out : Arenas) : Type 0 where
   name : List ℕ
   segments : ℕ
   admitted : List Bool
   is : out ≡ and_arena done name segments admitted
   fits : length done.segments + segments ≤ 64
-  row : length admitted ≡ tenants
+  row : length admitted ≡ length tenants
 
-arena_at-is : (tenants : ℕ) (done : Arenas) (row : Members) (out : Arenas) → arena_at tenants done row ≡ Ok out → IsNext tenants done out
+arena_at-is : (tenants : List Tenant) (done : Arenas) (row : Members) (out : Arenas) → arena_at tenants done row ≡ Ok out → IsNext tenants done out
 unfolding arena_at
 arena_at-is tenants done row out e =
     let (known, at1, e1) = bind_at (known_keys level.Arena row) _ out e in
@@ -60,34 +72,34 @@ arena_at-is tenants done row out e =
     let w = with_arena-is done out name segments admitted e4 in
     record { name = name; segments = segments; admitted = admitted; is = w.0; fits = w.1; row = admitted_at-row tenants row admitted at4 }
 
-pub arena_at-one : (tenants : ℕ) (done : Arenas) (row : Members) (out : Arenas) → arena_at tenants done row ≡ Ok out → length out.names ≡ length done.names + 1
+pub arena_at-one : (tenants : List Tenant) (done : Arenas) (row : Members) (out : Arenas) → arena_at tenants done row ≡ Ok out → length out.names ≡ length done.names + 1
 arena_at-one tenants done row out e =
     let n = arena_at-is tenants done row out e in
     rw n.is (length_push done.names n.name)
 
-arena_at-keeps : (tenants : ℕ) (done : Arenas) (row : Members) (out : Arenas) → arena_at tenants done row ≡ Ok out → IsArenas tenants done → IsArenas tenants out
+arena_at-keeps : (tenants : List Tenant) (done : Arenas) (row : Members) (out : Arenas) → arena_at tenants done row ≡ Ok out → IsArenas (length tenants) done → IsArenas (length tenants) out
 arena_at-keeps tenants done row out e kept =
     let n = arena_at-is tenants done row out e in
     let more : length (done.names ++ n.name ∷ []) ≡ length done.names + 1 = length_push done.names n.name in
     rw n.is record {
       each = omega (arith, more, length_push done.admitted n.admitted, kept.each);
-      rows = All-push (λ (row : List Bool). length row ≡ tenants) done.admitted n.admitted kept.rows n.row;
+      rows = All-push (λ (row : List Bool). length row ≡ length tenants) done.admitted n.admitted kept.rows n.row;
       in_arenas = All-append (λ arena. arena < length (done.names ++ n.name ∷ [])) done.segments (replicate n.segments (length done.names))
           (All-weaker (λ arena. arena < length done.names) (λ arena. arena < length (done.names ++ n.name ∷ [])) (λ arena h. omega (arith, more, h)) done.segments kept.in_arenas)
           (All-replicate (λ arena. arena < length (done.names ++ n.name ∷ [])) n.segments (length done.names) (omega (arith, more)));
       few = omega (arith, length-append done.segments (replicate n.segments (length done.names)), length-replicate n.segments (length done.names), n.fits);
     }
 
-pub arenas_in-length : (tenants : ℕ) (rows : List Members) (out : Arenas) → arenas_in tenants rows ≡ Ok out → length out.names ≡ length rows
+pub arenas_in-length : (tenants : List Tenant) (rows : List Members) (out : Arenas) → arenas_in tenants rows ≡ Ok out → length out.names ≡ length rows
 unfolding arenas_in
 arenas_in-length tenants rows out e = in_turn-counts (arena_at tenants) (λ arenas. length arenas.names) (arena_at-one tenants) no_arenas rows out e ∙ zero-add (length rows)
 
-pub arenas_in-holds : (tenants : ℕ) (rows : List Members) (out : Arenas) → arenas_in tenants rows ≡ Ok out → IsArenas tenants out
+pub arenas_in-holds : (tenants : List Tenant) (rows : List Members) (out : Arenas) → arenas_in tenants rows ≡ Ok out → IsArenas (length tenants) out
 unfolding arenas_in
 arenas_in-holds tenants rows out e =
-    in_turn-keeps (arena_at tenants) (IsArenas tenants) (arena_at-keeps tenants) no_arenas rows out e record {
+    in_turn-keeps (arena_at tenants) (IsArenas (length tenants)) (arena_at-keeps tenants) no_arenas rows out e record {
       each = refl;
-      rows = All-nil (λ (row : List Bool). length row ≡ tenants);
+      rows = All-nil (λ (row : List Bool). length row ≡ length tenants);
       in_arenas = All-nil (λ arena. arena < 0);
       few = omega arith;
     }

@@ -1,6 +1,6 @@
 -- What was read before, where a whole chain was read.
-use Rattle.std.proofs.Common.{◌≡◌, ℕ, ◌+◌, List, [], ◌∷◌, length, Ok, Err, refl, sym, ap, ◌∙◌, arith, add-zero}
-use Rattle.hg_policy.specs.Faults.{Read, ◌>>=◌, in_turn}
+use Rattle.std.proofs.Common.{◌≡◌, ℕ, ◌+◌, List, [], ◌∷◌, length, Option, Some, None, Ok, Err, refl, sym, arith, add-zero}
+use Rattle.hg_policy.specs.Faults.{Fault, Read, ◌>>=◌, in_turn, FailsAs}
 
 pub bind_at : {A B : Type 0} (r : Read A) (next : A → Read B) (y : B) → (r >>= next) ≡ Ok y → (x : A) × (r ≡ Ok x) × (next x ≡ Ok y)
 bind_at (Ok x) next y e = (x, refl, e)
@@ -22,3 +22,8 @@ module _ {A X : Type 0} (step : A → X → Read A) where
   in_turn-counts count one done (x ∷ xs) out e =
       let (next, at, rest) = bind_at (step done x) (λ next. in_turn step next xs) out e in
       omega (arith, in_turn-counts count one next xs out rest, one done x next at)
+
+-- a fault before what is next
+pub bind-fails : {A B : Type 0} (o : Option Fault) (r : Read A) (next : A → Read B) → FailsAs o r → FailsAs o (r >>= next)
+bind-fails None r next e = tt
+bind-fails (Some f) r next e = rw e refl

@@ -7,3 +7,5 @@ pub mod Wholes
 pub mod TenantRows
 pub mod ArenaRows
 pub mod Sound
+pub mod GrantRows
+pub mod GrantTable

@@ -1,5 +1,5 @@
 -- Names in a map and in the list that it stands for.
-use Rattle.std.proofs.Common.{◌≡◌, ℕ, Bool, true, false, List, [], ◌∷◌, not, map, length, Option, Some, None, is_some, string_bytes, refl, sym, ap, ◌∙◌}
+use Rattle.std.proofs.Common.{◌≡◌, ℕ, Bool, false, List, [], ◌∷◌, not, map, length, Option, Some, None, is_some, string_bytes, suc, refl, sym, ap, ◌∙◌}
 use Rattle.std.specs.Str.{bytes_eq}
 use Rattle.std.specs.Map.{keys_of, lookup}
 use Rattle.std.specs.List.{prefix_len, position, list_any}
@@ -47,3 +47,7 @@ names-tenants (one ∷ named) = ap (λ names. string_bytes one.0 ∷ names) (nam
 pub none_from : {A : Type 0} (o : Option A) → is_some o ≡ false → o ≡ None
 none_from None h = refl
 none_from (Some x) h = absurd (true≢false h)
+
+pub length-tenants : (named : Named ℕ) → length (tenants_of named) ≡ length named
+length-tenants [] = refl
+length-tenants (one ∷ named) = ap suc (length-tenants named)

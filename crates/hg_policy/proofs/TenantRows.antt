@@ -1,15 +1,14 @@
 -- What holds of the tenants that are read.
-use Rattle.std.proofs.Common.{◌≡◌, ℕ, ◌+◌, ◌<◌, ◌≤◌, ◌^◌, true, false, List, [], ◌∷◌, ◌++◌, length, map, Ok, Err, refl, ◌∙◌, zero-add, arith, inl, inr, nat_le, ◌&&◌, All}
+use Rattle.std.proofs.Common.{◌≡◌, ℕ, ◌<◌, ◌^◌, List, [], ◌∷◌, ◌++◌, length, Ok, Err, ◌∙◌, zero-add, arith, inl, inr, All}
 use Rattle.std.proofs.lemmas.Bool.{cases_Bool}
 use Rattle.std.proofs.lemmas.List.{length_push}
 use Rattle.std.proofs.lemmas.List.Elements.{All-push, All-nil}
 use Rattle.toml.specs.Data.{Members}
 use Rattle.hg_machine.specs.Policy.{Tenant}
-use Rattle.hg_policy.specs.declared.key.Key.{Key}
 use Rattle.hg_policy.specs.declared.key.Key.TheVariants as key
 use Rattle.hg_policy.specs.declared.key.Level.TheVariants as level
-use Rattle.hg_policy.specs.Faults.{Read, ◌>>=◌, in_turn, repeated, kind}
-use Rattle.hg_policy.specs.Values.{known_keys, whole_at, whole_in, member_at}
+use Rattle.hg_policy.specs.Faults.{repeated}
+use Rattle.hg_policy.specs.Values.{known_keys, whole_at}
 use Rattle.hg_policy.specs.NameForm.{name_at, is_among}
 use Rattle.hg_policy.specs.Tenants.{with_tenant, tenant_at, tenants_in, tenant_names}
 use Rattle.hg_policy.proofs.Chains.{bind_at, in_turn-keeps, in_turn-counts}

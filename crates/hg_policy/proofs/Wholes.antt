@@ -1,14 +1,13 @@
 -- The range of a whole number that is read.
-use Rattle.std.proofs.Common.{◌≡◌, ℕ, ◌≤◌, pos, negsuc, true, false, Ok, Err, refl, inl, inr, nat_le, nat_lt, ◌&&◌, arith}
+use Rattle.std.proofs.Common.{◌≡◌, ℕ, ◌≤◌, ◌<◌, ◌^◌, Option, Some, None, pos, negsuc, Ok, Err, inl, inr, nat_le, nat_lt, ◌&&◌, arith}
 use Rattle.std.proofs.lemmas.Bool.{cases_Bool, and_parts}
-use Rattle.std.proofs.lemmas.Bool.Decides.{nat_tests}
 use Rattle.toml.specs.Data.{Data, Members, string, integer, float, boolean, datetime, array, table}
 use Rattle.hg_policy.specs.declared.key.Key.{Key}
-use Rattle.hg_policy.specs.Faults.{Read, ◌>>=◌, kind, too_many}
-use Rattle.hg_policy.specs.Values.{whole_at, whole_in, member_at}
+use Rattle.hg_policy.specs.Faults.{kind, too_many}
+use Rattle.hg_policy.specs.Values.{field_at, whole_at, whole_in, member_at, or_else}
 use Rattle.hg_policy.specs.declared.key.Key.TheVariants as key
 use Rattle.hg_policy.specs.declared.key.Counted.TheVariants as counted
-use Rattle.hg_policy.specs.Document.{workers_at, workers_in}
+use Rattle.hg_policy.specs.Document.{workers_at, workers_in, max_generation_at}
 use Rattle.hg_policy.proofs.Chains.{bind_at}
 use Rattle.std.proofs.lemmas.Bool.{leb-true, ltb-false}
 
@@ -41,10 +40,20 @@ unfolding workers_at
 workers_at-range members n e =
     let (m, at, rest) = bind_at (whole_at key.Workers 1 9223372036854775807 members) workers_in n e in
     let range = whole_at-range key.Workers 1 9223372036854775807 members m at in
-    elim (cases_Bool (nat_lt 1 m)) [
+    elim (cases_Bool (nat_lt 16 m)) [
       | inl over ↦ let f : Err (too_many counted.Workers) ≡ Ok n = rw over at rest in cc
       | inr fits ↦
           let f : Ok m ≡ Ok n = rw fits at rest in
           let same : m ≡ n = cc in
-          rw (← same) (range.0, omega (arith, ltb-false 1 m fits))
+          rw (← same) (range.0, omega (arith, ltb-false 16 m fits))
     ]
+
+or_else-range : (value : Option Data) (n : ℕ) → or_else 4294967295 (whole_in key.MaxGeneration 1 4294967295) value ≡ Ok n → (1 ≤ n) × (n ≤ 4294967295)
+or_else-range None n e = let same : 4294967295 ≡ n = cc in rw (← same) (omega arith, omega arith)
+or_else-range (Some d) n e = whole_in-range key.MaxGeneration 1 4294967295 d n e
+
+pub max_generation_at-range : (members : Members) (n : ℕ) → max_generation_at members ≡ Ok n → (1 ≤ n) × (n < 2 ^ 32)
+unfolding max_generation_at
+max_generation_at-range members n e =
+    let range = or_else-range (field_at key.MaxGeneration members) n e in
+    (range.0, omega (arith, range.1))

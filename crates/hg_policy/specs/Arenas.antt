@@ -1,12 +1,15 @@
 -- The rows of arenas.
 use Rattle.std.specs.Prelude.{ℕ, ◌+◌, Bool, true, List, [], ◌∷◌, ◌++◌, length, replicate}
-use Rattle.std.specs.Prelude.{Ok, Err, nat_lt, if◌then◌else◌}
-use Rattle.toml.specs.Data.{Members}
+use Rattle.std.specs.Prelude.{◌==◌, map, Ok, Err, nat_lt, if◌then◌else◌}
+use Rattle.std.specs.List.{list_any, range_with_len}
+use Rattle.toml.specs.Data.{Data, Members}
+use Rattle.hg_machine.specs.Policy.{Tenant}
 use Rattle.hg_policy.specs.declared.key.Key.TheVariants as key
 use Rattle.hg_policy.specs.declared.key.Counted.TheVariants as counted
 use Rattle.hg_policy.specs.declared.key.Level.TheVariants as level
 use Rattle.hg_policy.specs.Faults.{Read, ◌>>=◌, in_turn, repeated, too_many}
-use Rattle.hg_policy.specs.Values.{known_keys, whole_at}
+use Rattle.hg_policy.specs.Values.{field_at, known_keys, whole_at, elements_in, or_else}
+use Rattle.hg_policy.specs.Tenants.{number_in}
 use Rattle.hg_policy.specs.NameForm.{name_at, is_among}
 
 -- by arena its name and which tenants it admits, and by segment its arena
@@ -33,11 +36,30 @@ with_arena done name segments admitted =
     (if nat_lt 64 (length done.segments + segments) then Err (too_many counted.Segments)
     else Ok (and_arena done name segments admitted))
 
--- an arena is open to all tenants
-abbrev pub admitted_at : ℕ → Members → Read (List Bool)
-admitted_at tenants row = Ok (replicate tenants true)
+-- one more tenant that is named
+abbrev pub with_member : List Tenant → List ℕ → Data → Read (List ℕ)
+with_member tenants done value =
+    number_in key.Exclusive tenants value >>= λ tenant. Ok (done ++ tenant ∷ [])
 
-unfoldable pub arena_at : ℕ → Arenas → Members → Read Arenas
+unfoldable pub members_in : List Tenant → Data → Read (List ℕ)
+members_in tenants value =
+    elements_in key.Exclusive value >>= λ names. in_turn (with_member tenants) [] names
+
+-- just these of so many tenants
+abbrev pub just : ℕ → List ℕ → List Bool
+just tenants members =
+    map (λ tenant. list_any (λ member. member == tenant) members) (range_with_len 0 tenants)
+
+abbrev pub admitted_in : List Tenant → Data → Read (List Bool)
+admitted_in tenants value =
+    members_in tenants value >>= λ members. Ok (just (length tenants) members)
+
+-- an arena is open to all tenants, or admits just those that are named
+unfoldable pub admitted_at : List Tenant → Members → Read (List Bool)
+admitted_at tenants row =
+    or_else (replicate (length tenants) true) (admitted_in tenants) (field_at key.Exclusive row)
+
+unfoldable pub arena_at : List Tenant → Arenas → Members → Read Arenas
 arena_at tenants done row = do
   known ← known_keys level.Arena row
   name ← name_at key.Name row
@@ -45,5 +67,5 @@ arena_at tenants done row = do
   admitted ← admitted_at tenants row
   with_arena done name segments admitted
 
-unfoldable pub arenas_in : ℕ → List Members → Read Arenas
+unfoldable pub arenas_in : List Tenant → List Members → Read Arenas
 arenas_in tenants rows = in_turn (arena_at tenants) no_arenas rows

@@ -13,6 +13,7 @@ pub data Fault : Type 0 where
   kind : Key → Fault
   unknown : List ℕ → Fault
   repeated : List ℕ → Fault
+  no_such_name : List ℕ → Fault
   too_many : Counted → Fault
   version : Fault
 
@@ -42,6 +43,7 @@ fault_of (fault.Missing key) = Some (missing key)
 fault_of (fault.Kind key) = Some (kind key)
 fault_of (fault.Unknown key) = Some (unknown (string_bytes key))
 fault_of (fault.Repeated name) = Some (repeated (string_bytes name))
+fault_of (fault.NoSuchName name) = Some (no_such_name (string_bytes name))
 fault_of (fault.TooMany counted) = Some (too_many counted)
 fault_of fault.Version = Some version
 fault_of fault.Memory = None

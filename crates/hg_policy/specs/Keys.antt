@@ -9,11 +9,17 @@ use Rattle.hg_policy.specs.declared.key.Counted.TheVariants as counted
 abbrev pub key_text : Key → List ℕ
 key_text key.Version = codes "version"
 key_text key.Workers = codes "workers"
+key_text key.MaxGeneration = codes "max_generation"
 key_text key.Tenant = codes "tenant"
 key_text key.Arena = codes "arena"
+key_text key.Grant = codes "grant"
 key_text key.Name = codes "name"
 key_text key.Limit = codes "limit"
 key_text key.Segments = codes "segments"
+key_text key.Exclusive = codes "exclusive"
+key_text key.Owner = codes "owner"
+key_text key.To = codes "to"
+key_text key.Rights = codes "rights"
 
 -- the word for what is counted
 abbrev pub counted_text : Counted → List ℕ

@@ -8,4 +8,5 @@ pub mod NameForm
 pub mod Tenants
 pub mod Arenas
 pub mod Grants
+pub mod Granted
 pub mod Document

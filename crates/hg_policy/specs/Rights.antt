@@ -1,5 +1,5 @@
 -- Sets of rights as bits.
-use Rattle.std.specs.Prelude.{ℕ, ◌==◌, Bool, List, [], ◌∷◌, codes}
+use Rattle.std.specs.Prelude.{ℕ, ◌==◌, Bool, true, List, [], ◌∷◌, codes}
 use Rattle.std.specs.Int.RustNames.{bit_and}
 use Rattle.hg_place.specs.declared.Right.{Right}
 use Rattle.hg_place.specs.declared.Right.TheVariants as right
@@ -18,6 +18,9 @@ bit_of right.Write = 2
 bit_of right.List = 4
 bit_of right.Free = 8
 
+abbrev pub is_same : Right → Right → Bool
+is_same a b = bit_of a == bit_of b
+
 abbrev pub has_bit : Rights → Right → Bool
 has_bit rights right = bit_and rights.0 (bit_of right) == bit_of right
 
@@ -29,3 +32,13 @@ rights_of rights = record {
   list = has_bit rights right.List;
   free = has_bit rights right.Free;
 }
+
+abbrev pub all_rights : meaning.Rights
+all_rights = record { read = true; write = true; list = true; free = true }
+
+-- one right more
+abbrev pub and_right : meaning.Rights → Right → meaning.Rights
+and_right rights right.Read = record rights { read = true }
+and_right rights right.Write = record rights { write = true }
+and_right rights right.List = record rights { list = true }
+and_right rights right.Free = record rights { free = true }

@@ -1,11 +1,15 @@
 -- The rows of tenants.
 use Rattle.std.specs.Prelude.{ℕ, List, [], ◌∷◌, ◌++◌, map, Ok, Err, if◌then◌else◌}
-use Rattle.toml.specs.Data.{Members}
+use Rattle.std.specs.Prelude.{position}
+use Rattle.std.specs.Str.{bytes_eq}
+use Rattle.toml.specs.Data.{Data, Members, string}
 use Rattle.hg_machine.specs.Policy.{Tenant}
+use Rattle.hg_policy.specs.declared.key.Key.{Key}
 use Rattle.hg_policy.specs.declared.key.Key.TheVariants as key
 use Rattle.hg_policy.specs.declared.key.Level.TheVariants as level
-use Rattle.hg_policy.specs.Faults.{Read, ◌>>=◌, in_turn, repeated}
-use Rattle.hg_policy.specs.Values.{known_keys, whole_at}
+use Rattle.hg_policy.specs.Faults.{Read, ◌>>=◌, in_turn, or_fault, kind, repeated}
+use Rattle.hg_policy.specs.Faults.{no_such_name}
+use Rattle.hg_policy.specs.Values.{member_at, known_keys, whole_at}
 use Rattle.hg_policy.specs.NameForm.{name_at, is_among}
 
 abbrev pub tenant_names : List Tenant → List (List ℕ)
@@ -26,3 +30,12 @@ tenant_at done row = do
 
 unfoldable pub tenants_in : List Members → Read (List Tenant)
 tenants_in rows = in_turn tenant_at [] rows
+
+-- the number of the tenant that a text names
+abbrev pub number_in : Key → List Tenant → Data → Read ℕ
+number_in key tenants (string text) =
+    or_fault (no_such_name text) (position (λ tenant. bytes_eq text tenant.name) tenants)
+number_in key tenants _ = Err (kind key)
+
+unfoldable pub number_at : Key → List Tenant → Members → Read ℕ
+number_at key tenants row = member_at key row >>= number_in key tenants

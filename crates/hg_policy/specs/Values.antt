@@ -17,6 +17,11 @@ field_at key members = get_member (key_text key) members
 unfoldable pub member_at : Key → Members → Read Data
 member_at key members = or_fault (missing key) (field_at key members)
 
+-- what stands at a key that may be left out
+abbrev pub or_else : {A : Type 0} → A → (Data → Read A) → Option Data → Read A
+or_else plain read None = Ok plain
+or_else plain read (Some value) = read value
+
 -- a whole number in a range
 abbrev pub whole_in : Key → ℕ → ℕ → Data → Read ℕ
 whole_in key low high (integer (pos n)) =
@@ -30,9 +35,14 @@ whole_at key low high members = member_at key members >>= whole_in key low high
 abbrev pub knows : Level → List ℕ → Bool
 knows level.Top key =
     bytes_eq key (codes "version") || (bytes_eq key (codes "workers")
-    || (bytes_eq key (codes "tenant") || bytes_eq key (codes "arena")))
+    || (bytes_eq key (codes "max_generation") || (bytes_eq key (codes "tenant")
+    || (bytes_eq key (codes "arena") || bytes_eq key (codes "grant")))))
 knows level.Tenant key = bytes_eq key (codes "name") || bytes_eq key (codes "limit")
-knows level.Arena key = bytes_eq key (codes "name") || bytes_eq key (codes "segments")
+knows level.Arena key =
+    bytes_eq key (codes "name") || (bytes_eq key (codes "segments")
+    || bytes_eq key (codes "exclusive"))
+knows level.Grant key =
+    bytes_eq key (codes "owner") || (bytes_eq key (codes "to") || bytes_eq key (codes "rights"))
 
 -- the first key that it may not have, as keys stand in byte order
 unfoldable pub first_unknown : Level → Members → Option (List ℕ)
@@ -52,15 +62,18 @@ abbrev pub elements : Items → List Data
 elements no_items = []
 elements (item value rest) = value ∷ elements rest
 
+abbrev pub elements_in : Key → Data → Read (List Data)
+elements_in key (array items) = Ok (elements items)
+elements_in key _ = Err (kind key)
+
 -- one more table
 abbrev pub with_table : Key → List Members → Data → Read (List Members)
 with_table key done (table members) = Ok (done ++ members ∷ [])
 with_table key done _ = Err (kind key)
 
 -- the rows of an array of tables
-abbrev pub rows_in : Key → Data → Read (List Members)
-rows_in key (array items) = in_turn (with_table key) [] (elements items)
-rows_in key _ = Err (kind key)
+unfoldable pub rows_in : Key → Data → Read (List Members)
+rows_in key value = elements_in key value >>= λ rows. in_turn (with_table key) [] rows
 
 abbrev pub at_most : ℕ → Counted → List Members → Read (List Members)
 at_most most counted rows = if nat_lt most (length rows) then Err (too_many counted) else Ok rows

@@ -1,17 +1,18 @@
 //! The rows of arenas.
 
-ghost use Rattle.std.specs.Prelude.{◌≡◌, ◌≤◌, ◌<◌, ◌^◌, true, length, map, replicate, IfOk};
+ghost use Rattle.std.specs.Prelude.{◌≡◌, ◌≤◌, ◌<◌, ◌^◌, length, map};
 ghost use Rattle.toml.specs.View.{table_view};
 ghost use Rattle.hg_policy.specs.Faults.{Gives};
-ghost use Rattle.hg_policy.specs.Kept.{arenas_of};
+ghost use Rattle.hg_policy.specs.Kept.{tenants_of, arenas_of};
 ghost use Rattle.hg_policy.specs.Arenas.{with_arena, arena_at, arenas_in};
 
+use crate::exclusive::admitted;
 use crate::fault::PolicyFault;
 use crate::key::{Counted, Key, Level};
 use crate::name_form::name;
 use crate::values::{known, whole};
 use indexmap::IndexMap;
-use std::alloc::{AllocError, Global};
+use std::alloc::Global;
 use toml::Table;
 
 /// By arena its name and which tenants it admits, and by segment its arena.
@@ -21,14 +22,16 @@ pub(crate) struct ArenaTables {
     pub(crate) segments: Vec<u8>,
 }
 
-/// The arenas in the order of their rows, for so many tenants.
+/// The arenas in the order of their rows.
 pub(crate) fn arenas(
     alloc: Global,
-    tenants: usize,
+    tenants: &IndexMap<String, u32>,
     rows: &[&Table],
 ) -> Result<ArenaTables, PolicyFault>
-    requires { length rows.now ≤ 16 }
-    ensures { Gives arenas_of result (arenas_in tenants (map (λ r. table_view r.now) rows.now)) }
+    requires few_tenants { length tenants.now.entries ≤ 64 }
+    requires few_rows { length rows.now ≤ 16 }
+    ensures { Gives arenas_of result
+        (arenas_in (tenants_of tenants.now.entries) (map (λ row. table_view row.now) rows.now)) }
 {
     let mut arenas = ArenaTables {
         named: IndexMap::with_capacity(alloc, rows.len())?,
@@ -43,25 +46,20 @@ pub(crate) fn arenas(
 #[tactic(auto, unfolding(crate::specs::Arenas::arena_at))]
 fn arena(
     alloc: Global,
-    tenants: usize,
+    tenants: &IndexMap<String, u32>,
     arenas: &mut ArenaTables,
     row: &Table,
 ) -> Result<(), PolicyFault>
-    requires { length arenas.old.named.entries < 256 }
+    requires few_tenants { length tenants.now.entries ≤ 64 }
+    requires few { length arenas.old.named.entries < 256 }
     ensures { Gives (λ _. arenas_of arenas.new) result
-        (arena_at tenants (arenas_of arenas.old) (table_view row.now)) }
+        (arena_at (tenants_of tenants.now.entries) (arenas_of arenas.old) (table_view row.now)) }
 {
     known(alloc, Level::Arena, row)?;
     let name = name(row, Key::Name)?;
     let segments = whole(row, Key::Segments, 0, 9_223_372_036_854_775_807)?;
-    let admitted = all_tenants(alloc, tenants)?;
+    let admitted = admitted(alloc, tenants, row)?;
     add_arena(alloc, arenas, name, segments, admitted)
-}
-
-fn all_tenants(alloc: Global, tenants: usize) -> Result<Vec<bool>, AllocError>
-    ensures { IfOk result (λ admitted. admitted.items ≡ replicate tenants true) }
-{
-    vec![in alloc; true; tenants]
 }
 
 fn add_arena(

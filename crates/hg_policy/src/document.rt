@@ -1,17 +1,19 @@
 //! The policy document.
 
-ghost use Rattle.std.specs.Prelude.{◌≡◌, ◌≤◌, true, IfOk};
+ghost use Rattle.std.specs.Prelude.{◌≡◌, map, true};
 ghost use Rattle.toml.specs.View.{table_view};
 ghost use Rattle.hg_policy.specs.Faults.{Gives, or_fault, not_toml};
 ghost use Rattle.hg_policy.specs.Document.{version_at, workers_at, policy_at, tree_of, document_of};
+ghost use Rattle.hg_policy.specs.Document.{max_generation_at, grant_rows_at};
 
 use crate::arenas::arenas;
 use crate::fault::PolicyFault;
-use crate::grants::granted;
+use crate::granted::granted;
+use crate::grants::grants;
 use crate::key::{Counted, Key, Level};
 use crate::policy::Policy;
 use crate::tenants::tenants;
-use crate::values::{known, member, rows, whole};
+use crate::values::{field, known, member, rows, tables, whole, whole_in};
 use std::alloc::Global;
 use toml::Table;
 
@@ -46,14 +48,17 @@ fn policy(alloc: Global, table: &Table) -> Result<Policy, PolicyFault>
     version(table)?;
     known(alloc, Level::Top, table)?;
     let workers = workers(table)?;
+    let max_generation = max_generation(table)?;
     let tenant_rows = rows(alloc, table, Key::Tenant, Counted::Tenants, 64)?;
     let arena_rows = rows(alloc, table, Key::Arena, Counted::Arenas, 16)?;
+    let grant_rows = grant_rows(alloc, table)?;
     let tenants = tenants(alloc, tenant_rows.as_slice())?;
-    let arenas = arenas(alloc, tenants.len(), arena_rows.as_slice())?;
-    let granted = granted(alloc, tenants.len())?;
+    let arenas = arenas(alloc, &tenants, arena_rows.as_slice())?;
+    let grants = grants(alloc, &tenants, grant_rows.as_slice())?;
+    let granted = granted(alloc, tenants.len(), grants.as_slice())?;
     Ok(Policy {
         workers,
-        max_generation: 4_294_967_295,
+        max_generation,
         tenants,
         arenas: arenas.named,
         segments: arenas.segments,
@@ -78,8 +83,29 @@ fn workers(table: &Table) -> Result<u8, PolicyFault>
     ensures { Gives (λ n. n) result (workers_at (table_view table.now)) }
 {
     let n = whole(table, Key::Workers, 1, 9_223_372_036_854_775_807)?;
-    if n > 1 {
+    if n > 16 {
         return Err(PolicyFault::TooMany(Counted::Workers));
     }
     Ok(n as u8)
+}
+
+#[tactic(auto, unfolding(crate::specs::Document::max_generation_at))]
+fn max_generation(table: &Table) -> Result<u32, PolicyFault>
+    ensures { Gives (λ n. n) result (max_generation_at (table_view table.now)) }
+{
+    match field(table, Key::MaxGeneration) {
+        Some(value) => Ok(whole_in(value, Key::MaxGeneration, 1, 4_294_967_295)? as u32),
+        None => Ok(4_294_967_295),
+    }
+}
+
+#[tactic(auto, unfolding(crate::specs::Document::grant_rows_at))]
+fn grant_rows<'a>(alloc: Global, table: &'a Table) -> Result<Vec<&'a Table>, PolicyFault>
+    ensures { Gives (λ rows. map (λ row. table_view row.now) rows.items) result
+        (grant_rows_at (table_view table.now)) }
+{
+    match field(table, Key::Grant) {
+        Some(value) => tables(alloc, value, Key::Grant),
+        None => Ok(Vec::new(alloc)),
+    }
 }

@@ -22,6 +22,9 @@ pub enum PolicyFault {
     /// The name of an earlier tenant, or of an earlier arena.
     #[error("policy fault 5: repeated {0}")]
     Repeated(String),
+    /// A text that is no tenant's name.
+    #[error("policy fault 6: no such name {0}")]
+    NoSuchName(String),
     #[error("policy fault 7: too many {0}")]
     TooMany(Counted),
     #[error("policy fault 8: version")]

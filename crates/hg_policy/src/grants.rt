@@ -1,41 +1,88 @@
-//! Rights by owner and actor.
+//! The rows of grants.
 
-ghost use Rattle.std.specs.Prelude.{◌≡◌, map, IfOk};
-ghost use Rattle.hg_policy.specs.Kept.{granted_of};
-ghost use Rattle.hg_policy.specs.Rights.{rights_of};
-ghost use Rattle.hg_policy.specs.Grants.{rights_on, granted_on, granted_among};
+ghost use Rattle.std.specs.Prelude.{◌≡◌, ◌≤◌, length, map};
+ghost use Rattle.toml.specs.View.{view, table_view};
+ghost use Rattle.hg_policy.specs.Faults.{Gives, in_turn};
+ghost use Rattle.hg_policy.specs.Kept.{tenants_of};
+ghost use Rattle.hg_policy.specs.Grants.{right_in, with_right, grant_at, grants_in};
 
-use crate::rights::Rights;
-use std::alloc::{AllocError, Global};
+use crate::fault::PolicyFault;
+use crate::key::{Key, Level};
+use crate::tenants::number;
+use crate::values::{elements, known, member};
+use hg_place::Right;
+use indexmap::IndexMap;
+use std::alloc::Global;
+use toml::{Table, Value};
 
-/// The rights of so many tenants: all on one's own blocks, and none on another's.
-pub(crate) fn granted(alloc: Global, tenants: usize) -> Result<Vec<Vec<Rights>>, AllocError>
-    ensures { IfOk result (λ granted. granted_of granted.items ≡ granted_among tenants) }
-{
-    let mut granted = Vec::with_capacity(alloc, tenants)?;
-    for owner in 0..tenants {
-        granted.push(granted_on(alloc, tenants, owner)?)?;
-    }
-    Ok(granted)
+/// One right on an owner's blocks, for another tenant.
+#[derive(Clone, Copy, Debug, PartialEq, Eq)]
+pub(crate) struct Grant {
+    pub(crate) owner: u8,
+    pub(crate) to: u8,
+    pub(crate) right: Right,
 }
 
-/// The rights of each tenant on the blocks of an owner.
-fn granted_on(alloc: Global, tenants: usize, owner: usize) -> Result<Vec<Rights>, AllocError>
-    ensures { IfOk result (λ row. map rights_of row.items ≡ granted_on tenants owner) }
+/// The grants in the order of their rows.
+pub(crate) fn grants(
+    alloc: Global,
+    tenants: &IndexMap<String, u32>,
+    rows: &[&Table],
+) -> Result<Vec<Grant>, PolicyFault>
+    requires { length tenants.now.entries ≤ 64 }
+    ensures { Gives (λ grants. grants.items) result
+        (grants_in (tenants_of tenants.now.entries) (map (λ row. table_view row.now) rows.now)) }
 {
-    let mut row = Vec::with_capacity(alloc, tenants)?;
-    for actor in 0..tenants {
-        row.push(rights_on(owner, actor))?;
+    let mut grants = Vec::with_capacity(alloc, rows.len())?;
+    for row in rows {
+        add_row(alloc, tenants, &mut grants, *row)?;
     }
-    Ok(row)
+    Ok(grants)
 }
 
-fn rights_on(owner: usize, actor: usize) -> Rights
-    ensures { rights_of result ≡ rights_on owner actor }
+#[tactic(auto, unfolding(crate::specs::Grants::grant_at))]
+fn add_row(
+    alloc: Global,
+    tenants: &IndexMap<String, u32>,
+    grants: &mut Vec<Grant>,
+    row: &Table,
+) -> Result<(), PolicyFault>
+    requires { length tenants.now.entries ≤ 64 }
+    ensures { Gives (λ _. grants.new.items) result
+        (grant_at (tenants_of tenants.now.entries) grants.old.items (table_view row.now)) }
 {
-    if actor == owner {
-        Rights::each()
-    } else {
-        Rights::none()
+    known(alloc, Level::Grant, row)?;
+    let owner = number(alloc, tenants, row, Key::Owner)?;
+    let to = number(alloc, tenants, row, Key::To)?;
+    let value = member(row, Key::Rights)?;
+    let rights = elements(value, Key::Rights)?;
+    add_rights(grants, owner, to, rights)
+}
+
+fn add_rights(
+    grants: &mut Vec<Grant>,
+    owner: u8,
+    to: u8,
+    rights: &Vec<Value>,
+) -> Result<(), PolicyFault>
+    ensures { Gives (λ _. grants.new.items) result
+        (in_turn (with_right owner to) grants.old.items (map view rights.now.items)) }
+{
+    for value in rights {
+        let right = right(value)?;
+        grants.push(Grant { owner, to, right })?;
+    }
+    Ok(())
+}
+
+fn right(value: &Value) -> Result<Right, PolicyFault>
+    ensures { Gives (λ right. right) result (right_in (view value.now)) }
+{
+    match value.as_str() {
+        Some("read") => Ok(Right::Read),
+        Some("write") => Ok(Right::Write),
+        Some("list") => Ok(Right::List),
+        Some("free") => Ok(Right::Free),
+        _ => Err(PolicyFault::Kind(Key::Rights)),
     }
 }

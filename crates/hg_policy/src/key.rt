@@ -11,11 +11,17 @@ use std::fmt;
 pub enum Key {
     Version,
     Workers,
+    MaxGeneration,
     Tenant,
     Arena,
+    Grant,
     Name,
     Limit,
     Segments,
+    Exclusive,
+    Owner,
+    To,
+    Rights,
 }
 
 impl Key {
@@ -26,11 +32,17 @@ impl Key {
         match self {
             Key::Version => "version",
             Key::Workers => "workers",
+            Key::MaxGeneration => "max_generation",
             Key::Tenant => "tenant",
             Key::Arena => "arena",
+            Key::Grant => "grant",
             Key::Name => "name",
             Key::Limit => "limit",
             Key::Segments => "segments",
+            Key::Exclusive => "exclusive",
+            Key::Owner => "owner",
+            Key::To => "to",
+            Key::Rights => "rights",
         }
     }
 }
@@ -80,6 +92,7 @@ pub(crate) enum Level {
     Top,
     Tenant,
     Arena,
+    Grant,
 }
 
 impl Level {
@@ -89,10 +102,14 @@ impl Level {
     {
         match self {
             Level::Top => {
-                key == "version" || key == "workers" || key == "tenant" || key == "arena"
+                matches!(
+                    key,
+                    "version" | "workers" | "max_generation" | "tenant" | "arena" | "grant"
+                )
             }
-            Level::Tenant => key == "name" || key == "limit",
-            Level::Arena => key == "name" || key == "segments",
+            Level::Tenant => matches!(key, "name" | "limit"),
+            Level::Arena => matches!(key, "name" | "segments" | "exclusive"),
+            Level::Grant => matches!(key, "owner" | "to" | "rights"),
         }
     }
 }

@@ -4,7 +4,11 @@
 
 mod arenas;
 mod document;
+mod exclusive;
 mod fault;
+#[cfg(test)]
+mod fault_tests;
+mod granted;
 mod grants;
 mod key;
 mod name_form;

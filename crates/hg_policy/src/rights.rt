@@ -2,8 +2,7 @@
 
 ghost use Rattle.std.specs.Prelude.{⊤, ◌≡◌};
 ghost use Rattle.hg_machine.specs.Policy.{has_right, no_rights};
-ghost use Rattle.hg_policy.specs.Grants.{all_rights};
-ghost use Rattle.hg_policy.specs.Rights.{rights_of, bit_of, rights_table};
+ghost use Rattle.hg_policy.specs.Rights.{rights_of, bit_of, rights_table, all_rights, and_right};
 
 use bitflags::{Flag, Flags, bitflag_items};
 use hg_place::Right;
@@ -68,6 +67,13 @@ impl Rights {
         ensures { rights_of result ≡ all_rights }
     {
         Rights::all()
+    }
+
+    /// The set with one right more.
+    pub(crate) fn with(self, right: Right) -> Rights
+        ensures { rights_of result ≡ and_right (rights_of self) right }
+    {
+        self.union(Rights::only(right))
     }
 
     /// Whether the set has a right.

@@ -1,18 +1,19 @@
 //! The rows of tenants.
 
-ghost use Rattle.std.specs.Prelude.{◌≡◌, map};
-ghost use Rattle.toml.specs.View.{table_view};
+ghost use Rattle.std.specs.Prelude.{◌≡◌, ◌≤◌, length, map};
+ghost use Rattle.toml.specs.View.{view, table_view};
 ghost use Rattle.hg_policy.specs.Faults.{Gives};
 ghost use Rattle.hg_policy.specs.Kept.{tenants_of};
 ghost use Rattle.hg_policy.specs.Tenants.{with_tenant, tenant_at, tenants_in};
+ghost use Rattle.hg_policy.specs.Tenants.{number_in, number_at};
 
 use crate::fault::PolicyFault;
 use crate::key::{Key, Level};
 use crate::name_form::name;
-use crate::values::{known, whole};
+use crate::values::{known, member, whole};
 use indexmap::IndexMap;
 use std::alloc::Global;
-use toml::Table;
+use toml::{Table, Value};
 
 /// Names and limits of the tenants, in the order of their rows.
 pub(crate) fn tenants(alloc: Global, rows: &[&Table]) -> Result<IndexMap<String, u32>, PolicyFault>
@@ -56,4 +57,40 @@ fn add_tenant(
     }
     tenants.insert(name, limit)?;
     Ok(())
+}
+
+/// The number of the tenant that a text at a key names.
+#[tactic(auto, unfolding(crate::specs::Tenants::number_at))]
+pub(crate) fn number(
+    alloc: Global,
+    tenants: &IndexMap<String, u32>,
+    table: &Table,
+    key: Key,
+) -> Result<u8, PolicyFault>
+    requires { length tenants.now.entries ≤ 64 }
+    ensures { Gives (λ n. n) result
+        (number_at key (tenants_of tenants.now.entries) (table_view table.now)) }
+{
+    let value = member(table, key)?;
+    number_in(alloc, tenants, value, key)
+}
+
+/// The number of the tenant that a text names.
+pub(crate) fn number_in(
+    alloc: Global,
+    tenants: &IndexMap<String, u32>,
+    value: &Value,
+    key: Key,
+) -> Result<u8, PolicyFault>
+    requires { length tenants.now.entries ≤ 64 }
+    ensures { Gives (λ n. n) result
+        (number_in key (tenants_of tenants.now.entries) (view value.now)) }
+{
+    match value.as_str() {
+        Some(text) => match tenants.get_index_of(text) {
+            Some(tenant) => Ok(tenant as u8),
+            None => Err(PolicyFault::NoSuchName(String::from_str(alloc, text)?)),
+        },
+        None => Err(PolicyFault::Kind(key)),
+    }
 }

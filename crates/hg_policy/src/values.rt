@@ -1,10 +1,10 @@
 //! The values at keys.
 
 ghost use Rattle.std.specs.Prelude.{◌≡◌, ◌≤◌, true, [], length, map, option_map, IfOk};
-ghost use Rattle.toml.specs.View.{view, items_view, table_view};
+ghost use Rattle.toml.specs.View.{view, table_view};
 ghost use Rattle.hg_policy.specs.Faults.{Gives, in_turn};
-ghost use Rattle.hg_policy.specs.Values.{field_at, member_at, whole_at, known_keys, elements};
-ghost use Rattle.hg_policy.specs.Values.{with_table, rows_in, rows_at};
+ghost use Rattle.hg_policy.specs.Values.{field_at, member_at, whole_in, whole_at, known_keys};
+ghost use Rattle.hg_policy.specs.Values.{elements_in, with_table, rows_in, rows_at};
 
 use crate::fault::PolicyFault;
 use crate::key::{Counted, Key, Level};
@@ -35,6 +35,13 @@ pub(crate) fn whole(table: &Table, key: Key, low: u64, high: u64) -> Result<u64,
     ensures range { IfOk result (λ n. n ≤ high) }
 {
     let value = member(table, key)?;
+    whole_in(value, key, low, high)
+}
+
+pub(crate) fn whole_in(value: &Value, key: Key, low: u64, high: u64) -> Result<u64, PolicyFault>
+    ensures value { Gives (λ n. n) result (whole_in key low high (view value.now)) }
+    ensures range { IfOk result (λ n. n ≤ high) }
+{
     match value.as_integer() {
         Some(n) if n >= 0 && low <= n as u64 && n as u64 <= high => Ok(n as u64),
         _ => Err(PolicyFault::Kind(key)),
@@ -75,12 +82,25 @@ pub(crate) fn rows<'a>(
 }
 
 /// The tables of an array that has nothing else.
-fn tables<'a>(alloc: Global, value: &'a Value, key: Key) -> Result<Vec<&'a Table>, PolicyFault>
+#[tactic(auto, unfolding(crate::specs::Values::rows_in))]
+pub(crate) fn tables<'a>(
+    alloc: Global,
+    value: &'a Value,
+    key: Key,
+) -> Result<Vec<&'a Table>, PolicyFault>
     ensures { Gives (λ rows. map (λ row. table_view row.now) rows.items) result
         (rows_in key (view value.now)) }
 {
+    let array = elements(value, key)?;
+    tables_in(alloc, array, key)
+}
+
+/// The elements of an array.
+pub(crate) fn elements<'a>(value: &'a Value, key: Key) -> Result<&'a Vec<Value>, PolicyFault>
+    ensures { Gives (λ array. map view array.now.items) result (elements_in key (view value.now)) }
+{
     match value.as_array() {
-        Some(array) => tables_in(alloc, array, key),
+        Some(array) => Ok(array),
         None => Err(PolicyFault::Kind(key)),
     }
 }
@@ -91,7 +111,7 @@ fn tables_in<'a>(
     key: Key,
 ) -> Result<Vec<&'a Table>, PolicyFault>
     ensures { Gives (λ rows. map (λ row. table_view row.now) rows.items) result
-        (in_turn (with_table key) [] (elements (items_view array.now.items))) }
+        (in_turn (with_table key) [] (map view array.now.items)) }
 {
     let mut tables = Vec::with_capacity(alloc, array.len())?;
     for element in array {

@@ -1,8 +1,8 @@
-use Rattle.std.proofs.Common.{◌≡◌, ◌<◌, ◌≤◌, ◌+◌, ◌∷◌, [], ◌++◌, nat_lt, vec_len, length, replicate, refl, sym, ◌∙◌, true, false, string_bytes, string_eq, arith}
+use Rattle.std.proofs.Common.{◌≡◌, ◌+◌, nat_lt, vec_len, length, refl, sym, ◌∙◌, true, false, string_bytes, string_eq, arith}
 use Rattle.std.proofs.lemmas.Bool.{lt-ltb, le-ltb}
 use Rattle.std.proofs.lemmas.List.{map_push, length-map}
 use Rattle.indexmap.proofs.CallerLemmas.{insert_entry-new}
-use Rattle.hg_policy.specs.Kept.{names_of, rows_of}
+use Rattle.hg_policy.specs.Kept.{names_of}
 use Rattle.hg_policy.specs.NameForm.{is_among}
 use Rattle.hg_policy.proofs.ArenaRows.{items-resize}
 use Rattle.hg_policy.proofs.Names.{among-names, none_from}

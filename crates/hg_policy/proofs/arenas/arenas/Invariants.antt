@@ -1,12 +1,12 @@
 use Rattle.std.proofs.Common.{◌≡◌, ◌≤◌, length, map, drop}
 use Rattle.toml.specs.View.{table_view}
 use Rattle.hg_policy.specs.Faults.{in_turn}
-use Rattle.hg_policy.specs.Kept.{arenas_of}
+use Rattle.hg_policy.specs.Kept.{tenants_of, arenas_of}
 use Rattle.hg_policy.specs.Arenas.{arena_at, arenas_in}
 use Rattle.hg_policy.proofs.arenas.arenas.Given as goal
 
 abbrev pub invariant-loop-row : goal.invariant-loop-row
 invariant-loop-row l = record {
-  so_far : in_turn (arena_at l.tenants) (arenas_of l.arenas) (map (λ row. table_view row.now) (drop l.row-index l.rows)) ≡ arenas_in l.tenants (map (λ row. table_view row.now) l.rows);
+  so_far : in_turn (arena_at (tenants_of l.tenants.entries)) (arenas_of l.arenas) (map (λ row. table_view row.now) (drop l.row-index l.rows)) ≡ arenas_in (tenants_of l.tenants.entries) (map (λ row. table_view row.now) l.rows);
   few : length l.arenas.named.entries ≤ l.row-index;
 }

@@ -2,7 +2,7 @@ use Rattle.std.proofs.Common.{◌≡◌, refl, sym, ◌∙◌, true, false, stri
 use Rattle.std.proofs.lemmas.List.{map_push}
 use Rattle.indexmap.proofs.CallerLemmas.{insert_entry-new}
 use Rattle.hg_machine.specs.Policy.{Tenant}
-use Rattle.hg_policy.specs.Kept.{tenants_of, names_of}
+use Rattle.hg_policy.specs.Kept.{names_of}
 use Rattle.hg_policy.specs.NameForm.{is_among}
 use Rattle.hg_policy.proofs.Names.{among-names, names-tenants, none_from}
 use Rattle.hg_policy.proofs.tenants.add_tenant.Goals as goal
