@@ -3,12 +3,14 @@
 
 mod events;
 mod fault;
+mod handles;
 mod input;
 mod joined;
 mod line;
 mod lines;
 mod name;
 mod numbers;
+mod output;
 mod put;
 mod read;
 mod replaying;
