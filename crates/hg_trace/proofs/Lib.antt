@@ -8,4 +8,6 @@ pub mod Writes
 pub mod Parts
 pub mod Answering
 pub mod Endings
-pub mod NoRows
+pub mod Dots
+pub mod PlaceNumbers
+pub mod RowLines

@@ -1,5 +1,5 @@
 -- Writes one after the other, and one that stops.
-use Rattle.std.proofs.Common.{◌≡◌, ◌==◌, false, ℕ, ◌<◌, List, ◌++◌, length, Option, take, drop, sym, ap, ◌∙◌, append_assoc, take-append-drop, arith, length-drop}
+use Rattle.std.proofs.Common.{◌≡◌, ◌==◌, false, ℕ, ◌<◌, List, ◌++◌, length, Option, take, drop, sym, ap, ◌∙◌, append_assoc, take-append-drop, arith, length-drop, length-append}
 use Rattle.std.proofs.lemmas.Bool.Decides.{nat_tests}
 use Rattle.std.specs.Io.KnownBytes.{Appends, Keeps}
 use Rattle.std.proofs.KnownBytes.{Appends-trans, Appends-kept}
@@ -22,6 +22,26 @@ front_none a b c all done rest n e none some p q =
       not_all = omega (arith, length-drop n rest);
       written = Appends-trans a b c done (take n rest) p q;
     }
+
+-- of two texts, the first stopped
+pub front_first : (a b : Option (List ℕ)) (one other : List ℕ) → AppendsFront a b one → AppendsFront a b (one ++ other)
+front_first a b one other stopped = record {
+  front = stopped.front;
+  rest = stopped.rest ++ other;
+  split = ap (λ l. l ++ other) stopped.split ∙ append_assoc stopped.front stopped.rest other;
+  not_all = omega (arith, stopped.not_all, length-append stopped.rest other);
+  written = stopped.written;
+}
+
+-- the first was written, and the other stopped
+pub front_later : (a b c : Option (List ℕ)) (one other : List ℕ) → Appends a b one → AppendsFront b c other → AppendsFront a c (one ++ other)
+front_later a b c one other written stopped = record {
+  front = one ++ stopped.front;
+  rest = stopped.rest;
+  split = ap (λ l. one ++ l) stopped.split ∙ sym (append_assoc one stopped.front stopped.rest);
+  not_all = stopped.not_all;
+  written = Appends-trans a b c one stopped.front written stopped.written;
+}
 
 -- a write that failed
 pub front_kept : (a b c : Option (List ℕ)) (all done rest : List ℕ) → all ≡ done ++ rest → 0 < length rest → Appends a b done → Keeps b c → AppendsFront a c all

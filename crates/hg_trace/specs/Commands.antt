@@ -1,14 +1,15 @@
 -- What the words of a line mean, or its first fault.
 use Rattle.std.specs.Prelude.{ℕ, ◌^◌, ◌==◌, List, [], ◌∷◌, Option, Some, None, Result, Ok, Err}
-use Rattle.std.specs.Prelude.{ok_or}
-use Rattle.std.specs.Prelude.{bytes_eq, codes, if◌then◌else◌}
+use Rattle.std.specs.Prelude.{ok_or, bytes_eq, codes, if◌then◌else◌}
+use Rattle.hg_place.specs.declared.Handle.{Handle}
 use Rattle.hg_trace.specs.declared.line.Command.{Command}
 use Rattle.hg_trace.specs.declared.line.Command.TheVariants as command
 use Rattle.hg_trace.specs.declared.fault.LineFault.{LineFault}
 use Rattle.hg_trace.specs.declared.fault.LineFault.TheVariants as fault
 use Rattle.hg_trace.specs.Faults.{◌>>=◌}
-use Rattle.hg_policy.specs.NameForm.{is_name}
 use Rattle.hg_trace.specs.Numbers.{number_below}
+use Rattle.hg_trace.specs.Operands.{name_at, number_at, end_at}
+use Rattle.hg_trace.specs.Handles.{place_at, block_at}
 
 -- a `w` and a number from 0 to 15
 abbrev pub worker_at : List ℕ → Result ℕ LineFault
@@ -16,20 +17,10 @@ worker_at [] = Err fault.Command
 worker_at (b ∷ digits) =
     if b == 119 then ok_or (number_below 16 digits) fault.Command else Err fault.Command
 
--- An operand is the next word. It is read with the words after it
-abbrev pub name_at : List (List ℕ) → Result (List ℕ × List (List ℕ)) LineFault
-name_at [] = Err fault.Operand
-name_at (word ∷ words) = if is_name word then Ok (word, words) else Err fault.Operand
-
-abbrev pub number_at : ℕ → List (List ℕ) → Result (ℕ × List (List ℕ)) LineFault
-number_at limit [] = Err fault.Operand
-number_at limit (word ∷ words) =
-    ok_or (number_below limit word) fault.Operand >>= λ n. Ok (n, words)
-
--- there is no further operand
-abbrev pub end_at : List (List ℕ) → Command → Result Command LineFault
-end_at [] command = Ok command
-end_at (word ∷ words) command = Err fault.Operand
+-- the handle of a block. No line gives a label, so that each label is unknown; it is told only of a
+-- line whose operands all have their form
+abbrev pub known : Option Handle → Result Handle LineFault
+known block = ok_or block fault.UnknownLabel
 
 -- ACTOR ARENA BYTES
 unfoldable pub alloc_at : List (List ℕ) → Result Command LineFault
@@ -37,20 +28,95 @@ alloc_at words = do
   actor ← name_at words
   arena ← name_at actor.1
   bytes ← number_at (2 ^ 64) arena.1
-  end_at bytes.1 (command.Alloc actor.0 arena.0 bytes.0)
+  end ← end_at bytes.1
+  Ok (command.Alloc actor.0 arena.0 bytes.0)
+
+-- ACTOR BLOCK
+unfoldable pub free_at : List (List ℕ) → Result Command LineFault
+free_at words = do
+  actor ← name_at words
+  block ← block_at actor.1
+  end ← end_at block.1
+  handle ← known block.0
+  Ok (command.Free actor.0 handle)
+
+-- no operands
+unfoldable pub deliver_at : List (List ℕ) → Result Command LineFault
+deliver_at words = do
+  end ← end_at words
+  Ok command.Deliver
+
+-- SEGMENT
+unfoldable pub take_at : List (List ℕ) → Result Command LineFault
+take_at words = do
+  segment ← number_at 64 words
+  end ← end_at segment.1
+  Ok (command.Take segment.0)
+
+-- no operands
+unfoldable pub collect_at : List (List ℕ) → Result Command LineFault
+collect_at words = do
+  end ← end_at words
+  Ok command.Collect
+
+-- ACTOR BLOCK INDEX
+unfoldable pub read_at : List (List ℕ) → Result Command LineFault
+read_at words = do
+  actor ← name_at words
+  block ← block_at actor.1
+  index ← number_at (2 ^ 32) block.1
+  end ← end_at index.1
+  handle ← known block.0
+  Ok (command.Read actor.0 handle index.0)
+
+-- ACTOR BLOCK INDEX VALUE
+unfoldable pub write_at : List (List ℕ) → Result Command LineFault
+write_at words = do
+  actor ← name_at words
+  block ← block_at actor.1
+  index ← number_at (2 ^ 32) block.1
+  value ← number_at (2 ^ 64) index.1
+  end ← end_at value.1
+  handle ← known block.0
+  Ok (command.Write actor.0 handle index.0 value.0)
+
+-- ACTOR PLACE
+unfoldable pub look_at : List (List ℕ) → Result Command LineFault
+look_at words = do
+  actor ← name_at words
+  place ← place_at actor.1
+  end ← end_at place.1
+  Ok (command.Look actor.0 place.0)
+
+-- SEGMENT
+unfoldable pub abandon_at : List (List ℕ) → Result Command LineFault
+abandon_at words = do
+  segment ← number_at 64 words
+  end ← end_at segment.1
+  Ok (command.Abandon segment.0)
 
 -- ARENA
 unfoldable pub refill_at : List (List ℕ) → Result Command LineFault
 refill_at words = do
   arena ← name_at words
-  end_at arena.1 (command.Refill arena.0)
+  end ← end_at arena.1
+  Ok (command.Refill arena.0)
 
 -- a command by its name, with its operands
 unfoldable pub command_at : List (List ℕ) → Result Command LineFault
 command_at [] = Err fault.Command
 command_at (name ∷ operands) =
     if bytes_eq name (codes "alloc") then alloc_at operands
-    else (if bytes_eq name (codes "refill") then refill_at operands else Err fault.Command)
+    else (if bytes_eq name (codes "free") then free_at operands
+    else (if bytes_eq name (codes "deliver") then deliver_at operands
+    else (if bytes_eq name (codes "take") then take_at operands
+    else (if bytes_eq name (codes "collect") then collect_at operands
+    else (if bytes_eq name (codes "read") then read_at operands
+    else (if bytes_eq name (codes "write") then write_at operands
+    else (if bytes_eq name (codes "look") then look_at operands
+    else (if bytes_eq name (codes "abandon") then abandon_at operands
+    else (if bytes_eq name (codes "refill") then refill_at operands
+    else Err fault.Command)))))))))
 
 -- a worker and its command, or nothing where there are no words
 unfoldable pub words_at : List (List ℕ) → Result (Option (ℕ × Command)) LineFault

@@ -1,5 +1,6 @@
 -- The events that a trace means under a policy.
 use Rattle.std.specs.Prelude.{ℕ, List, Option, unwrap_or, option_map, find, map, nat_le}
+use Rattle.hg_place.specs.declared.Actor.{Actor}
 use Rattle.hg_machine.specs.Policy.{Policy}
 use Rattle.hg_machine.specs.declared.Event.{Event}
 use Rattle.hg_machine.specs.declared.Event.TheVariants as event
@@ -12,12 +13,22 @@ use Rattle.hg_trace.specs.declared.line.Line.{Line}
 abbrev pub or_nobody : Option ℕ → ℕ
 or_nobody number = unwrap_or number 255
 
+abbrev pub actor_of : Policy → List ℕ → Actor
+actor_of policy name = record { 0 = or_nobody (tenant_number policy name) }
+
 abbrev pub event_of : Policy → Command → Event
 event_of policy (command.Alloc actor arena bytes) =
-    event.Alloc
-    (record { 0 = or_nobody (tenant_number policy actor) })
-    (or_nobody (arena_number policy arena))
-    bytes
+    event.Alloc (actor_of policy actor) (or_nobody (arena_number policy arena)) bytes
+event_of policy (command.Free actor handle) = event.Free (actor_of policy actor) handle
+event_of policy command.Deliver = event.Deliver
+event_of policy (command.Take segment) = event.Take segment
+event_of policy command.Collect = event.Collect
+event_of policy (command.Read actor handle index) =
+    event.Read (actor_of policy actor) handle index
+event_of policy (command.Write actor handle index value) =
+    event.Write (actor_of policy actor) handle index value
+event_of policy (command.Look actor place) = event.Look (actor_of policy actor) place
+event_of policy (command.Abandon segment) = event.Abandon segment
 event_of policy (command.Refill arena) = event.Refill (or_nobody (arena_number policy arena))
 
 abbrev pub events_of : Policy → List Line → List (ℕ × Event)

@@ -10,6 +10,7 @@ abbrev pub fault_in : ℕ → LineFault → TraceFault
 fault_in line line_fault.Byte = trace_fault.Byte line
 fault_in line line_fault.Command = trace_fault.Command line
 fault_in line line_fault.Operand = trace_fault.Operand line
+fault_in line line_fault.UnknownLabel = trace_fault.UnknownLabel line
 
 infixl 10 ◌>>=◌
 abbrev pub ◌>>=◌ : {A B E : Type 0} → Result A E → (A → Result B E) → Result B E

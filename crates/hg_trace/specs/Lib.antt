@@ -2,6 +2,8 @@ pub mod Lines
 pub mod Numbers
 pub mod NumberLaws
 pub mod Faults
+pub mod Operands
+pub mod Handles
 pub mod Commands
 pub mod Trace
 pub mod Text

@@ -1,5 +1,5 @@
 -- How a run on the bytes of a policy and a trace ends: its status, and what it writes.
-use Rattle.std.specs.Prelude.{◌≡◌, ◌≤◌, ◌⊎◌, ℕ, zero, suc, List, Option, Some, None, Result, Ok}
+use Rattle.std.specs.Prelude.{◌≡◌, ◌≤◌, ◌⊎◌, ℕ, zero, suc, List, Option, Some, None, Ok}
 use Rattle.std.specs.Prelude.{Err, IfSome, length}
 use Rattle.std.specs.Io.KnownBytes.{Keeps}
 use Rattle.hg_machine.specs.Policy.{Policy}

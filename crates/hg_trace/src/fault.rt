@@ -19,6 +19,8 @@ pub(crate) enum LineFault {
     Command,
     /// An operand is missing, one too many, or of the wrong form or range.
     Operand,
+    /// A block's label that no earlier line gave.
+    UnknownLabel,
 }
 
 /// Why no trace was read: the fault of the first faulty line, with the line's number from 1, or
@@ -34,6 +36,9 @@ pub enum TraceFault {
     /// An operand is missing, one too many, or of the wrong form or range.
     #[error("trace fault 3 at line {0}: operand")]
     Operand(u64),
+    /// A block's label that no earlier line gave.
+    #[error("trace fault 4 at line {0}: unknown label")]
+    UnknownLabel(u64),
     #[error("no memory")]
     Memory,
 }
@@ -87,6 +92,7 @@ impl LineFault {
             LineFault::Byte => TraceFault::Byte(line),
             LineFault::Command => TraceFault::Command(line),
             LineFault::Operand => TraceFault::Operand(line),
+            LineFault::UnknownLabel => TraceFault::UnknownLabel(line),
         }
     }
 }

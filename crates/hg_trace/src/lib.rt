@@ -4,6 +4,7 @@
 mod check;
 mod events;
 mod fault;
+mod handles;
 mod input;
 mod joined;
 pub mod laws;
@@ -11,6 +12,7 @@ mod line;
 mod lines;
 mod name;
 mod numbers;
+mod output;
 mod put;
 mod read;
 mod replaying;

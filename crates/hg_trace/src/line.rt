@@ -3,6 +3,7 @@
 ghost use Rattle.std.specs.Prelude.{◌≡◌};
 
 use crate::name::Name;
+use hg_place::{Handle, Place};
 use std::marker::Model;
 
 /// A command of a worker, with its operands.
@@ -12,6 +13,33 @@ pub enum Command {
         actor: Name,
         arena: Name,
         bytes: u64,
+    },
+    Free {
+        actor: Name,
+        block: Handle,
+    },
+    Deliver,
+    Take {
+        segment: u8,
+    },
+    Collect,
+    Read {
+        actor: Name,
+        block: Handle,
+        index: u32,
+    },
+    Write {
+        actor: Name,
+        block: Handle,
+        index: u32,
+        value: u64,
+    },
+    Look {
+        actor: Name,
+        place: Place,
+    },
+    Abandon {
+        segment: u8,
     },
     Refill {
         arena: Name,

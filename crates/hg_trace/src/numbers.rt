@@ -41,3 +41,13 @@ pub(crate) fn number_of(word: &[u8]) -> Option<u64>
     }
     Some(number)
 }
+
+/// The number that a word is, where it is one below the limit.
+pub(crate) fn number_below(word: &[u8], limit: u64) -> Option<u64>
+    ensures { result ≡ number_below limit word.now }
+{
+    match number_of(word) {
+        Some(number) if number < limit => Some(number),
+        _ => None,
+    }
+}

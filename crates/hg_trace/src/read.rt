@@ -1,8 +1,11 @@
 //! Reading a trace.
 
 ghost use Rattle.std.specs.Prelude.{◌≡◌, ◌≢◌, ◌^◌, ◌∷◌, IfOk, IfErr, MatchResult, Ok, Err, ok_or};
+ghost use Rattle.std.specs.Prelude.{bytes_eq};
 ghost use Rattle.hg_trace.specs.Numbers.{number_below};
-ghost use Rattle.hg_trace.specs.Commands.{worker_at, alloc_at, refill_at, command_at, words_at};
+ghost use Rattle.hg_trace.specs.Commands.{worker_at, command_at, words_at};
+ghost use Rattle.hg_trace.specs.Commands.{alloc_at, free_at, deliver_at, take_at, collect_at};
+ghost use Rattle.hg_trace.specs.Commands.{read_at, write_at, look_at, abandon_at, refill_at};
 ghost use Rattle.hg_trace.specs.Trace.{line_at, trace_of};
 
 use crate::fault::{LineFault, TraceFault};
@@ -34,11 +37,101 @@ fn alloc_of(words: &mut Words) -> Result<Command, LineFault>
     let actor = words.next_name()?;
     let arena = words.next_name()?;
     let bytes = words.next_number()?;
-    words.ends(Command::Alloc {
+    words.ends()?;
+    Ok(Command::Alloc {
         actor,
         arena,
         bytes,
     })
+}
+
+#[tactic(auto, unfolding(crate::specs::Commands::free_at))]
+fn free_of(words: &mut Words) -> Result<Command, LineFault>
+    ensures { result ≡ free_at words.old }
+{
+    let actor = words.next_name()?;
+    let block = words.next_block()?;
+    words.ends()?;
+    let block = block.ok_or(LineFault::UnknownLabel)?;
+    Ok(Command::Free { actor, block })
+}
+
+#[tactic(auto, unfolding(crate::specs::Commands::deliver_at))]
+fn deliver_of(words: &mut Words) -> Result<Command, LineFault>
+    ensures { result ≡ deliver_at words.old }
+{
+    words.ends()?;
+    Ok(Command::Deliver)
+}
+
+#[tactic(auto, unfolding(crate::specs::Commands::take_at))]
+fn take_of(words: &mut Words) -> Result<Command, LineFault>
+    ensures { result ≡ take_at words.old }
+{
+    let segment = words.next_segment()?;
+    words.ends()?;
+    Ok(Command::Take { segment })
+}
+
+#[tactic(auto, unfolding(crate::specs::Commands::collect_at))]
+fn collect_of(words: &mut Words) -> Result<Command, LineFault>
+    ensures { result ≡ collect_at words.old }
+{
+    words.ends()?;
+    Ok(Command::Collect)
+}
+
+#[tactic(auto, unfolding(crate::specs::Commands::read_at))]
+fn read_of(words: &mut Words) -> Result<Command, LineFault>
+    ensures { result ≡ read_at words.old }
+{
+    let actor = words.next_name()?;
+    let block = words.next_block()?;
+    let index = words.next_index()?;
+    words.ends()?;
+    let block = block.ok_or(LineFault::UnknownLabel)?;
+    Ok(Command::Read {
+        actor,
+        block,
+        index,
+    })
+}
+
+#[tactic(auto, unfolding(crate::specs::Commands::write_at))]
+fn write_of(words: &mut Words) -> Result<Command, LineFault>
+    ensures { result ≡ write_at words.old }
+{
+    let actor = words.next_name()?;
+    let block = words.next_block()?;
+    let index = words.next_index()?;
+    let value = words.next_number()?;
+    words.ends()?;
+    let block = block.ok_or(LineFault::UnknownLabel)?;
+    Ok(Command::Write {
+        actor,
+        block,
+        index,
+        value,
+    })
+}
+
+#[tactic(auto, unfolding(crate::specs::Commands::look_at))]
+fn look_of(words: &mut Words) -> Result<Command, LineFault>
+    ensures { result ≡ look_at words.old }
+{
+    let actor = words.next_name()?;
+    let place = words.next_place()?;
+    words.ends()?;
+    Ok(Command::Look { actor, place })
+}
+
+#[tactic(auto, unfolding(crate::specs::Commands::abandon_at))]
+fn abandon_of(words: &mut Words) -> Result<Command, LineFault>
+    ensures { result ≡ abandon_at words.old }
+{
+    let segment = words.next_segment()?;
+    words.ends()?;
+    Ok(Command::Abandon { segment })
 }
 
 #[tactic(auto, unfolding(crate::specs::Commands::refill_at))]
@@ -46,7 +139,14 @@ fn refill_of(words: &mut Words) -> Result<Command, LineFault>
     ensures { result ≡ refill_at words.old }
 {
     let arena = words.next_name()?;
-    words.ends(Command::Refill { arena })
+    words.ends()?;
+    Ok(Command::Refill { arena })
+}
+
+fn is(word: &[u8], name: &str) -> bool
+    ensures { result ≡ bytes_eq word.now name.now }
+{
+    word == name.as_bytes()
 }
 
 #[tactic(auto, unfolding(crate::specs::Commands::command_at))]
@@ -54,8 +154,16 @@ fn command_of(words: &mut Words) -> Result<Command, LineFault>
     ensures { result ≡ command_at words.old }
 {
     match words.next_word() {
-        Some(b"alloc") => alloc_of(words),
-        Some(b"refill") => refill_of(words),
+        Some(word) if is(word, "alloc") => alloc_of(words),
+        Some(word) if is(word, "free") => free_of(words),
+        Some(word) if is(word, "deliver") => deliver_of(words),
+        Some(word) if is(word, "take") => take_of(words),
+        Some(word) if is(word, "collect") => collect_of(words),
+        Some(word) if is(word, "read") => read_of(words),
+        Some(word) if is(word, "write") => write_of(words),
+        Some(word) if is(word, "look") => look_of(words),
+        Some(word) if is(word, "abandon") => abandon_of(words),
+        Some(word) if is(word, "refill") => refill_of(words),
         _ => Err(LineFault::Command),
     }
 }

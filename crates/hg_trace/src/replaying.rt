@@ -8,8 +8,8 @@ ghost use Rattle.hg_trace.specs.Replays.{Answers, Replays, StopsWithin, EndsRepl
 use crate::events::{event_of, unknown_worker};
 use crate::fault::ReplayFault;
 use crate::line::{Line, Trace};
-use crate::put::{WriteStopped, put};
-use crate::text::line_of;
+use crate::output::put_answer;
+use crate::put::WriteStopped;
 use hg_core::Core;
 use hg_policy::Policy;
 use std::alloc::Global;
@@ -27,7 +27,7 @@ fn replay_line<W: Write>(core: &mut Core, line: &Line, out: &mut W) -> Result<()
 {
     let event = event_of(core.policy(), &line.command);
     let answer = core.step(line.worker, event);
-    put(out, line_of(answer).as_str().as_bytes())
+    put_answer(out, core.policy(), answer)
 }
 
 /// Replays the lines. It asks for no memory, and ends early only where a write stops.

@@ -1,14 +1,22 @@
 //! The line of an answer.
 
-ghost use Rattle.std.specs.Prelude.{◌≡◌, ◌+◌, ◌≤◌, ◌++◌, length, decimal, codes, false};
+ghost use Rattle.std.specs.Prelude.{◌≡◌, ◌+◌, ◌-◌, ◌≤◌, ◌++◌, ◌∷◌, []};
+ghost use Rattle.std.specs.Prelude.{length, replicate, decimal, codes, false};
 ghost use Rattle.arrayvec.specs.ArrayString.{array_string_len};
 ghost use Rattle.hg_machine.specs.Policy.{Policy};
-ghost use Rattle.hg_trace.specs.Text.{handle_text, rule_text, answer_line};
+ghost use Rattle.hg_trace.specs.Text.{handle_text, rule_text, answer_line, at_left, at_right};
 ghost use Rattle.hg_trace.specs.Rows.{is_row};
 
 use arrayvec::ArrayString;
 use hg_machine::{Answer, Rule};
 use hg_place::Handle;
+
+/// How many places a row has for its handle, for its owner's name and for its bytes.
+const HANDLE_PLACES: usize = 21;
+
+const NAME_PLACES: usize = 16;
+
+const BYTES_PLACES: usize = 5;
 
 /// A line of output, with its end.
 pub(crate) type Text = ArrayString<64>;
@@ -91,6 +99,44 @@ fn word_text(word: &str) -> Text
 {
     let mut text = Text::new();
     text.push_str(word);
+    text
+}
+
+fn push_blanks(text: &mut Text, n: usize)
+    requires room { array_string_len text.old + n ≤ 64 }
+    ensures bytes { text.new.bytes ≡ text.old.bytes ++ replicate n 32 }
+    ensures len { array_string_len text.new ≡ array_string_len text.old + n }
+{
+    for _ in 0..n {
+        text.push_str(" ");
+    }
+}
+
+/// What a row has before its owner's name: the handle, and a blank.
+pub(crate) fn row_front(handle: Handle) -> Text
+    ensures { result.bytes ≡ at_left 21 (handle_text handle) ++ codes " " }
+{
+    let mut text = Text::new();
+    push_handle(&mut text, handle);
+    let blanks = HANDLE_PLACES.saturating_sub(text.len());
+    push_blanks(&mut text, blanks);
+    text.push_str(" ");
+    text
+}
+
+/// What a row has behind a name of so many bytes: blanks, the bytes of the class, and its end.
+pub(crate) fn row_back(name: usize, bytes: u32) -> Text
+    ensures { result.bytes ≡ replicate (16 - name) 32 ++ codes " " ++ at_right 5 (decimal bytes)
+        ++ 10 ∷ [] }
+{
+    let mut buffer = itoa::Buffer::new();
+    let digits = buffer.format(bytes);
+    let mut text = Text::new();
+    push_blanks(&mut text, NAME_PLACES.saturating_sub(name));
+    text.push_str(" ");
+    push_blanks(&mut text, BYTES_PLACES.saturating_sub(digits.len()));
+    text.push_str(digits);
+    text.push_str("\n");
     text
 }
 

@@ -1,15 +1,17 @@
 //! Words of a line, and what they are as operands.
 
-ghost use Rattle.std.specs.Prelude.{◌≡◌, ◌^◌, ◌∷◌, [], not, position, Ok, Err};
+ghost use Rattle.std.specs.Prelude.{◌≡◌, ◌<◌, ◌^◌, ◌∷◌, [], not, position, Ok, Err, IfOk};
 ghost use Rattle.std.specs.Prelude.{MatchOption, MatchResult};
 ghost use Rattle.hg_trace.specs.Lines.{is_blank, words_of};
-ghost use Rattle.hg_trace.specs.Commands.{name_at, number_at, end_at};
+ghost use Rattle.hg_trace.specs.Operands.{name_at, number_at, end_at};
+ghost use Rattle.hg_trace.specs.Handles.{place_at, block_at};
 
 use crate::fault::LineFault;
-use crate::line::Command;
+use crate::handles::{block_of, place_of};
 use crate::lines::is_blank;
 use crate::name::Name;
-use crate::numbers::number_of;
+use crate::numbers::{number_below, number_of};
+use hg_place::{Handle, Place};
 use std::marker::Model;
 
 /// The words that are left of a line.
@@ -73,12 +75,64 @@ impl<'a> Words<'a> {
         number_of(word).ok_or(LineFault::Operand)
     }
 
-    /// The command, where no word is left.
-    pub(crate) fn ends(&mut self, command: Command) -> Result<Command, LineFault>
-        ensures { result ≡ end_at self.old command }
+    /// The next word, as a number below the limit.
+    pub(crate) fn next_below(&mut self, limit: u64) -> Result<u64, LineFault>
+        ensures number { MatchResult result
+            (λ n. number_at limit self.old ≡ Ok (n, self.new))
+            (λ fault. number_at limit self.old ≡ Err fault) }
+        ensures below { IfOk result (λ n. n < limit) }
+    {
+        let word = self.next_word().ok_or(LineFault::Operand)?;
+        number_below(word, limit).ok_or(LineFault::Operand)
+    }
+
+    /// The next word, as a segment.
+    pub(crate) fn next_segment(&mut self) -> Result<u8, LineFault>
+        ensures { MatchResult result
+            (λ segment. number_at 64 self.old ≡ Ok (segment, self.new))
+            (λ fault. number_at 64 self.old ≡ Err fault) }
+    {
+        let segment = self.next_below(64)?;
+        Ok(segment as u8)
+    }
+
+    /// The next word, as the index of a word in a block.
+    pub(crate) fn next_index(&mut self) -> Result<u32, LineFault>
+        ensures { MatchResult result
+            (λ index. number_at (2 ^ 32) self.old ≡ Ok (index, self.new))
+            (λ fault. number_at (2 ^ 32) self.old ≡ Err fault) }
+    {
+        let index = self.next_below(1 << 32)?;
+        Ok(index as u32)
+    }
+
+    #[tactic(auto, unfolding(crate::specs::Handles::place_at))]
+    pub(crate) fn next_place(&mut self) -> Result<Place, LineFault>
+        ensures { MatchResult result
+            (λ place. place_at self.old ≡ Ok (place, self.new))
+            (λ fault. place_at self.old ≡ Err fault) }
+    {
+        let word = self.next_word().ok_or(LineFault::Operand)?;
+        place_of(word)
+    }
+
+    /// The next word, as a block: its handle, or none where the word is a label.
+    #[tactic(auto, unfolding(crate::specs::Handles::block_at))]
+    pub(crate) fn next_block(&mut self) -> Result<Option<Handle>, LineFault>
+        ensures { MatchResult result
+            (λ block. block_at self.old ≡ Ok (block, self.new))
+            (λ fault. block_at self.old ≡ Err fault) }
+    {
+        let word = self.next_word().ok_or(LineFault::Operand)?;
+        block_of(word)
+    }
+
+    /// No word is left.
+    pub(crate) fn ends(&mut self) -> Result<(), LineFault>
+        ensures { result ≡ end_at self.old }
     {
         match self.next_word() {
-            None => Ok(command),
+            None => Ok(()),
             Some(_) => Err(LineFault::Operand),
         }
     }

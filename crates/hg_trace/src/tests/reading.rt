@@ -1,9 +1,23 @@
 //! What traces are read as.
 
 use crate::{Command, Line, read_trace};
+use hg_place::{Handle, Place};
 use std::alloc::{AllocError, Global};
 use std::process::Abort;
 use std::test::Fail;
+
+fn place_shown(alloc: Global, place: Place) -> Result<String, AllocError> {
+    let segment = place.segment;
+    let page = place.page;
+    let index = place.index;
+    format!(in alloc; "{segment}.{page}.{index}")
+}
+
+fn handle_shown(alloc: Global, handle: Handle) -> Result<String, AllocError> {
+    let place = place_shown(alloc, handle.place)?;
+    let generation = handle.generation;
+    format!(in alloc; "@{place}.{generation}")
+}
 
 fn shown(alloc: Global, line: &Line) -> Result<String, AllocError> {
     let number = line.number;
@@ -17,6 +31,41 @@ fn shown(alloc: Global, line: &Line) -> Result<String, AllocError> {
             let actor = actor.as_str();
             let arena = arena.as_str();
             format!(in alloc; "{number}: w{worker} alloc {actor} {arena} {bytes}; ")
+        }
+        Command::Free { actor, block } => {
+            let actor = actor.as_str();
+            let block = handle_shown(alloc, *block)?;
+            format!(in alloc; "{number}: w{worker} free {actor} {block}; ")
+        }
+        Command::Deliver => format!(in alloc; "{number}: w{worker} deliver; "),
+        Command::Take { segment } => format!(in alloc; "{number}: w{worker} take {segment}; "),
+        Command::Collect => format!(in alloc; "{number}: w{worker} collect; "),
+        Command::Read {
+            actor,
+            block,
+            index,
+        } => {
+            let actor = actor.as_str();
+            let block = handle_shown(alloc, *block)?;
+            format!(in alloc; "{number}: w{worker} read {actor} {block} {index}; ")
+        }
+        Command::Write {
+            actor,
+            block,
+            index,
+            value,
+        } => {
+            let actor = actor.as_str();
+            let block = handle_shown(alloc, *block)?;
+            format!(in alloc; "{number}: w{worker} write {actor} {block} {index} {value}; ")
+        }
+        Command::Look { actor, place } => {
+            let actor = actor.as_str();
+            let place = place_shown(alloc, *place)?;
+            format!(in alloc; "{number}: w{worker} look {actor} {place}; ")
+        }
+        Command::Abandon { segment } => {
+            format!(in alloc; "{number}: w{worker} abandon {segment}; ")
         }
         Command::Refill { arena } => {
             let arena = arena.as_str();
@@ -83,6 +132,100 @@ fn traces_are_read(rt: HostRuntime) -> Result<(), Fail> {
 }
 
 #[test]
+fn blocks_are_named_by_handle(rt: HostRuntime) -> Result<(), Fail> {
+    let a = rt.alloc();
+    reads(
+        &rt,
+        a,
+        b"w0 free alice @1.2.3.4\nw0 deliver\nw0 take 63\nw0 collect",
+        "1: w0 free alice @1.2.3.4; 2: w0 deliver; 3: w0 take 63; 4: w0 collect; ",
+    )?;
+    reads(
+        &rt,
+        a,
+        b"w0 read alice @63.15.511.4294967295 4294967295",
+        "1: w0 read alice @63.15.511.4294967295 4294967295; ",
+    )?;
+    reads(
+        &rt,
+        a,
+        b"w0 write bob @0.0.0.1 5 18446744073709551615",
+        "1: w0 write bob @0.0.0.1 5 18446744073709551615; ",
+    )?;
+    reads(
+        &rt,
+        a,
+        b"w0 look alice 63.15.511\nw0 abandon 0",
+        "1: w0 look alice 63.15.511; 2: w0 abandon 0; ",
+    )
+}
+
+#[test]
+fn handles_are_refused(rt: HostRuntime) -> Result<(), Fail> {
+    let a = rt.alloc();
+    let operand = "trace fault 3 at line 1: operand";
+    refuses(&rt, a, b"w0 free alice @0.0.0.0", operand)?;
+    refuses(&rt, a, b"w0 free alice @64.0.0.1", operand)?;
+    refuses(&rt, a, b"w0 free alice @0.16.0.1", operand)?;
+    refuses(&rt, a, b"w0 free alice @0.0.512.1", operand)?;
+    refuses(&rt, a, b"w0 free alice @0.0.0.4294967296", operand)?;
+    refuses(&rt, a, b"w0 free alice @0.0.0.01", operand)?;
+    refuses(&rt, a, b"w0 free alice @0.0.0", operand)?;
+    refuses(&rt, a, b"w0 free alice @0.0.0.1.", operand)?;
+    refuses(&rt, a, b"w0 free alice @0.0.0.1.1", operand)?;
+    refuses(&rt, a, b"w0 free alice @0..0.1", operand)?;
+    refuses(&rt, a, b"w0 free alice @", operand)?;
+    refuses(&rt, a, b"w0 free alice @x", operand)?;
+    refuses(&rt, a, b"w0 free alice 0.0.0.1", operand)?;
+    refuses(&rt, a, b"w0 look alice @0.0.0", operand)?;
+    refuses(&rt, a, b"w0 look alice 0.0", operand)?;
+    refuses(&rt, a, b"w0 look alice 0.16.0", operand)?;
+    refuses(&rt, a, b"w0 look alice 0.0.0.1", operand)
+}
+
+#[test]
+fn missing_and_surplus_operands_are_refused(rt: HostRuntime) -> Result<(), Fail> {
+    let a = rt.alloc();
+    let operand = "trace fault 3 at line 1: operand";
+    refuses(&rt, a, b"w0 free alice", operand)?;
+    refuses(&rt, a, b"w0 free alice @0.0.0.1 0", operand)?;
+    refuses(&rt, a, b"w0 deliver 0", operand)?;
+    refuses(&rt, a, b"w0 take", operand)?;
+    refuses(&rt, a, b"w0 take 64", operand)?;
+    refuses(&rt, a, b"w0 collect main", operand)?;
+    refuses(&rt, a, b"w0 read alice @0.0.0.1", operand)?;
+    refuses(&rt, a, b"w0 read alice @0.0.0.1 4294967296", operand)?;
+    refuses(&rt, a, b"w0 write alice @0.0.0.1 0", operand)?;
+    refuses(&rt, a, b"w0 write alice @0.0.0.1 0 1 2", operand)?;
+    refuses(
+        &rt,
+        a,
+        b"w0 write alice @0.0.0.1 0 18446744073709551616",
+        operand,
+    )?;
+    refuses(&rt, a, b"w0 abandon 64", operand)?;
+    refuses(&rt, a, b"w0 abandon 0 0", operand)
+}
+
+#[test]
+fn labels_are_unknown(rt: HostRuntime) -> Result<(), Fail> {
+    let a = rt.alloc();
+    let operand = "trace fault 3 at line 1: operand";
+    let unknown = "trace fault 4 at line 1: unknown label";
+    refuses(&rt, a, b"w0 free alice x", unknown)?;
+    refuses(&rt, a, b"w0 read alice x 0", unknown)?;
+    refuses(&rt, a, b"w0 write alice x 0 0", unknown)?;
+    // A wrong operand beside the label, at either side of it.
+    refuses(&rt, a, b"w0 read Alice x 0", operand)?;
+    refuses(&rt, a, b"w0 read alice x 01", operand)?;
+    refuses(&rt, a, b"w0 read alice x", operand)?;
+    refuses(&rt, a, b"w0 read alice x 0 0", operand)?;
+    refuses(&rt, a, b"w0 free alice X", operand)?;
+    // Of two lines the first counts.
+    refuses(&rt, a, b"w0 free alice x\nw0", unknown)
+}
+
+#[test]
 fn bytes_are_refused(rt: HostRuntime) -> Result<(), Fail> {
     let a = rt.alloc();
     let byte = "trace fault 1 at line 1: byte";
@@ -108,7 +251,7 @@ fn commands_are_refused(rt: HostRuntime) -> Result<(), Fail> {
     refuses(&rt, a, b"refill main", command)?;
     refuses(&rt, a, b"w0 refills main", command)?;
     refuses(&rt, a, b"w0 Refill main", command)?;
-    refuses(&rt, a, b"w0 free alice @0.0.0.1", command)?;
+    refuses(&rt, a, b"w0 list alice", command)?;
     refuses(&rt, a, b"---", command)
 }
 

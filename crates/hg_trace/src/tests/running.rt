@@ -67,6 +67,67 @@ fn answers_are_judged(rt: HostRuntime) -> Result<(), Fail> {
     )
 }
 
+const TWO_TENANTS: &str = "version = 1
+workers = 1
+tenant = [ {name = \"alice\", limit = 8192}, {name = \"bob\", limit = 64} ]
+arena = [ {name = \"main\", segments = 2} ]
+";
+
+/// Each command but the one that lists has its answer.
+#[test]
+fn commands_are_answered(rt: HostRuntime) -> Result<(), Fail> {
+    let a = rt.alloc();
+    ends(
+        &rt,
+        a,
+        TWO_TENANTS,
+        b"w0 refill main
+w0 alloc alice main 24
+w0 write alice @0.0.0.1 2 18446744073709551615
+w0 read alice @0.0.0.1 2
+w0 read alice @0.0.0.1 3
+w0 look alice 0.0.0
+w0 look bob 0.0.0
+w0 abandon 0
+w0 read alice @0.0.0.1 0
+w0 free alice @0.0.0.1
+w0 deliver
+w0 deliver
+w0 take 0
+w0 refill main
+w0 take 0
+w0 free alice @0.0.0.1
+w0 collect
+w0 free alice @0.0.0.2
+w0 abandon 63
+",
+        (
+            0,
+            "segment 0
+ok @0.0.0.1
+ok
+word 18446744073709551615
+range
+@0.0.0.1              alice               24
+denied grant
+ok
+elsewhere
+parted
+ok
+empty
+notheld
+segment 0
+taken 1
+denied freed
+pages 1
+denied stale
+notheld
+",
+            "",
+        ),
+    )
+}
+
 #[test]
 fn faults_have_statuses(rt: HostRuntime) -> Result<(), Fail> {
     let a = rt.alloc();

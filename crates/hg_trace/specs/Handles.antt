@@ -1,0 +1,86 @@
+-- Places and handles: their numbers, with a dot between one and the next.
+use Rattle.std.proofs.Common.{lit<}
+use Rattle.std.proofs.Math.Nat.{le-max_left}
+use Rattle.std.proofs.lemmas.Nat.{mod_below}
+use Rattle.std.specs.Prelude.{ℕ, ◌^◌, ◌==◌, ◌%◌, max, Bool, List}
+use Rattle.std.specs.Prelude.{[], ◌∷◌, Option, Some, None, Result, Ok}
+use Rattle.std.specs.Prelude.{Err, if◌then◌else◌}
+use Rattle.std.specs.List.{slice_split}
+use Rattle.hg_place.specs.declared.Place.{Place}
+use Rattle.hg_place.specs.declared.Handle.{Handle}
+use Rattle.hg_policy.specs.NameForm.{is_name}
+use Rattle.hg_trace.specs.declared.fault.LineFault.{LineFault}
+use Rattle.hg_trace.specs.declared.fault.LineFault.TheVariants as fault
+use Rattle.hg_trace.specs.Faults.{◌>>=◌}
+use Rattle.hg_trace.specs.Operands.{number_at, end_at}
+
+abbrev pub is_dot : ℕ → Bool
+is_dot b = b == 46
+
+-- what stands between the dots, from each to the next
+abbrev pub parts_of : List ℕ → List (List ℕ)
+parts_of text = slice_split is_dot text
+
+-- the place of three numbers, and the handle of a place and a fourth. That each is in its range is
+-- part of a place and of a handle; of numbers in their ranges these are the numbers themselves
+abbrev pub place_from : ℕ → ℕ → ℕ → Place
+place_from segment page index = record {
+  segment = segment % 64;
+  page = page % 16;
+  index = index % 512;
+  segment_below = mod_below segment 64 (lit< tt);
+  page_below = mod_below page 16 (lit< tt);
+  index_below = mod_below index 512 (lit< tt);
+}
+
+abbrev pub handle_from : Place → ℕ → Handle
+handle_from place generation = record {
+  place = place;
+  generation = max 1 generation;
+  given_out = le-max_left 1 generation;
+}
+
+-- segment, page and index
+unfoldable pub place_in : List (List ℕ) → Result (Place × List (List ℕ)) LineFault
+place_in parts = do
+  segment ← number_at 64 parts
+  page ← number_at 16 segment.1
+  index ← number_at 512 page.1
+  Ok (place_from segment.0 page.0 index.0, index.1)
+
+-- a generation is at least 1
+unfoldable pub generation_in : List (List ℕ) → Result (ℕ × List (List ℕ)) LineFault
+generation_in parts = do
+  generation ← number_at (2 ^ 32) parts
+  if generation.0 == 0 then Err fault.Operand else Ok generation
+
+-- the place that a text is
+unfoldable pub place_of : List ℕ → Result Place LineFault
+place_of text = do
+  place ← place_in (parts_of text)
+  end ← end_at place.1
+  Ok place.0
+
+-- the handle that the text behind an `@` is
+unfoldable pub handle_of : List ℕ → Result Handle LineFault
+handle_of text = do
+  place ← place_in (parts_of text)
+  generation ← generation_in place.1
+  end ← end_at generation.1
+  Ok (handle_from place.0 generation.0)
+
+-- the block that a word means: an `@` and a handle, or None for a label
+unfoldable pub block_of : List ℕ → Result (Option Handle) LineFault
+block_of [] = Err fault.Operand
+block_of (b ∷ bs) =
+    if b == 64 then (handle_of bs >>= λ handle. Ok (Some handle))
+    else (if is_name (b ∷ bs) then Ok None else Err fault.Operand)
+
+-- as operands
+unfoldable pub place_at : List (List ℕ) → Result (Place × List (List ℕ)) LineFault
+place_at [] = Err fault.Operand
+place_at (word ∷ words) = place_of word >>= λ place. Ok (place, words)
+
+unfoldable pub block_at : List (List ℕ) → Result (Option Handle × List (List ℕ)) LineFault
+block_at [] = Err fault.Operand
+block_at (word ∷ words) = block_of word >>= λ block. Ok (block, words)

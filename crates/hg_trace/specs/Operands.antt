@@ -1,0 +1,21 @@
+-- Operands are read one after another: each is the next word, and is read with the words after it.
+use Rattle.std.specs.Prelude.{ℕ, List, [], ◌∷◌, Result, Ok, Err, ok_or, if◌then◌else◌}
+use Rattle.hg_policy.specs.NameForm.{is_name}
+use Rattle.hg_trace.specs.declared.fault.LineFault.{LineFault}
+use Rattle.hg_trace.specs.declared.fault.LineFault.TheVariants as fault
+use Rattle.hg_trace.specs.Faults.{◌>>=◌}
+use Rattle.hg_trace.specs.Numbers.{number_below}
+
+abbrev pub name_at : List (List ℕ) → Result (List ℕ × List (List ℕ)) LineFault
+name_at [] = Err fault.Operand
+name_at (word ∷ words) = if is_name word then Ok (word, words) else Err fault.Operand
+
+abbrev pub number_at : ℕ → List (List ℕ) → Result (ℕ × List (List ℕ)) LineFault
+number_at limit [] = Err fault.Operand
+number_at limit (word ∷ words) =
+    ok_or (number_below limit word) fault.Operand >>= λ n. Ok (n, words)
+
+-- there is no further operand
+abbrev pub end_at : List (List ℕ) → Result (Unit {0}) LineFault
+end_at [] = Ok tt
+end_at (word ∷ words) = Err fault.Operand
