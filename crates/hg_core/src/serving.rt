@@ -1,5 +1,6 @@
 ghost use Rattle.std.specs.Prelude.{◌≡◌, ◌<◌, IfOk, OnErr, All};
 ghost use Rattle.hg_machine.specs.SoundPolicy.{IsSoundPolicy};
+ghost use Rattle.hg_machine.specs.Holders.{holds};
 ghost use Rattle.hg_machine.specs.State.{opening};
 ghost use Rattle.hg_machine.specs.Steps.{Step, Run};
 ghost use Rattle.hg_machine.specs.Soundness.{IsSound};
@@ -78,6 +79,13 @@ impl Core {
         ensures kept { IsSound self.now.state × IsPartition self.now }
     {
         self.store.policy()
+    }
+
+    /// Whether the worker holds the segment. Nobody holds one that the policy lacks.
+    pub fn holds(&self, worker: u8, segment: u8) -> bool
+        ensures { result ≡ holds self.now.state worker segment }
+    {
+        self.store.holds(worker, segment)
     }
 
     /// Serves one event of a worker.

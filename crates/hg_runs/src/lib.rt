@@ -1,5 +1,8 @@
-//! Worked runs of the core: lists of events of its workers, and what each is answered.
+//! Worked runs: lists of events of workers, and traces from bytes to bytes, and what each is
+//! answered.
 #![tactic(auto)]
 
 #[cfg(test)]
 mod event_rows;
+#[cfg(test)]
+mod trace_rows;

@@ -1,5 +1,5 @@
 -- Numbers are read as they are written.
-use Rattle.std.proofs.Common.{◌≡◌, ◌≢◌, ℕ, ◌<◌, ◌≤◌, ◌+◌, ◌*◌, ◌-◌, ◌/◌, ◌%◌, ◌^◌, ◌==◌, ◌&&◌, ◌↔◌, true, false, Bool, suc, List, [], ◌∷◌, ◌++◌, Option, Some, None, decimal, length, get_or, ltb, cond, refl, sym, ap, subst, ◌∙◌, inl, inr, arith, rules, length-append}
+use Rattle.std.proofs.Common.{◌≡◌, ℕ, ◌<◌, ◌≤◌, ◌+◌, ◌*◌, ◌-◌, ◌/◌, ◌%◌, ◌^◌, ◌==◌, ◌&&◌, true, false, Bool, suc, List, [], ◌∷◌, ◌++◌, Some, decimal, length, get_or, ltb, refl, sym, ap, subst, ◌∙◌, inl, inr, arith, rules, length-append}
 use Rattle.std.specs.List.{list_all}
 use Rattle.std.proofs.lemmas.Bool.{cases_Bool, ltb-true, true≢false}
 use Rattle.std.proofs.lemmas.Bool.Decides.{nat_tests}

@@ -16,4 +16,5 @@ module _ (policy_bytes trace_bytes : List ℕ) (old : Option (List ℕ)) (policy
   trace_ends (trace_fault.Command line) fails = (policy, is, inl (trace_fault.Command line, fails (λ e. cc)), Keeps-refl old)
   trace_ends (trace_fault.Operand line) fails = (policy, is, inl (trace_fault.Operand line, fails (λ e. cc)), Keeps-refl old)
   trace_ends (trace_fault.UnknownLabel line) fails = (policy, is, inl (trace_fault.UnknownLabel line, fails (λ e. cc)), Keeps-refl old)
+  trace_ends (trace_fault.RepeatedLabel line) fails = (policy, is, inl (trace_fault.RepeatedLabel line, fails (λ e. cc)), Keeps-refl old)
   trace_ends trace_fault.Memory fails = inl (Keeps-refl old)

@@ -6,8 +6,12 @@ pub mod Numerals
 pub mod Decimals
 pub mod Writes
 pub mod Parts
-pub mod Answering
 pub mod Endings
 pub mod Dots
 pub mod PlaceNumbers
 pub mod RowLines
+pub mod Looking
+pub mod Answering
+pub mod LabelNames
+pub mod Listed
+pub mod ReplayRuns

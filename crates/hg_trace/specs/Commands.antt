@@ -1,15 +1,16 @@
 -- What the words of a line mean, or its first fault.
 use Rattle.std.specs.Prelude.{ℕ, ◌^◌, ◌==◌, List, [], ◌∷◌, Option, Some, None, Result, Ok, Err}
 use Rattle.std.specs.Prelude.{ok_or, bytes_eq, codes, if◌then◌else◌}
-use Rattle.hg_place.specs.declared.Handle.{Handle}
+use Rattle.hg_trace.specs.declared.line.BlockName.{BlockName}
 use Rattle.hg_trace.specs.declared.line.Command.{Command}
 use Rattle.hg_trace.specs.declared.line.Command.TheVariants as command
 use Rattle.hg_trace.specs.declared.fault.LineFault.{LineFault}
 use Rattle.hg_trace.specs.declared.fault.LineFault.TheVariants as fault
 use Rattle.hg_trace.specs.Faults.{◌>>=◌}
 use Rattle.hg_trace.specs.Numbers.{number_below}
-use Rattle.hg_trace.specs.Operands.{name_at, number_at, end_at}
+use Rattle.hg_trace.specs.Operands.{name_at, number_at, label_at, end_at}
 use Rattle.hg_trace.specs.Handles.{place_at, block_at}
+use Rattle.hg_trace.specs.Labels.{repeats}
 
 -- a `w` and a number from 0 to 15
 abbrev pub worker_at : List ℕ → Result ℕ LineFault
@@ -17,28 +18,27 @@ worker_at [] = Err fault.Command
 worker_at (b ∷ digits) =
     if b == 119 then ok_or (number_below 16 digits) fault.Command else Err fault.Command
 
--- the handle of a block. No line gives a label, so that each label is unknown; it is told only of a
--- line whose operands all have their form
-abbrev pub known : Option Handle → Result Handle LineFault
+-- a block whose label no earlier line gave is told only of a line whose operands all have their form
+abbrev pub known : Option BlockName → Result BlockName LineFault
 known block = ok_or block fault.UnknownLabel
 
--- ACTOR ARENA BYTES
+-- ACTOR ARENA BYTES, and then nothing or `as` LABEL
 unfoldable pub alloc_at : List (List ℕ) → Result Command LineFault
 alloc_at words = do
   actor ← name_at words
   arena ← name_at actor.1
   bytes ← number_at (2 ^ 64) arena.1
-  end ← end_at bytes.1
-  Ok (command.Alloc actor.0 arena.0 bytes.0)
+  label ← label_at bytes.1
+  Ok (command.Alloc actor.0 arena.0 bytes.0 label)
 
 -- ACTOR BLOCK
-unfoldable pub free_at : List (List ℕ) → Result Command LineFault
-free_at words = do
+unfoldable pub free_at : List (List ℕ) → List (List ℕ) → Result Command LineFault
+free_at labels words = do
   actor ← name_at words
-  block ← block_at actor.1
+  block ← block_at labels actor.1
   end ← end_at block.1
-  handle ← known block.0
-  Ok (command.Free actor.0 handle)
+  found ← known block.0
+  Ok (command.Free actor.0 found)
 
 -- no operands
 unfoldable pub deliver_at : List (List ℕ) → Result Command LineFault
@@ -60,25 +60,25 @@ collect_at words = do
   Ok command.Collect
 
 -- ACTOR BLOCK INDEX
-unfoldable pub read_at : List (List ℕ) → Result Command LineFault
-read_at words = do
+unfoldable pub read_at : List (List ℕ) → List (List ℕ) → Result Command LineFault
+read_at labels words = do
   actor ← name_at words
-  block ← block_at actor.1
+  block ← block_at labels actor.1
   index ← number_at (2 ^ 32) block.1
   end ← end_at index.1
-  handle ← known block.0
-  Ok (command.Read actor.0 handle index.0)
+  found ← known block.0
+  Ok (command.Read actor.0 found index.0)
 
 -- ACTOR BLOCK INDEX VALUE
-unfoldable pub write_at : List (List ℕ) → Result Command LineFault
-write_at words = do
+unfoldable pub write_at : List (List ℕ) → List (List ℕ) → Result Command LineFault
+write_at labels words = do
   actor ← name_at words
-  block ← block_at actor.1
+  block ← block_at labels actor.1
   index ← number_at (2 ^ 32) block.1
   value ← number_at (2 ^ 64) index.1
   end ← end_at value.1
-  handle ← known block.0
-  Ok (command.Write actor.0 handle index.0 value.0)
+  found ← known block.0
+  Ok (command.Write actor.0 found index.0 value.0)
 
 -- ACTOR PLACE
 unfoldable pub look_at : List (List ℕ) → Result Command LineFault
@@ -87,6 +87,13 @@ look_at words = do
   place ← place_at actor.1
   end ← end_at place.1
   Ok (command.Look actor.0 place.0)
+
+-- ACTOR
+unfoldable pub list_at : List (List ℕ) → Result Command LineFault
+list_at words = do
+  actor ← name_at words
+  end ← end_at actor.1
+  Ok (command.List actor.0)
 
 -- SEGMENT
 unfoldable pub abandon_at : List (List ℕ) → Result Command LineFault
@@ -102,26 +109,28 @@ refill_at words = do
   end ← end_at arena.1
   Ok (command.Refill arena.0)
 
--- a command by its name, with its operands
-unfoldable pub command_at : List (List ℕ) → Result Command LineFault
-command_at [] = Err fault.Command
-command_at (name ∷ operands) =
+-- a command by its name, with its operands, where earlier lines gave these labels
+unfoldable pub command_at : List (List ℕ) → List (List ℕ) → Result Command LineFault
+command_at labels [] = Err fault.Command
+command_at labels (name ∷ operands) =
     if bytes_eq name (codes "alloc") then alloc_at operands
-    else (if bytes_eq name (codes "free") then free_at operands
+    else (if bytes_eq name (codes "free") then free_at labels operands
     else (if bytes_eq name (codes "deliver") then deliver_at operands
     else (if bytes_eq name (codes "take") then take_at operands
     else (if bytes_eq name (codes "collect") then collect_at operands
-    else (if bytes_eq name (codes "read") then read_at operands
-    else (if bytes_eq name (codes "write") then write_at operands
+    else (if bytes_eq name (codes "read") then read_at labels operands
+    else (if bytes_eq name (codes "write") then write_at labels operands
     else (if bytes_eq name (codes "look") then look_at operands
+    else (if bytes_eq name (codes "list") then list_at operands
     else (if bytes_eq name (codes "abandon") then abandon_at operands
     else (if bytes_eq name (codes "refill") then refill_at operands
-    else Err fault.Command)))))))))
+    else Err fault.Command))))))))))
 
--- a worker and its command, or nothing where there are no words
-unfoldable pub words_at : List (List ℕ) → Result (Option (ℕ × Command)) LineFault
-words_at [] = Ok None
-words_at (word ∷ words) = do
+-- a worker and its command, or nothing where there are no words. A label is given once
+unfoldable pub words_at
+    : List (List ℕ) → List (List ℕ) → Result (Option (ℕ × Command)) LineFault
+words_at labels [] = Ok None
+words_at labels (word ∷ words) = do
   worker ← worker_at word
-  command ← command_at words
-  Ok (Some (worker, command))
+  command ← command_at labels words
+  if repeats labels command then Err fault.RepeatedLabel else Ok (Some (worker, command))

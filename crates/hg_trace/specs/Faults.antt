@@ -11,6 +11,7 @@ fault_in line line_fault.Byte = trace_fault.Byte line
 fault_in line line_fault.Command = trace_fault.Command line
 fault_in line line_fault.Operand = trace_fault.Operand line
 fault_in line line_fault.UnknownLabel = trace_fault.UnknownLabel line
+fault_in line line_fault.RepeatedLabel = trace_fault.RepeatedLabel line
 
 infixl 10 ◌>>=◌
 abbrev pub ◌>>=◌ : {A B E : Type 0} → Result A E → (A → Result B E) → Result B E

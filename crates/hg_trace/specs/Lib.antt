@@ -10,8 +10,12 @@ pub mod Text
 pub mod Rows
 pub mod Joined
 pub mod Writes
+pub mod Looked
+pub mod Labels
+pub mod Listings
 pub mod Events
 pub mod Replays
+pub mod ReplayLaws
 pub mod Statuses
 pub mod RunFaults
 pub mod Checks

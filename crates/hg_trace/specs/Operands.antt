@@ -1,5 +1,6 @@
 -- Operands are read one after another: each is the next word, and is read with the words after it.
-use Rattle.std.specs.Prelude.{ℕ, List, [], ◌∷◌, Result, Ok, Err, ok_or, if◌then◌else◌}
+use Rattle.std.specs.Prelude.{ℕ, List, [], ◌∷◌, Option, Some, None, Result, Ok, Err}
+use Rattle.std.specs.Prelude.{ok_or, bytes_eq, codes, if◌then◌else◌}
 use Rattle.hg_policy.specs.NameForm.{is_name}
 use Rattle.hg_trace.specs.declared.fault.LineFault.{LineFault}
 use Rattle.hg_trace.specs.declared.fault.LineFault.TheVariants as fault
@@ -19,3 +20,14 @@ number_at limit (word ∷ words) =
 abbrev pub end_at : List (List ℕ) → Result (Unit {0}) LineFault
 end_at [] = Ok tt
 end_at (word ∷ words) = Err fault.Operand
+
+-- no further operand, or `as` and the label that the line gives
+unfoldable pub label_at : List (List ℕ) → Result (Option (List ℕ)) LineFault
+label_at [] = Ok None
+label_at (word ∷ words) =
+    if bytes_eq word (codes "as")
+    then (do
+      label ← name_at words
+      end ← end_at label.1
+      Ok (Some label.0))
+    else Err fault.Operand

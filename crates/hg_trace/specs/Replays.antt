@@ -1,45 +1,72 @@
 -- What a replay writes, and how it ends.
-use Rattle.std.specs.Prelude.{◌≡◌, ℕ, List, ◌∷◌, ◌++◌, Option, Some, None, Result, Ok, Err}
+use Rattle.std.specs.Prelude.{◌≡◌, ℕ, List, [], ◌∷◌, ◌++◌, Option, Some, None, Result, Ok, Err}
 use Rattle.std.specs.Io.KnownBytes.{Appends, Keeps}
+use Rattle.hg_place.specs.declared.Handle.{Handle}
 use Rattle.hg_machine.specs.Policy.{Policy}
 use Rattle.hg_machine.specs.State.{State, opening}
-use Rattle.hg_machine.specs.Steps.{Step, Run}
+use Rattle.hg_machine.specs.Steps.{Run}
 use Rattle.hg_machine.specs.declared.Answer.{Answer}
+use Rattle.hg_machine.specs.declared.Answer.TheVariants as answer
+use Rattle.hg_trace.specs.declared.line.Command.{Command}
+use Rattle.hg_trace.specs.declared.line.Command.TheVariants as command
 use Rattle.hg_trace.specs.declared.line.Line.{Line}
+use Rattle.hg_trace.specs.declared.events.Meaning.{Meaning}
 use Rattle.hg_trace.specs.declared.fault.ReplayFault.{ReplayFault}
 use Rattle.hg_trace.specs.declared.fault.ReplayFault.TheVariants as fault
-use Rattle.hg_trace.specs.Events.{event_of, events_of, unknown_worker}
-use Rattle.hg_trace.specs.Text.{answer_line, answer_lines}
+use Rattle.hg_trace.specs.Events.{meaning_of, events_of, unknown_worker}
+use Rattle.hg_trace.specs.Text.{text_of}
 use Rattle.hg_trace.specs.Writes.{AppendsFront}
 
--- from a state the lines are answered as in a run, which leaves this one, and the text of the
--- answers is written
-abbrev pub Replays : Policy → State → List Line → State → Option (List ℕ) → Option (List ℕ) → Type 0
-Replays policy from lines end old new =
-    (answers : List Answer) × Run from (events_of policy lines) answers end
-    × Appends old new (answer_lines policy answers)
+-- where a replay stands: the state, and what the allocation of each label so far was answered, in
+-- the order of the labels; none where it wasn't served
+pub record Progress : Type 0 where
+  pub state : State
+  pub handles : List (Option Handle)
 
--- a line is answered by a step that leaves this state, and this is true of the text of its answer
-abbrev pub Answers : State → Line → State → (List ℕ → Type 0) → Type 0
-Answers from line end Says =
-    (answer : Answer) × Step from line.worker (event_of from.policy line.command) answer end
-    × Says (answer_line from.policy answer)
+-- the handle in the answers to an allocation
+abbrev pub handle_in : List Answer → Option Handle
+handle_in (answer.Block handle ∷ []) = Some handle
+handle_in _ = None
 
--- the lines before one are replayed, and that one has its answer too, but of the answer's text only
--- a front is written
-pub record StopsWithin (policy : Policy) (from : State) (lines : List Line)
-    (old new : Option (List ℕ)) : Type 0 where
+-- a line that gives a label binds it to what its allocation was answered
+abbrev pub handles_after : List (Option Handle) → Command → List Answer → List (Option Handle)
+handles_after handles (command.Alloc actor arena bytes (Some label)) answers =
+    handles ++ handle_in answers ∷ []
+handles_after handles _ answers = handles
+
+-- what a line means here
+abbrev pub meaning_at : Progress → Line → Meaning
+meaning_at from line = meaning_of from.state.policy from.handles line.command
+
+-- the events of a line are answered as in a run, which leaves this, and this is their text
+pub record Answered (from : Progress) (line : Line) (end : Progress) (text : List ℕ) : Type 0 where
+  pub answers : List Answer
+  pub run :
+      Run from.state (events_of from.state line.worker (meaning_at from line)) answers end.state
+  pub handles : end.handles ≡ handles_after from.handles line.command answers
+  pub told : text ≡ text_of from.state.policy (meaning_at from line) answers
+
+-- the lines are answered one after another, which leaves this, and this is the text of all
+abbrev pub Replays : Progress → List Line → Progress → List ℕ → Type 0
+Replays from [] end text = (end ≡ from) × (text ≡ [])
+Replays from (line ∷ lines) end text =
+    (mid : Progress) × (here : List ℕ) × (rest : List ℕ) × Answered from line mid here
+    × Replays mid lines end rest × (text ≡ here ++ rest)
+
+-- a state, and no label is given
+abbrev pub starting : State → Progress
+starting s = record { state = s; handles = [] }
+
+-- from a state some of the lines, the first ones, are answered, and of their text only a front is
+-- written
+pub record StopsWithin (s : State) (lines : List Line) (old new : Option (List ℕ)) : Type 0 where
   pub before : List Line
-  pub line : Line
   pub after : List Line
-  pub split : lines ≡ before ++ line ∷ after
-  pub mid : State
-  pub whole : Option (List ℕ)
-  pub replayed : Replays policy from before mid old whole
-  pub answer : Answer
-  pub end : State
-  pub step : Step mid line.worker (event_of policy line.command) answer end
-  pub stopped : AppendsFront whole new (answer_line policy answer)
+  pub split : lines ≡ before ++ after
+  pub end : Progress
+  pub text : List ℕ
+  pub replayed : Replays (starting s) before end text
+  pub stopped : AppendsFront old new text
 
 -- how a replay under a policy from its opening state ends
 abbrev pub EndsReplay
@@ -47,10 +74,11 @@ abbrev pub EndsReplay
     → Result (Unit {0}) ReplayFault → Type 0
 EndsReplay policy lines old new (Ok done) =
     (unknown_worker policy.workers lines ≡ None)
-    × (end : State) × Replays policy (opening policy) lines end old new
+    × (end : Progress) × (text : List ℕ) × Replays (starting (opening policy)) lines end text
+    × Appends old new text
 EndsReplay policy lines old new (Err (fault.Worker line)) =
     (unknown_worker policy.workers lines ≡ Some line) × Keeps old new
 EndsReplay policy lines old new (Err fault.Write) =
-    (unknown_worker policy.workers lines ≡ None) × StopsWithin policy (opening policy) lines old new
+    (unknown_worker policy.workers lines ≡ None) × StopsWithin (opening policy) lines old new
 EndsReplay policy lines old new (Err fault.Memory) =
     (unknown_worker policy.workers lines ≡ None) × Keeps old new

@@ -1,16 +1,16 @@
 -- How a run on the bytes of a policy and a trace ends: its status, and what it writes.
 use Rattle.std.specs.Prelude.{◌≡◌, ◌≤◌, ◌⊎◌, ℕ, zero, suc, List, Option, Some, None, Ok}
 use Rattle.std.specs.Prelude.{Err, IfSome, length}
-use Rattle.std.specs.Io.KnownBytes.{Keeps}
+use Rattle.std.specs.Io.KnownBytes.{Appends, Keeps}
 use Rattle.hg_machine.specs.Policy.{Policy}
-use Rattle.hg_machine.specs.State.{State, opening}
+use Rattle.hg_machine.specs.State.{opening}
 use Rattle.hg_policy.specs.Faults.{Fault}
 use Rattle.hg_policy.specs.Document.{document_of}
 use Rattle.hg_trace.specs.declared.line.Line.{Line}
 use Rattle.hg_trace.specs.declared.fault.TraceFault.{TraceFault}
 use Rattle.hg_trace.specs.Trace.{trace_of}
 use Rattle.hg_trace.specs.Events.{unknown_worker}
-use Rattle.hg_trace.specs.Replays.{Replays, StopsWithin}
+use Rattle.hg_trace.specs.Replays.{Progress, Replays, StopsWithin, starting}
 use Rattle.hg_trace.specs.Joined.{policy_in, trace_in}
 
 -- the bytes mean this policy, and this trace, whose workers are all below the policy's count
@@ -34,14 +34,15 @@ NoTrace policy trace_bytes =
 abbrev pub EndsWell : List ℕ → List ℕ → Option (List ℕ) → Option (List ℕ) → Type 0
 EndsWell policy_bytes trace_bytes old new =
     (policy : Policy) × (lines : List Line) × Means policy_bytes trace_bytes policy lines
-    × (end : State) × Replays policy (opening policy) lines end old new
+    × (end : Progress) × (text : List ℕ) × Replays (starting (opening policy)) lines end text
+    × Appends old new text
 
 -- status 3: nothing is written, or a write stopped in the text of the answers
 abbrev pub EndsEarly : List ℕ → List ℕ → Option (List ℕ) → Option (List ℕ) → Type 0
 EndsEarly policy_bytes trace_bytes old new =
     Keeps old new
     ⊎ ((policy : Policy) × (lines : List Line) × Means policy_bytes trace_bytes policy lines
-    × StopsWithin policy (opening policy) lines old new)
+    × StopsWithin (opening policy) lines old new)
 
 -- by the status: 0 where all went well, 1 where there is no policy, 2 where there is one and no
 -- trace for it, and 3 for want of memory and for a write that stopped. With 1 and 2 nothing is

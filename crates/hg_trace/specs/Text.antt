@@ -1,6 +1,6 @@
 -- The line of each answer.
 use Rattle.std.specs.Prelude.{ℕ, ◌-◌, ◌++◌, List, [], ◌∷◌, length, replicate, unwrap_or, codes}
-use Rattle.std.specs.Prelude.{decimal, flat_map}
+use Rattle.std.specs.Prelude.{decimal, flat_map, filter}
 use Rattle.hg_place.specs.declared.Handle.{Handle}
 use Rattle.hg_machine.specs.Policy.{Policy}
 use Rattle.hg_machine.specs.declared.Row.{Row}
@@ -9,6 +9,9 @@ use Rattle.hg_machine.specs.declared.Rule.TheVariants as rule
 use Rattle.hg_machine.specs.declared.Answer.{Answer}
 use Rattle.hg_machine.specs.declared.Answer.TheVariants as answer
 use Rattle.hg_policy.specs.Names.{tenant_name}
+use Rattle.hg_trace.specs.declared.events.Meaning.{Meaning}
+use Rattle.hg_trace.specs.declared.events.Meaning.TheVariants as meaning
+use Rattle.hg_trace.specs.Rows.{is_row}
 
 -- `@`, segment, page, index and generation
 abbrev pub handle_text : Handle → List ℕ
@@ -64,3 +67,17 @@ answer_line policy answer = answer_text policy answer ++ 10 ∷ []
 -- a line for each answer
 abbrev pub answer_lines : Policy → List Answer → List ℕ
 answer_lines policy answers = flat_map (answer_line policy) answers
+
+-- how a listing of so many rows ends
+abbrev pub listing_end : ℕ → List ℕ
+listing_end rows = codes "rows " ++ decimal rows ++ codes "\n"
+
+-- the rows of a listing, and their number
+abbrev pub listing_text : Policy → List Answer → List ℕ
+listing_text policy rows = answer_lines policy rows ++ listing_end (length rows)
+
+-- the text of the answers to a line that means this
+abbrev pub text_of : Policy → Meaning → List Answer → List ℕ
+text_of policy (meaning.One event) answers = answer_lines policy answers
+text_of policy (meaning.Listing actor) answers = listing_text policy (filter is_row answers)
+text_of policy meaning.Unbound answers = codes "unbound\n"

@@ -9,12 +9,13 @@ use Rattle.hg_trace.specs.declared.fault.LineFault.TheVariants as fault
 use Rattle.hg_trace.specs.declared.fault.TraceFault.{TraceFault}
 use Rattle.hg_trace.specs.Faults.{◌>>=◌, fault_in}
 use Rattle.hg_trace.specs.Lines.{lines_of, text_of, words_of, is_allowed}
+use Rattle.hg_trace.specs.Labels.{labels_after}
 use Rattle.hg_trace.specs.Commands.{words_at}
 
--- what a line means, if anything
-unfoldable pub line_at : List ℕ → Result (Option (ℕ × Command)) LineFault
-line_at line =
-    if list_all is_allowed (text_of line) then words_at (words_of (text_of line))
+-- what a line means, if anything, where earlier lines gave these labels
+unfoldable pub line_at : List (List ℕ) → List ℕ → Result (Option (ℕ × Command)) LineFault
+line_at labels line =
+    if list_all is_allowed (text_of line) then words_at labels (words_of (text_of line))
     else Err fault.Byte
 
 -- a line with its number, if it means something
@@ -24,14 +25,15 @@ numbered number (Ok None) = Ok []
 numbered number (Ok (Some (worker, command))) =
     Ok (record { number = number; worker = worker; command = command } ∷ [])
 
--- what the lines from this number on mean, or the fault of the first faulty one
-abbrev pub lines_from : ℕ → List (List ℕ) → Result (List Line) TraceFault
-lines_from number [] = Ok []
-lines_from number (line ∷ lines) = do
-  here ← numbered number (line_at line)
-  rest ← lines_from (number + 1) lines
+-- what the lines from this number on mean, where earlier ones gave these labels, or the fault of the
+-- first faulty one
+abbrev pub lines_from : ℕ → List (List ℕ) → List (List ℕ) → Result (List Line) TraceFault
+lines_from number labels [] = Ok []
+lines_from number labels (line ∷ lines) = do
+  here ← numbered number (line_at labels line)
+  rest ← lines_from (number + 1) (labels_after labels here) lines
   Ok (here ++ rest)
 
 -- lines are numbered from 1
 abbrev pub trace_of : List ℕ → Result (List Line) TraceFault
-trace_of bytes = lines_from 1 (lines_of bytes)
+trace_of bytes = lines_from 1 [] (lines_of bytes)

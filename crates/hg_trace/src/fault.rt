@@ -21,6 +21,8 @@ pub(crate) enum LineFault {
     Operand,
     /// A block's label that no earlier line gave.
     UnknownLabel,
+    /// A label that an earlier line gave.
+    RepeatedLabel,
 }
 
 /// Why no trace was read: the fault of the first faulty line, with the line's number from 1, or
@@ -39,6 +41,9 @@ pub enum TraceFault {
     /// A block's label that no earlier line gave.
     #[error("trace fault 4 at line {0}: unknown label")]
     UnknownLabel(u64),
+    /// A label that an earlier line gave.
+    #[error("trace fault 5 at line {0}: repeated label")]
+    RepeatedLabel(u64),
     #[error("no memory")]
     Memory,
 }
@@ -93,6 +98,7 @@ impl LineFault {
             LineFault::Command => TraceFault::Command(line),
             LineFault::Operand => TraceFault::Operand(line),
             LineFault::UnknownLabel => TraceFault::UnknownLabel(line),
+            LineFault::RepeatedLabel => TraceFault::RepeatedLabel(line),
         }
     }
 }

@@ -4,11 +4,13 @@ ghost use Rattle.std.specs.Prelude.{◌≡◌, ◌≤◌, ◌<◌, ◌∷◌, []
 ghost use Rattle.std.specs.Prelude.{position, Ok, Err, IfOk, IfSome, length};
 ghost use Rattle.std.specs.Prelude.{MatchOption, MatchResult};
 ghost use Rattle.hg_trace.specs.Handles.{is_dot, parts_of, place_in, generation_in};
-ghost use Rattle.hg_trace.specs.Handles.{place_of, handle_of, block_of};
+ghost use Rattle.hg_trace.specs.Handles.{place_of, handle_of, label_of, block_of};
 ghost use Rattle.hg_trace.specs.Operands.{number_at, end_at};
 
 use crate::fault::LineFault;
-use crate::name::is_name;
+use crate::labels::Labels;
+use crate::line::BlockName;
+use crate::name::Name;
 use crate::numbers::number_below;
 use hg_place::{Handle, Place};
 use std::marker::Model;
@@ -136,17 +138,27 @@ fn handle_of(text: &[u8]) -> Result<Handle, LineFault>
     Ok(Handle { place, generation })
 }
 
-/// The block that a word means: its handle, or none where the word is a label.
+/// The number of the label that a word is, if an earlier line gave it.
+fn label_of(labels: &Labels, word: &[u8]) -> Result<Option<usize>, LineFault>
+    ensures { result ≡ label_of labels.now word.now }
+{
+    let name = Name::of(word).ok_or(LineFault::Operand)?;
+    Ok(labels.number_of(name.as_str()))
+}
+
+/// The block that a word means, or none where the word is a label that no earlier line gave.
 #[tactic(auto, unfolding(crate::specs::Handles::block_of))]
-pub(crate) fn block_of(word: &[u8]) -> Result<Option<Handle>, LineFault>
-    ensures { result ≡ block_of word.now }
+pub(crate) fn block_of(labels: &Labels, word: &[u8]) -> Result<Option<BlockName>, LineFault>
+    ensures { result ≡ block_of labels.now word.now }
 {
     match word {
         [b'@', text @ ..] => {
             let handle = handle_of(text)?;
-            Ok(Some(handle))
+            Ok(Some(BlockName::Handle(handle)))
         }
-        _ if is_name(word) => Ok(None),
-        _ => Err(LineFault::Operand),
+        _ => match label_of(labels, word)? {
+            Some(label) => Ok(Some(BlockName::Label(label))),
+            None => Ok(None),
+        },
     }
 }

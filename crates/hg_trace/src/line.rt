@@ -1,10 +1,20 @@
 //! What a trace says, line by line.
 
 ghost use Rattle.std.specs.Prelude.{◌≡◌};
+ghost use Rattle.hg_trace.specs.Labels.{gives_label};
 
 use crate::name::Name;
 use hg_place::{Handle, Place};
 use std::marker::Model;
+
+/// A block, as an operand names it.
+#[derive(Clone, Copy, Debug, PartialEq, Eq)]
+pub enum BlockName {
+    Handle(Handle),
+    /// What the allocation of this label was answered. Labels are numbered from 0, in the order in
+    /// which lines give them.
+    Label(usize),
+}
 
 /// A command of a worker, with its operands.
 #[derive(Drop)]
@@ -13,10 +23,12 @@ pub enum Command {
         actor: Name,
         arena: Name,
         bytes: u64,
+        /// The label that the line gives.
+        label: Option<Name>,
     },
     Free {
         actor: Name,
-        block: Handle,
+        block: BlockName,
     },
     Deliver,
     Take {
@@ -25,12 +37,12 @@ pub enum Command {
     Collect,
     Read {
         actor: Name,
-        block: Handle,
+        block: BlockName,
         index: u32,
     },
     Write {
         actor: Name,
-        block: Handle,
+        block: BlockName,
         index: u32,
         value: u64,
     },
@@ -38,12 +50,24 @@ pub enum Command {
         actor: Name,
         place: Place,
     },
+    List {
+        actor: Name,
+    },
     Abandon {
         segment: u8,
     },
     Refill {
         arena: Name,
     },
+}
+
+impl Command {
+    /// Whether its line gives a label.
+    pub(crate) fn gives_label(&self) -> bool
+        ensures { result ≡ gives_label self.now }
+    {
+        matches!(self, Command::Alloc { label: Some(_), .. })
+    }
 }
 
 /// A line that has a command. Lines are numbered from 1.

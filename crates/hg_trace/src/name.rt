@@ -56,7 +56,7 @@ fn is_name_byte(b: u8) -> bool
     matches!(b, b'a'..=b'z' | b'0'..=b'9' | b'_' | b'-')
 }
 
-pub(crate) fn is_name(word: &[u8]) -> bool
+fn is_name(word: &[u8]) -> bool
     ensures { result ≡ is_name word.now }
 {
     match word {

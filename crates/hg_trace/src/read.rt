@@ -1,14 +1,16 @@
 //! Reading a trace.
 
-ghost use Rattle.std.specs.Prelude.{◌≡◌, ◌≢◌, ◌^◌, ◌∷◌, IfOk, IfErr, MatchResult, Ok, Err, ok_or};
-ghost use Rattle.std.specs.Prelude.{bytes_eq};
+ghost use Rattle.std.specs.Prelude.{◌≡◌, ◌≢◌, ◌^◌, ◌∷◌, IfOk, IfErr, IfSome, MatchResult, Ok, Err, ok_or};
+ghost use Rattle.std.specs.Prelude.{bytes_eq, false};
 ghost use Rattle.hg_trace.specs.Numbers.{number_below};
 ghost use Rattle.hg_trace.specs.Commands.{worker_at, command_at, words_at};
 ghost use Rattle.hg_trace.specs.Commands.{alloc_at, free_at, deliver_at, take_at, collect_at};
-ghost use Rattle.hg_trace.specs.Commands.{read_at, write_at, look_at, abandon_at, refill_at};
+ghost use Rattle.hg_trace.specs.Commands.{read_at, write_at, look_at, list_at, abandon_at, refill_at};
+ghost use Rattle.hg_trace.specs.Labels.{repeats};
 ghost use Rattle.hg_trace.specs.Trace.{line_at, trace_of};
 
 use crate::fault::{LineFault, TraceFault};
+use crate::labels::Labels;
 use crate::line::{Command, Line, Trace};
 use crate::lines::{Lines, is_clean, text_of};
 use crate::numbers::number_of;
@@ -37,20 +39,21 @@ fn alloc_of(words: &mut Words) -> Result<Command, LineFault>
     let actor = words.next_name()?;
     let arena = words.next_name()?;
     let bytes = words.next_number()?;
-    words.ends()?;
+    let label = words.last_label()?;
     Ok(Command::Alloc {
         actor,
         arena,
         bytes,
+        label,
     })
 }
 
 #[tactic(auto, unfolding(crate::specs::Commands::free_at))]
-fn free_of(words: &mut Words) -> Result<Command, LineFault>
-    ensures { result ≡ free_at words.old }
+fn free_of(labels: &Labels, words: &mut Words) -> Result<Command, LineFault>
+    ensures { result ≡ free_at labels.now words.old }
 {
     let actor = words.next_name()?;
-    let block = words.next_block()?;
+    let block = words.next_block(labels)?;
     words.ends()?;
     let block = block.ok_or(LineFault::UnknownLabel)?;
     Ok(Command::Free { actor, block })
@@ -82,11 +85,11 @@ fn collect_of(words: &mut Words) -> Result<Command, LineFault>
 }
 
 #[tactic(auto, unfolding(crate::specs::Commands::read_at))]
-fn read_of(words: &mut Words) -> Result<Command, LineFault>
-    ensures { result ≡ read_at words.old }
+fn read_of(labels: &Labels, words: &mut Words) -> Result<Command, LineFault>
+    ensures { result ≡ read_at labels.now words.old }
 {
     let actor = words.next_name()?;
-    let block = words.next_block()?;
+    let block = words.next_block(labels)?;
     let index = words.next_index()?;
     words.ends()?;
     let block = block.ok_or(LineFault::UnknownLabel)?;
@@ -98,11 +101,11 @@ fn read_of(words: &mut Words) -> Result<Command, LineFault>
 }
 
 #[tactic(auto, unfolding(crate::specs::Commands::write_at))]
-fn write_of(words: &mut Words) -> Result<Command, LineFault>
-    ensures { result ≡ write_at words.old }
+fn write_of(labels: &Labels, words: &mut Words) -> Result<Command, LineFault>
+    ensures { result ≡ write_at labels.now words.old }
 {
     let actor = words.next_name()?;
-    let block = words.next_block()?;
+    let block = words.next_block(labels)?;
     let index = words.next_index()?;
     let value = words.next_number()?;
     words.ends()?;
@@ -123,6 +126,15 @@ fn look_of(words: &mut Words) -> Result<Command, LineFault>
     let place = words.next_place()?;
     words.ends()?;
     Ok(Command::Look { actor, place })
+}
+
+#[tactic(auto, unfolding(crate::specs::Commands::list_at))]
+fn list_of(words: &mut Words) -> Result<Command, LineFault>
+    ensures { result ≡ list_at words.old }
+{
+    let actor = words.next_name()?;
+    words.ends()?;
+    Ok(Command::List { actor })
 }
 
 #[tactic(auto, unfolding(crate::specs::Commands::abandon_at))]
@@ -150,18 +162,19 @@ fn is(word: &[u8], name: &str) -> bool
 }
 
 #[tactic(auto, unfolding(crate::specs::Commands::command_at))]
-fn command_of(words: &mut Words) -> Result<Command, LineFault>
-    ensures { result ≡ command_at words.old }
+fn command_of(labels: &Labels, words: &mut Words) -> Result<Command, LineFault>
+    ensures { result ≡ command_at labels.now words.old }
 {
     match words.next_word() {
         Some(word) if is(word, "alloc") => alloc_of(words),
-        Some(word) if is(word, "free") => free_of(words),
+        Some(word) if is(word, "free") => free_of(labels, words),
         Some(word) if is(word, "deliver") => deliver_of(words),
         Some(word) if is(word, "take") => take_of(words),
         Some(word) if is(word, "collect") => collect_of(words),
-        Some(word) if is(word, "read") => read_of(words),
-        Some(word) if is(word, "write") => write_of(words),
+        Some(word) if is(word, "read") => read_of(labels, words),
+        Some(word) if is(word, "write") => write_of(labels, words),
         Some(word) if is(word, "look") => look_of(words),
+        Some(word) if is(word, "list") => list_of(words),
         Some(word) if is(word, "abandon") => abandon_of(words),
         Some(word) if is(word, "refill") => refill_of(words),
         _ => Err(LineFault::Command),
@@ -169,26 +182,31 @@ fn command_of(words: &mut Words) -> Result<Command, LineFault>
 }
 
 #[tactic(auto, unfolding(crate::specs::Commands::words_at))]
-fn words_mean(words: &mut Words) -> Result<Option<(u8, Command)>, LineFault>
-    ensures { result ≡ words_at words.old }
+fn words_mean(labels: &Labels, words: &mut Words) -> Result<Option<(u8, Command)>, LineFault>
+    ensures means { result ≡ words_at labels.now words.old }
+    ensures fresh { IfOk result (λ here. IfSome here (λ it. repeats labels.now it.1 ≡ false)) }
 {
     let Some(word) = words.next_word() else {
         return Ok(None);
     };
     let worker = worker_of(word)?;
-    let command = command_of(words)?;
+    let command = command_of(labels, words)?;
+    if labels.repeats(&command) {
+        return Err(LineFault::RepeatedLabel);
+    }
     Ok(Some((worker, command)))
 }
 
 #[tactic(auto, unfolding(crate::specs::Trace::line_at))]
-fn line_means(line: &[u8]) -> Result<Option<(u8, Command)>, LineFault>
-    ensures { result ≡ line_at line.now }
+fn line_means(labels: &Labels, line: &[u8]) -> Result<Option<(u8, Command)>, LineFault>
+    ensures means { result ≡ line_at labels.now line.now }
+    ensures fresh { IfOk result (λ here. IfSome here (λ it. repeats labels.now it.1 ≡ false)) }
 {
     let text = text_of(line);
     if !is_clean(text) {
         return Err(LineFault::Byte);
     }
-    words_mean(&mut Words::new(text))
+    words_mean(labels, &mut Words::new(text))
 }
 
 /// The trace that the bytes mean, or the fault of their first faulty line.
@@ -198,17 +216,21 @@ pub fn read_trace(alloc: Global, bytes: &[u8]) -> Result<Trace, TraceFault>
         (λ fault. fault ≢ TraceFault.Memory → trace_of bytes.now ≡ Err fault) }
 {
     let mut read = Vec::new(alloc);
+    let mut labels = Labels::new(alloc);
     let mut lines = Lines::new(bytes);
     let mut number = 0;
     while let Some(line) = lines.next_line() {
         number += 1;
-        match line_means(line) {
+        match line_means(&labels, line) {
             Ok(None) => {}
-            Ok(Some((worker, command))) => read.push(Line {
-                number,
-                worker,
-                command,
-            })?,
+            Ok(Some((worker, command))) => {
+                labels.add(alloc, &command)?;
+                read.push(Line {
+                    number,
+                    worker,
+                    command,
+                })?;
+            }
             Err(fault) => return Err(fault.at(number)),
         }
     }

@@ -1,4 +1,5 @@
 mod fakes;
+mod outputs;
 mod reading;
 mod refusals;
 mod running;

@@ -5,6 +5,7 @@ ghost use Rattle.std.specs.Prelude.{length, replicate, decimal, codes, false};
 ghost use Rattle.arrayvec.specs.ArrayString.{array_string_len};
 ghost use Rattle.hg_machine.specs.Policy.{Policy};
 ghost use Rattle.hg_trace.specs.Text.{handle_text, rule_text, answer_line, at_left, at_right};
+ghost use Rattle.hg_trace.specs.Text.{listing_end};
 ghost use Rattle.hg_trace.specs.Rows.{is_row};
 
 use arrayvec::ArrayString;
@@ -136,6 +137,17 @@ pub(crate) fn row_back(name: usize, bytes: u32) -> Text
     text.push_str(" ");
     push_blanks(&mut text, BYTES_PLACES.saturating_sub(digits.len()));
     text.push_str(digits);
+    text.push_str("\n");
+    text
+}
+
+/// The last line of a listing of so many rows.
+pub(crate) fn listing_end(rows: u32) -> Text
+    ensures { result.bytes ≡ listing_end rows }
+{
+    let mut text = Text::new();
+    text.push_str("rows ");
+    push_short(&mut text, rows);
     text.push_str("\n");
     text
 }

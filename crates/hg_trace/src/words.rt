@@ -3,15 +3,17 @@
 ghost use Rattle.std.specs.Prelude.{◌≡◌, ◌<◌, ◌^◌, ◌∷◌, [], not, position, Ok, Err, IfOk};
 ghost use Rattle.std.specs.Prelude.{MatchOption, MatchResult};
 ghost use Rattle.hg_trace.specs.Lines.{is_blank, words_of};
-ghost use Rattle.hg_trace.specs.Operands.{name_at, number_at, end_at};
+ghost use Rattle.hg_trace.specs.Operands.{name_at, number_at, label_at, end_at};
 ghost use Rattle.hg_trace.specs.Handles.{place_at, block_at};
 
 use crate::fault::LineFault;
 use crate::handles::{block_of, place_of};
+use crate::labels::Labels;
+use crate::line::BlockName;
 use crate::lines::is_blank;
 use crate::name::Name;
 use crate::numbers::{number_below, number_of};
-use hg_place::{Handle, Place};
+use hg_place::Place;
 use std::marker::Model;
 
 /// The words that are left of a line.
@@ -116,15 +118,31 @@ impl<'a> Words<'a> {
         place_of(word)
     }
 
-    /// The next word, as a block: its handle, or none where the word is a label.
+    /// The next word, as a block, or none where it is a label that no earlier line gave.
     #[tactic(auto, unfolding(crate::specs::Handles::block_at))]
-    pub(crate) fn next_block(&mut self) -> Result<Option<Handle>, LineFault>
+    pub(crate) fn next_block(&mut self, labels: &Labels) -> Result<Option<BlockName>, LineFault>
         ensures { MatchResult result
-            (λ block. block_at self.old ≡ Ok (block, self.new))
-            (λ fault. block_at self.old ≡ Err fault) }
+            (λ block. block_at labels.now self.old ≡ Ok (block, self.new))
+            (λ fault. block_at labels.now self.old ≡ Err fault) }
     {
         let word = self.next_word().ok_or(LineFault::Operand)?;
-        block_of(word)
+        block_of(labels, word)
+    }
+
+    /// The words that are left, as nothing or the label that a line gives.
+    #[tactic(auto, unfolding(crate::specs::Operands::label_at))]
+    pub(crate) fn last_label(&mut self) -> Result<Option<Name>, LineFault>
+        ensures { result ≡ label_at self.old }
+    {
+        match self.next_word() {
+            None => Ok(None),
+            Some(b"as") => {
+                let label = self.next_name()?;
+                self.ends()?;
+                Ok(Some(label))
+            }
+            _ => Err(LineFault::Operand),
+        }
     }
 
     /// No word is left.

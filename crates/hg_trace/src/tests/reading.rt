@@ -1,6 +1,6 @@
 //! What traces are read as.
 
-use crate::{Command, Line, read_trace};
+use crate::{BlockName, Command, Line, read_trace};
 use hg_place::{Handle, Place};
 use std::alloc::{AllocError, Global};
 use std::process::Abort;
@@ -19,6 +19,13 @@ fn handle_shown(alloc: Global, handle: Handle) -> Result<String, AllocError> {
     format!(in alloc; "@{place}.{generation}")
 }
 
+fn block_shown(alloc: Global, block: BlockName) -> Result<String, AllocError> {
+    match block {
+        BlockName::Handle(handle) => handle_shown(alloc, handle),
+        BlockName::Label(label) => format!(in alloc; "label {label}"),
+    }
+}
+
 fn shown(alloc: Global, line: &Line) -> Result<String, AllocError> {
     let number = line.number;
     let worker = line.worker;
@@ -27,14 +34,23 @@ fn shown(alloc: Global, line: &Line) -> Result<String, AllocError> {
             actor,
             arena,
             bytes,
+            label,
         } => {
             let actor = actor.as_str();
             let arena = arena.as_str();
-            format!(in alloc; "{number}: w{worker} alloc {actor} {arena} {bytes}; ")
+            match label {
+                Some(label) => {
+                    let label = label.as_str();
+                    format!(in alloc;
+                        "{number}: w{worker} alloc {actor} {arena} {bytes} as {label}; "
+                    )
+                }
+                None => format!(in alloc; "{number}: w{worker} alloc {actor} {arena} {bytes}; "),
+            }
         }
         Command::Free { actor, block } => {
             let actor = actor.as_str();
-            let block = handle_shown(alloc, *block)?;
+            let block = block_shown(alloc, *block)?;
             format!(in alloc; "{number}: w{worker} free {actor} {block}; ")
         }
         Command::Deliver => format!(in alloc; "{number}: w{worker} deliver; "),
@@ -46,7 +62,7 @@ fn shown(alloc: Global, line: &Line) -> Result<String, AllocError> {
             index,
         } => {
             let actor = actor.as_str();
-            let block = handle_shown(alloc, *block)?;
+            let block = block_shown(alloc, *block)?;
             format!(in alloc; "{number}: w{worker} read {actor} {block} {index}; ")
         }
         Command::Write {
@@ -56,13 +72,17 @@ fn shown(alloc: Global, line: &Line) -> Result<String, AllocError> {
             value,
         } => {
             let actor = actor.as_str();
-            let block = handle_shown(alloc, *block)?;
+            let block = block_shown(alloc, *block)?;
             format!(in alloc; "{number}: w{worker} write {actor} {block} {index} {value}; ")
         }
         Command::Look { actor, place } => {
             let actor = actor.as_str();
             let place = place_shown(alloc, *place)?;
             format!(in alloc; "{number}: w{worker} look {actor} {place}; ")
+        }
+        Command::List { actor } => {
+            let actor = actor.as_str();
+            format!(in alloc; "{number}: w{worker} list {actor}; ")
         }
         Command::Abandon { segment } => {
             format!(in alloc; "{number}: w{worker} abandon {segment}; ")
@@ -208,6 +228,104 @@ fn missing_and_surplus_operands_are_refused(rt: HostRuntime) -> Result<(), Fail>
 }
 
 #[test]
+fn blocks_are_named_by_label(rt: HostRuntime) -> Result<(), Fail> {
+    let a = rt.alloc();
+    reads(
+        &rt,
+        a,
+        b"w0 alloc alice main 24 as x\nw0 free alice x",
+        "1: w0 alloc alice main 24 as x; 2: w0 free alice label 0; ",
+    )?;
+    // Lines that give no label don't count.
+    reads(
+        &rt,
+        a,
+        b"w0 alloc a b 8 as x\nw0 alloc a b 8\n# as z\nw0 alloc a b 8 as y\nw1 read c y 3\n",
+        "1: w0 alloc a b 8 as x; 2: w0 alloc a b 8; 4: w0 alloc a b 8 as y; 5: w1 read c label 1 3; ",
+    )?;
+    reads(
+        &rt,
+        a,
+        b"w0 alloc a b 8 as y\nw0 alloc a b 8 as x\nw0 write d x 1 2\nw0 free d y",
+        "1: w0 alloc a b 8 as y; 2: w0 alloc a b 8 as x; 3: w0 write d label 1 1 2; 4: w0 free d label 0; ",
+    )?;
+    // A label is the whole word.
+    reads(
+        &rt,
+        a,
+        b"w0 alloc a b 8 as x\nw0 alloc a b 8 as xx\nw0 alloc a b 8 as x-\nw0 free a xx\nw0 free a x-",
+        "1: w0 alloc a b 8 as x; 2: w0 alloc a b 8 as xx; 3: w0 alloc a b 8 as x-; \
+4: w0 free a label 1; 5: w0 free a label 2; ",
+    )?;
+    // Words such as `as` are names like others.
+    reads(
+        &rt,
+        a,
+        b"w0 alloc as as 8 as as\nw0 read as as 0",
+        "1: w0 alloc as as 8 as as; 2: w0 read as label 0 0; ",
+    )?;
+    reads(
+        &rt,
+        a,
+        b"w0 alloc w0 alloc 8 as w0\nw0 alloc w0 alloc 8 as alloc\nw0 free w0 alloc",
+        "1: w0 alloc w0 alloc 8 as w0; 2: w0 alloc w0 alloc 8 as alloc; 3: w0 free w0 label 1; ",
+    )?;
+    reads(
+        &rt,
+        a,
+        b"w3\talloc a b 8\tas \r abcdefghijklmnop\t# as y\nw15 free a abcdefghijklmnop#",
+        "1: w3 alloc a b 8 as abcdefghijklmnop; 2: w15 free a label 0; ",
+    )
+}
+
+#[test]
+fn listings_are_read(rt: HostRuntime) -> Result<(), Fail> {
+    let a = rt.alloc();
+    reads(
+        &rt,
+        a,
+        b"w0 list alice\nw15 list list",
+        "1: w0 list alice; 2: w15 list list; ",
+    )
+}
+
+/// Lines that give the labels l0 to l999, and then lines that name them, the last first.
+fn with_many_labels(alloc: Global) -> Result<String, AllocError> {
+    let mut text = String::new(alloc);
+    for n in 0..1_000u32 {
+        text.push_str(format!(in alloc; "w0 alloc a b 8 as l{n}\n")?.as_str())?;
+    }
+    for n in 0..1_000u32 {
+        let label = 999 - n;
+        text.push_str(format!(in alloc; "w0 free a l{label}\n")?.as_str())?;
+    }
+    Ok(text)
+}
+
+/// What those lines are read as.
+fn many_labels_shown(alloc: Global) -> Result<String, AllocError> {
+    let mut told = String::new(alloc);
+    for n in 0..1_000u32 {
+        let line = n + 1;
+        told.push_str(format!(in alloc; "{line}: w0 alloc a b 8 as l{n}; ")?.as_str())?;
+    }
+    for n in 0..1_000u32 {
+        let line = n + 1_001;
+        let label = 999 - n;
+        told.push_str(format!(in alloc; "{line}: w0 free a label {label}; ")?.as_str())?;
+    }
+    Ok(told)
+}
+
+#[test]
+fn many_labels_are_told_apart(rt: HostRuntime) -> Result<(), Fail> {
+    let a = rt.alloc();
+    let text = with_many_labels(a)?;
+    let want = many_labels_shown(a)?;
+    reads(&rt, a, text.as_bytes(), want.as_str())
+}
+
+#[test]
 fn labels_are_unknown(rt: HostRuntime) -> Result<(), Fail> {
     let a = rt.alloc();
     let operand = "trace fault 3 at line 1: operand";
@@ -221,8 +339,208 @@ fn labels_are_unknown(rt: HostRuntime) -> Result<(), Fail> {
     refuses(&rt, a, b"w0 read alice x", operand)?;
     refuses(&rt, a, b"w0 read alice x 0 0", operand)?;
     refuses(&rt, a, b"w0 free alice X", operand)?;
-    // Of two lines the first counts.
-    refuses(&rt, a, b"w0 free alice x\nw0", unknown)
+    // A label is known only after its line, and names of other kinds are no labels.
+    refuses(
+        &rt,
+        a,
+        b"w0 free alice x\nw0 alloc alice main 8 as x",
+        unknown,
+    )?;
+    let later = "trace fault 4 at line 2: unknown label";
+    refuses(&rt, a, b"w0 alloc alice main 8\nw0 free alice alice", later)?;
+    refuses(&rt, a, b"w0 alloc alice main 8\nw0 free alice main", later)?;
+    refuses(&rt, a, b"w0 alloc alice main 8\nw0 free alice as", later)?;
+    refuses(
+        &rt,
+        a,
+        b"w0 alloc alice main 8 as x\nw0 free alice y",
+        later,
+    )?;
+    refuses(
+        &rt,
+        a,
+        b"w0 alloc alice main 8 as x\nw0 free alice xx",
+        later,
+    )?;
+    refuses(
+        &rt,
+        a,
+        b"w0 alloc alice main 8 as xx\nw0 free alice x",
+        later,
+    )?;
+    refuses(
+        &rt,
+        a,
+        b"#w0 alloc alice main 8 as x\nw0 free alice x",
+        later,
+    )
+}
+
+#[test]
+fn labels_are_given_once(rt: HostRuntime) -> Result<(), Fail> {
+    let a = rt.alloc();
+    let second = "trace fault 5 at line 2: repeated label";
+    let third = "trace fault 5 at line 3: repeated label";
+    refuses(&rt, a, b"w0 alloc a b 8 as x\nw0 alloc a b 8 as x", second)?;
+    refuses(&rt, a, b"w0 alloc a b 8 as x\nw1 alloc c d 16 as x", second)?;
+    refuses(
+        &rt,
+        a,
+        b"w0 alloc a b 8 as as\nw0 alloc a b 8 as as",
+        second,
+    )?;
+    // Also once its block is freed.
+    refuses(
+        &rt,
+        a,
+        b"w0 alloc a b 8 as x\nw0 free a x\nw0 alloc a b 8 as x",
+        third,
+    )?;
+    refuses(
+        &rt,
+        a,
+        b"w0 alloc a b 8 as x\nw0 alloc a b 8 as y\nw0 alloc a b 8 as x",
+        third,
+    )?;
+    refuses(
+        &rt,
+        a,
+        b"w0 alloc a b 8 as x\nw0 alloc a b 8 as y\nw0 alloc a b 8 as y",
+        third,
+    )
+}
+
+#[test]
+fn faults_of_labels_come_last_in_a_line(rt: HostRuntime) -> Result<(), Fail> {
+    let a = rt.alloc();
+    // An unknown label, and another fault.
+    refuses(&rt, a, b"w0 free a x \x01", "trace fault 1 at line 1: byte")?;
+    refuses(&rt, a, b"w16 free a x", "trace fault 2 at line 1: command")?;
+    refuses(&rt, a, b"w0 frees a x", "trace fault 2 at line 1: command")?;
+    refuses(&rt, a, b"w0 free a x y", "trace fault 3 at line 1: operand")?;
+    refuses(
+        &rt,
+        a,
+        b"w0 write a x 0 01",
+        "trace fault 3 at line 1: operand",
+    )?;
+    // A label that an earlier line gave, and another fault.
+    refuses(
+        &rt,
+        a,
+        b"w0 alloc a b 8 as x\nw0 alloc a b 8 as x \x7f",
+        "trace fault 1 at line 2: byte",
+    )?;
+    refuses(
+        &rt,
+        a,
+        b"w0 alloc a b 8 as x\nw16 alloc a b 8 as x",
+        "trace fault 2 at line 2: command",
+    )?;
+    refuses(
+        &rt,
+        a,
+        b"w0 alloc a b 8 as x\nw0 allocs a b 8 as x",
+        "trace fault 2 at line 2: command",
+    )?;
+    let operand = "trace fault 3 at line 2: operand";
+    refuses(&rt, a, b"w0 alloc a b 8 as x\nw0 alloc A b 8 as x", operand)?;
+    refuses(
+        &rt,
+        a,
+        b"w0 alloc a b 8 as x\nw0 alloc a b 08 as x",
+        operand,
+    )?;
+    refuses(
+        &rt,
+        a,
+        b"w0 alloc a b 8 as x\nw0 alloc a b 8 as x x",
+        operand,
+    )
+}
+
+#[test]
+fn faults_of_labels_in_two_lines(rt: HostRuntime) -> Result<(), Fail> {
+    let a = rt.alloc();
+    // An unknown label, and another fault.
+    let unknown = "trace fault 4 at line 1: unknown label";
+    refuses(&rt, a, b"w0 free a x\n\x01", unknown)?;
+    refuses(&rt, a, b"w0 free a x\nw0", unknown)?;
+    refuses(&rt, a, b"w0 free a x\nw0 free a X", unknown)?;
+    refuses(
+        &rt,
+        a,
+        b"w0 free a x\nw0 alloc a b 8 as y\nw0 alloc a b 8 as y",
+        unknown,
+    )?;
+    refuses(
+        &rt,
+        a,
+        b"\x01\nw0 free a x",
+        "trace fault 1 at line 1: byte",
+    )?;
+    refuses(
+        &rt,
+        a,
+        b"w0\nw0 free a x",
+        "trace fault 2 at line 1: command",
+    )?;
+    refuses(
+        &rt,
+        a,
+        b"w0 free a X\nw0 free a x",
+        "trace fault 3 at line 1: operand",
+    )?;
+    // A label that an earlier line gave, and another fault.
+    let repeated = "trace fault 5 at line 2: repeated label";
+    refuses(
+        &rt,
+        a,
+        b"w0 alloc a b 8 as x\nw0 alloc a b 8 as x\n\x01",
+        repeated,
+    )?;
+    refuses(
+        &rt,
+        a,
+        b"w0 alloc a b 8 as x\nw0 alloc a b 8 as x\nw16",
+        repeated,
+    )?;
+    refuses(
+        &rt,
+        a,
+        b"w0 alloc a b 8 as x\nw0 alloc a b 8 as x\nw0 free a",
+        repeated,
+    )?;
+    refuses(
+        &rt,
+        a,
+        b"w0 alloc a b 8 as x\nw0 alloc a b 8 as x\nw0 free a y",
+        repeated,
+    )?;
+    refuses(
+        &rt,
+        a,
+        b"w0 alloc a b 8 as x\n\x01\nw0 alloc a b 8 as x",
+        "trace fault 1 at line 2: byte",
+    )?;
+    refuses(
+        &rt,
+        a,
+        b"w0 alloc a b 8 as x\nw16\nw0 alloc a b 8 as x",
+        "trace fault 2 at line 2: command",
+    )?;
+    refuses(
+        &rt,
+        a,
+        b"w0 alloc a b 8 as x\nw0 free a\nw0 alloc a b 8 as x",
+        "trace fault 3 at line 2: operand",
+    )?;
+    refuses(
+        &rt,
+        a,
+        b"w0 alloc a b 8 as x\nw0 free a y\nw0 alloc a b 8 as x",
+        "trace fault 4 at line 2: unknown label",
+    )
 }
 
 #[test]
@@ -251,7 +569,8 @@ fn commands_are_refused(rt: HostRuntime) -> Result<(), Fail> {
     refuses(&rt, a, b"refill main", command)?;
     refuses(&rt, a, b"w0 refills main", command)?;
     refuses(&rt, a, b"w0 Refill main", command)?;
-    refuses(&rt, a, b"w0 list alice", command)?;
+    refuses(&rt, a, b"w0 lists alice", command)?;
+    refuses(&rt, a, b"w16 list alice", command)?;
     refuses(&rt, a, b"---", command)
 }
 
@@ -272,8 +591,38 @@ fn operands_are_refused(rt: HostRuntime) -> Result<(), Fail> {
     refuses(&rt, a, b"w0 alloc alice main +1", operand)?;
     refuses(&rt, a, b"w0 alloc alice main -1", operand)?;
     refuses(&rt, a, b"w0 alloc alice main 18446744073709551616", operand)?;
-    refuses(&rt, a, b"w0 alloc alice main 24 as x", operand)?;
-    refuses(&rt, a, b"w0 alloc alice main 24 24", operand)
+    refuses(&rt, a, b"w0 alloc alice main 24 24", operand)?;
+    refuses(&rt, a, b"w0 list", operand)?;
+    refuses(&rt, a, b"w0 list alice bob", operand)?;
+    refuses(&rt, a, b"w0 list Alice", operand)?;
+    refuses(&rt, a, b"w0 list @0.0.0.1", operand)
+}
+
+#[test]
+fn label_operands_are_refused(rt: HostRuntime) -> Result<(), Fail> {
+    let a = rt.alloc();
+    let operand = "trace fault 3 at line 1: operand";
+    refuses(&rt, a, b"w0 alloc alice main 24 as", operand)?;
+    refuses(&rt, a, b"w0 alloc alice main 24 x", operand)?;
+    refuses(&rt, a, b"w0 alloc alice main 24 x y", operand)?;
+    refuses(&rt, a, b"w0 alloc alice main 24 As x", operand)?;
+    refuses(&rt, a, b"w0 alloc alice main 24 ass x", operand)?;
+    refuses(&rt, a, b"w0 alloc alice main 24 a x", operand)?;
+    refuses(&rt, a, b"w0 alloc alice main 24 as X", operand)?;
+    refuses(&rt, a, b"w0 alloc alice main 24 as 9x", operand)?;
+    refuses(&rt, a, b"w0 alloc alice main 24 as @0.0.0.1", operand)?;
+    refuses(
+        &rt,
+        a,
+        b"w0 alloc alice main 24 as abcdefghijklmnopq",
+        operand,
+    )?;
+    refuses(&rt, a, b"w0 alloc alice main 24 as x y", operand)?;
+    refuses(&rt, a, b"w0 alloc alice main 24 as x as y", operand)?;
+    refuses(&rt, a, b"w0 alloc alice main as x", operand)?;
+    refuses(&rt, a, b"w0 alloc as x", operand)?;
+    refuses(&rt, a, b"w0 refill main as x", operand)?;
+    refuses(&rt, a, b"w0 free alice @0.0.0.1 as x", operand)
 }
 
 #[test]

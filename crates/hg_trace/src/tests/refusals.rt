@@ -29,6 +29,16 @@ fn read_trace_refused_in_turn(rt: HostRuntime) {
 }
 
 #[test]
+fn labels_refused_in_turn(rt: HostRuntime) {
+    let trace = b"w0 alloc a b 8 as x\nw0 alloc a b 8 as y\nw0 free a x\nw0 free a y\n";
+    match read_trace(rt.alloc(), trace) {
+        Ok(trace) => assert_eq!(&rt; trace.lines().len(), 4),
+        Err(TraceFault::Memory) => {}
+        Err(_) => assert!(&rt; false, "another fault"),
+    }
+}
+
+#[test]
 fn replay_refused_in_turn(rt: HostRuntime) {
     let policy = match read_policy(rt.alloc(), POLICY.as_bytes()) {
         Ok(policy) => policy,

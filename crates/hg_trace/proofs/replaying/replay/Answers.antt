@@ -3,8 +3,8 @@ use Rattle.hg_trace.specs.Events.{unknown_worker}
 use Rattle.hg_trace.proofs.Answering.{workers_below}
 use Rattle.hg_trace.proofs.replaying.replay.Goals as goal
 
-pub replay_lines-requires : goal.replay_lines-requires
-replay_lines-requires g c =
+pub replay_on-requires-clause-workers : goal.replay_on-requires-clause-workers
+replay_on-requires-clause-workers g c =
     let workers = c.args.policy.workers in
     let lines = c.args.trace.now in
     let none : None ≡ unknown_worker workers lines =

@@ -1,41 +1,42 @@
-use Rattle.std.proofs.Common.{◌≡◌, ap, subst, ◌∙◌}
-use Rattle.std.specs.Io.KnownBytes.{Appends}
-use Rattle.std.proofs.lemmas.Result.{on_ok_weaker, on_err_weaker}
-use Rattle.hg_machine.specs.Steps.{Step}
-use Rattle.hg_machine.proofs.Preserves.{steps_keep_policy}
-use Rattle.hg_trace.specs.Events.{event_of}
-use Rattle.hg_trace.specs.Text.{answer_line}
-use Rattle.hg_trace.specs.Writes.{AppendsFront}
+use Rattle.std.proofs.Common.{◌≡◌, sym, ap, ◌∙◌, filter}
+use Rattle.hg_trace.specs.declared.events.Meaning.TheVariants as meaning
+use Rattle.hg_trace.specs.Events.{meaning_of}
+use Rattle.hg_trace.specs.Rows.{is_row}
+use Rattle.hg_trace.specs.Text.{answer_line, listing_text}
+use Rattle.hg_trace.proofs.Answering.{one_answered, listing_answered, unbound_answered}
 use Rattle.hg_trace.proofs.replaying.replay_line.Goals as goal
 
-pub returns-clause-ok : goal.returns-clause-ok
-returns-clause-ok g c =
-    let state = c.args.core.now.state in
-    let end = c.step-answer.new.self.state in
+pub returns-in-One-clause-answered : goal.returns-in-One-clause-answered
+returns-in-One-clause-answered g c =
+    let s = c.args.core.now.state in
+    let handles = c.args.handles.now.items in
     let line = c.args.line.now in
-    let contents = g.W.Write.contents in
-    let answer = c.step-answer.result in
-    let event : c.event_of-event.result ≡ event_of state.policy line.command =
-    c.event_of-event.ensures ∙ ap (λ policy. event_of policy line.command) c.policy.ensures.value in
-    let step : Step state line.worker (event_of state.policy line.command) answer end =
-    subst (λ e. Step state line.worker e answer end) event c.step-answer.ensures.step in
-    let same = c.policy-2.ensures.value ∙ steps_keep_policy state line.worker (event_of state.policy line.command) answer end step in
-    on_ok_weaker c.put_answer.result
-    (λ written. (answer, step, subst (λ p. Appends (contents c.args.out.now) (contents c.put_answer.new.out) (answer_line p answer)) same written))
-    c.put_answer.ensures.ok
+    let meant : meaning_of s.policy handles line.command ≡ meaning.One c.in-One.event =
+    sym (c.in-One.ensures ∙ (ap (λ p. meaning_of p c.deref.result.now line.command) c.policy.ensures.value ∙ ap (λ hs. meaning_of s.policy hs line.command) c.deref.ensures.value)) in (
+      answer_line s.policy c.serve-answer.result,
+      one_answered (record { state = s; handles = handles }) line c.in-One.event c.serve-answer.result c.serve-answer.new.core.state
+          c.note.new.handles.items meant c.serve-answer.ensures.step c.note.ensures.handles,
+      c.serve-answer.ensures.given,
+    )
 
-pub returns-clause-stopped : goal.returns-clause-stopped
-returns-clause-stopped g c =
-    let state = c.args.core.now.state in
-    let end = c.step-answer.new.self.state in
+pub returns-in-Listing-clause-answered : goal.returns-in-Listing-clause-answered
+returns-in-Listing-clause-answered g c =
+    let s = c.args.core.now.state in
+    let handles = c.args.handles.now.items in
     let line = c.args.line.now in
-    let contents = g.W.Write.contents in
-    let answer = c.step-answer.result in
-    let event : c.event_of-event.result ≡ event_of state.policy line.command =
-    c.event_of-event.ensures ∙ ap (λ policy. event_of policy line.command) c.policy.ensures.value in
-    let step : Step state line.worker (event_of state.policy line.command) answer end =
-    subst (λ e. Step state line.worker e answer end) event c.step-answer.ensures.step in
-    let same = c.policy-2.ensures.value ∙ steps_keep_policy state line.worker (event_of state.policy line.command) answer end step in
-    on_err_weaker c.put_answer.result
-    (λ stopped. (answer, step, subst (λ p. AppendsFront (contents c.args.out.now) (contents c.put_answer.new.out) (answer_line p answer)) same stopped))
-    c.put_answer.ensures.stopped
+    let meant : meaning_of s.policy handles line.command ≡ meaning.Listing c.in-Listing.actor =
+    sym (c.in-Listing.ensures ∙ (ap (λ p. meaning_of p c.deref.result.now line.command) c.policy.ensures.value ∙ ap (λ hs. meaning_of s.policy hs line.command) c.deref.ensures.value)) in
+    let (answers, run, given) = c.list.ensures.listed in (
+      listing_text s.policy (filter is_row answers),
+      listing_answered (record { state = s; handles = handles }) line c.in-Listing.actor answers c.list.new.core.state meant c.list.ensures.same run,
+      given,
+    )
+
+pub returns-in-Unbound-clause-answered : goal.returns-in-Unbound-clause-answered
+returns-in-Unbound-clause-answered g c =
+    let s = c.args.core.now.state in
+    let handles = c.args.handles.now.items in
+    let line = c.args.line.now in
+    let meant : meaning_of s.policy handles line.command ≡ meaning.Unbound =
+    sym (c.in-Unbound.ensures ∙ (ap (λ p. meaning_of p c.deref.result.now line.command) c.policy.ensures.value ∙ ap (λ hs. meaning_of s.policy hs line.command) c.deref.ensures.value)) in
+    (_, unbound_answered (record { state = s; handles = handles }) line meant, c.put.ensures)

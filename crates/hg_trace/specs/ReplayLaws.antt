@@ -1,0 +1,83 @@
+-- Laws of listings and of replays.
+use Rattle.std.specs.Prelude.{◌≡◌, ℕ, List, Option, Some, None, map, filter, filter_map}
+use Rattle.std.specs.Prelude.{flat_map, All, Contains}
+use Rattle.hg_place.specs.declared.Actor.{Actor}
+use Rattle.hg_machine.specs.Policy.{Policy}
+use Rattle.hg_machine.specs.State.{State}
+use Rattle.hg_machine.specs.Steps.{Run}
+use Rattle.hg_machine.specs.Soundness.{IsSound}
+use Rattle.hg_machine.specs.Listing.{line_of, listing}
+use Rattle.hg_machine.specs.declared.Event.{Event}
+use Rattle.hg_machine.specs.declared.Row.{Row}
+use Rattle.hg_machine.specs.declared.Answer.{Answer}
+use Rattle.hg_machine.specs.declared.Answer.TheVariants as answer
+use Rattle.hg_trace.specs.declared.line.Line.{Line}
+use Rattle.hg_trace.specs.declared.events.Meaning.{Meaning}
+use Rattle.hg_trace.specs.Events.{events_of, unknown_worker}
+use Rattle.hg_trace.specs.Listings.{looks}
+use Rattle.hg_trace.specs.Rows.{is_row}
+use Rattle.hg_trace.specs.Text.{text_of}
+use Rattle.hg_trace.specs.Replays.{Progress, Replays}
+
+-- the row that an answer is
+abbrev pub row_of : Answer → Option Row
+row_of (answer.Listed row) = Some row
+row_of _ = None
+
+-- the rows among answers, in their order
+abbrev pub rows_in : List Answer → List Row
+rows_in answers = filter_map row_of answers
+
+-- the Looks of a listing change nothing. The rows among their answers are the machine's listing,
+-- and they alone are what a listing writes
+abbrev pub ListingsShowWhatIsListed : Type 0
+ListingsShowWhatIsListed =
+    (s : State) (worker : ℕ) (actor : Actor) (answers : List Answer) (end : State)
+    → IsSound s → Run s (looks s worker actor) answers end
+    → (end ≡ s) × (map line_of (rows_in answers) ≡ listing s worker actor.0)
+    × (filter is_row answers ≡ map answer.Listed (rows_in answers))
+
+-- what a line did: its worker, what it meant in a state, and what this was answered
+pub record Told : Type 0 where
+  pub worker : ℕ
+  pub state : State
+  pub meaning : Meaning
+  pub answers : List Answer
+
+-- the workers of lines
+abbrev pub workers_of : List Line → List ℕ
+workers_of lines = map (λ line. line.worker) lines
+
+-- all their events, one after another, all answers, and the text of these
+abbrev pub all_events : List Told → List (ℕ × Event)
+all_events told = flat_map (λ t. events_of t.state t.worker t.meaning) told
+
+abbrev pub all_answers : List Told → List Answer
+all_answers told = flat_map (λ t. t.answers) told
+
+abbrev pub all_text : Policy → List Told → List ℕ
+all_text policy told = flat_map (λ t. text_of policy t.meaning t.answers) told
+
+-- a replay is one run of the machine: each line did something as its worker, the events of all
+-- lines, one after another, are answered as in a run, and the text is that of its answers. Each
+-- event is of a line's worker
+abbrev pub ReplaysAreRuns : Type 0
+ReplaysAreRuns =
+    (from end : Progress) (lines : List Line) (text : List ℕ) → Replays from lines end text
+    → (told : List Told) × (map (λ t. t.worker) told ≡ workers_of lines)
+    × Run from.state (all_events told) (all_answers told) end.state
+    × (text ≡ all_text from.state.policy told)
+    × All (λ event. Contains (workers_of lines) event.0) (all_events told)
+
+-- it leaves the policy as it was
+abbrev pub ReplaysKeepPolicy : Type 0
+ReplaysKeepPolicy =
+    (from end : Progress) (lines : List Line) (text : List ℕ) → Replays from lines end text
+    → end.state.policy ≡ from.state.policy
+
+-- and a sound state sound, where no line's worker is unknown
+abbrev pub ReplaysKeepSound : Type 0
+ReplaysKeepSound =
+    (from end : Progress) (lines : List Line) (text : List ℕ)
+    → IsSound from.state → unknown_worker from.state.policy.workers lines ≡ None
+    → Replays from lines end text → IsSound end.state

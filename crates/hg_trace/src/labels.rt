@@ -1,0 +1,87 @@
+//! The labels that lines gave.
+
+ghost use Rattle.std.specs.Prelude.{◌≡◌, ◌∷◌, ◌++◌, [], false, position, bytes_eq, OnOk, IfErr};
+ghost use Rattle.hg_policy.specs.NameForm.{is_among};
+ghost use Rattle.hg_trace.specs.Labels.{repeats, with_label};
+
+use crate::fault::TraceFault;
+use crate::line::Command;
+use indexmap::IndexSet;
+use std::alloc::Global;
+use std::marker::Model;
+
+/// The labels that lines gave, in order. A label is found by its hash: a trace may give a label in
+/// each of its lines.
+#[derive(Drop)]
+pub(crate) struct Labels {
+    names: IndexSet<String>,
+}
+
+impl Model for Labels {
+    ghost use Rattle.std.specs.Prelude.{ℕ, List, map, string_bytes};
+
+    ghost Value = { List (List ℕ) };
+
+    ghost view = { λ labels. map (λ name. string_bytes name) labels.names.keys };
+}
+
+impl Labels {
+    pub(crate) fn new(alloc: Global) -> Labels
+        ensures { result ≡ [] }
+    {
+        Labels {
+            names: IndexSet::new(alloc),
+        }
+    }
+
+    /// The number of a label, from 0.
+    pub(crate) fn number_of(&self, name: &str) -> Option<usize>
+        ensures { result ≡ position (λ label. bytes_eq name.now label) self.now }
+    {
+        self.names.get_index_of(name)
+    }
+
+    fn has(&self, name: &str) -> bool
+        ensures { result ≡ is_among name.now self.now }
+    {
+        self.names.contains(name)
+    }
+
+    /// Whether a command gives a label again.
+    pub(crate) fn repeats(&self, command: &Command) -> bool
+        ensures { result ≡ repeats self.now command.now }
+    {
+        match command {
+            Command::Alloc {
+                label: Some(label),
+                ..
+            } => self.has(label.as_str()),
+            _ => false,
+        }
+    }
+
+    fn push(&mut self, alloc: Global, name: &str) -> Result<(), TraceFault>
+        requires { is_among name.now self.old ≡ false }
+        ensures ok { OnOk result (self.new ≡ self.old ++ name.now ∷ []) }
+        ensures err { IfErr result (λ fault. fault ≡ TraceFault.Memory) }
+    {
+        let name = String::from_str(alloc, name)?;
+        self.names.insert(name)?;
+        Ok(())
+    }
+
+    /// The label that a command gives, if it gives one, goes behind the others.
+    pub(crate) fn add(&mut self, alloc: Global, command: &Command) -> Result<(), TraceFault>
+        requires { repeats self.old command.now ≡ false }
+        ensures ok { OnOk result (self.new ≡ with_label self.old command.now) }
+        ensures err { IfErr result (λ fault. fault ≡ TraceFault.Memory) }
+    {
+        match command {
+            Command::Alloc {
+                label: Some(label),
+                ..
+            } => self.push(alloc, label.as_str()),
+            _ => Ok(()),
+        }
+    }
+}

@@ -1,0 +1,55 @@
+//! A text longer than what waits, and writers that fail in it.
+
+ghost use Rattle.std.specs.Prelude.{◌≤◌};
+
+use crate::output::Output;
+use crate::tests::fakes::Stingy;
+use std::alloc::Global;
+use std::process::Abort;
+use std::test::Fail;
+
+const BYTES: usize = 20_000;
+
+fn long_text(alloc: Global) -> Result<Vec<u8>, Fail> {
+    let mut text = Vec::new(alloc);
+    for at in 0..BYTES {
+        text.push((at % 251) as u8)?;
+    }
+    Ok(text)
+}
+
+/// Given piece by piece to a writer that fails after so many bytes, these are what it has.
+fn gives_the_first(rt: &impl Abort, alloc: Global, pieces: usize, left: usize) -> Result<(), Fail>
+    requires { 1 ≤ pieces }
+{
+    let text = long_text(alloc)?;
+    let mut out = Stingy {
+        held: Vec::new(alloc),
+        left,
+    };
+    let mut output = Output::new();
+    let mut rest = text.as_slice();
+    for _ in 0..pieces {
+        let (piece, behind) = rest.split_at(rest.len().min(BYTES / pieces));
+        output.put(&mut out, piece);
+        rest = behind;
+    }
+    assert_eq!(rt; output.finish(&mut out).is_ok(), left >= BYTES, "at {left}");
+    assert_eq!(rt; out.held.len(), left.min(BYTES), "at {left}");
+    assert!(rt;
+        text.as_slice().starts_with(out.held.as_slice()),
+        "at {left}"
+    );
+    Ok(())
+}
+
+#[test]
+fn a_long_text_arrives_in_order(rt: HostRuntime) -> Result<(), Fail> {
+    let a = rt.alloc();
+    for pieces in [1, 2, 1_000] {
+        for left in [0, 8_191, 8_192, 8_193, 19_999, 20_000] {
+            gives_the_first(&rt, a, pieces, left)?;
+        }
+    }
+    Ok(())
+}
