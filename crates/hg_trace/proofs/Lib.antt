@@ -1,5 +1,6 @@
 pub mod Firsts
 pub mod LineCuts
+pub mod TextCuts
 pub mod WordCuts
 pub mod NameBytes
 pub mod Numerals

@@ -1,11 +1,12 @@
 //! Lines of bytes.
 
-ghost use Rattle.std.specs.Prelude.{◌≡◌, ◌≤◌, ◌<◌, ◌∷◌, [], length, take, drop, position};
-ghost use Rattle.std.specs.Prelude.{MatchOption};
+ghost use Rattle.std.specs.Prelude.{◌≡◌, ◌≤◌, ◌<◌, ◌∷◌, ◌&&◌, [], length, take, drop};
+ghost use Rattle.std.specs.Prelude.{MatchOption, position, not, true, false};
 ghost use Rattle.std.specs.List.{list_all, concat, before_first};
 ghost use Rattle.hg_trace.specs.Lines.{lines_of, text_of, ends_line, ends_text, is_blank};
 ghost use Rattle.hg_trace.specs.Lines.{is_allowed};
 
+use memchr::memchr;
 use std::marker::Model;
 
 /// The lines that are left of some bytes.
@@ -58,7 +59,7 @@ impl<'a> Lines<'a> {
 fn line_end(bytes: &[u8]) -> Option<usize>
     ensures { result ≡ position ends_line bytes.now }
 {
-    bytes.iter().position(|b| ends_line(*b))
+    memchr(b'\n', bytes)
 }
 
 /// The length of the first line, with its end.
@@ -93,36 +94,39 @@ pub(crate) fn without_end(line: &[u8]) -> &[u8]
     &line[..line_end(line).unwrap_or(line.len())]
 }
 
-/// Where a line's text ends.
-fn text_end(line: &[u8]) -> Option<usize>
-    ensures { result ≡ position ends_text line.now }
-{
-    line.iter().position(|b| ends_text(*b))
-}
-
-/// What is read of a line.
-#[tactic(auto, using(crate::proofs::Firsts::unwrap_or_position))]
-pub(crate) fn text_of(line: &[u8]) -> &[u8]
-    ensures { result.now ≡ text_of line.now }
-{
-    &line[..text_end(line).unwrap_or(line.len())]
-}
-
 pub(crate) fn is_blank(b: u8) -> bool
     ensures { result ≡ is_blank b }
 {
     matches!(b, b' ' | b'\t' | b'\r')
 }
 
-fn is_allowed(b: u8) -> bool
-    ensures { result ≡ is_allowed b }
+/// Whether a byte can stand in a text, and doesn't end it.
+fn is_read(b: u8) -> bool
+    ensures { result ≡ (is_allowed b && not (ends_text b)) }
 {
-    is_blank(b) || (0x21 <= b && b <= 0x7e)
+    // Nearly every byte is in this range, so it is tried alone first.
+    if b'$' <= b && b <= b'~' {
+        return true;
+    }
+    matches!(b, b'!' | b'"' | b' ' | b'\t' | b'\r')
 }
 
-/// Whether what is read of a line has no byte that can't stand there.
-pub(crate) fn is_clean(text: &[u8]) -> bool
-    ensures { result ≡ list_all is_allowed text.now }
+/// Where a line's text ends, or has a byte that can't stand there.
+fn read_end(line: &[u8]) -> Option<usize>
+    ensures { result ≡ position (λ b. not (is_allowed b && not (ends_text b))) line.now }
 {
-    text.iter().all(|b| is_allowed(*b))
+    line.iter().position(|b| !is_read(*b))
+}
+
+/// What is read of a line, unless it has a byte that can't stand there.
+pub(crate) fn clean_text(line: &[u8]) -> Option<&[u8]>
+    ensures { MatchOption result
+        (list_all is_allowed (text_of line.now) ≡ false)
+        (λ text. (list_all is_allowed text.now ≡ true) × (text.now ≡ text_of line.now)) }
+{
+    match read_end(line) {
+        None => Some(line),
+        Some(end) if ends_text(line[end]) => Some(&line[..end]),
+        Some(_) => None,
+    }
 }

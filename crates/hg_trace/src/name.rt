@@ -53,7 +53,7 @@ fn is_lower(b: u8) -> bool
 fn is_name_byte(b: u8) -> bool
     ensures { result ≡ is_name_byte b }
 {
-    matches!(b, b'a'..=b'z' | b'0'..=b'9' | b'_' | b'-')
+    is_lower(b) || b.is_ascii_digit() || b == b'_' || b == b'-'
 }
 
 fn is_name(word: &[u8]) -> bool

@@ -12,7 +12,7 @@ ghost use Rattle.hg_trace.specs.Trace.{line_at, trace_of};
 use crate::fault::{LineFault, TraceFault};
 use crate::labels::Labels;
 use crate::line::{Command, Line, Trace};
-use crate::lines::{Lines, is_clean, text_of};
+use crate::lines::{Lines, clean_text};
 use crate::numbers::number_of;
 use crate::words::Words;
 use std::alloc::Global;
@@ -202,10 +202,7 @@ fn line_means(labels: &Labels, line: &[u8]) -> Result<Option<(u8, Command)>, Lin
     ensures means { result ≡ line_at labels.now line.now }
     ensures fresh { IfOk result (λ here. IfSome here (λ it. repeats labels.now it.1 ≡ false)) }
 {
-    let text = text_of(line);
-    if !is_clean(text) {
-        return Err(LineFault::Byte);
-    }
+    let text = clean_text(line).ok_or(LineFault::Byte)?;
     words_mean(labels, &mut Words::new(text))
 }
 
