@@ -26,9 +26,9 @@ pub const LIMIT: usize = 16_777_216;
 pub fn read_limited<R: Read>(alloc: Global, input: &mut R) -> Result<Vec<u8>, ReadFault>
     ensures ok { IfOk result
         (λ read. IfSome (R.remaining input.old) (λ bytes. read.items ≡ bytes)) }
-    ensures fits { IfOk result (λ read. vec_len read ≤ LIMIT) }
+    ensures fits { IfOk result (λ read. vec_len read ≤ 16777216) }
     ensures long { result ≡ Err ReadFault.Long
-        → IfSome (R.remaining input.old) (λ bytes. LIMIT < length bytes) }
+        → IfSome (R.remaining input.old) (λ bytes. 16777216 < length bytes) }
 {
     let mut bytes = Vec::new(alloc);
     let mut buf = [0u8; 4096];

@@ -1,6 +1,6 @@
 //! What is to be written: gathered in a buffer, and written where that is full.
 
-ghost use Rattle.std.specs.Prelude.{◌≡◌, ℕ, List, [], true, Option, unwrap_or, OnOk, OnErr};
+ghost use Rattle.std.specs.Prelude.{◌≡◌, ℕ, List, [], true, false, Option, unwrap_or, OnOk, OnErr};
 ghost use Rattle.std.specs.Io.KnownBytes.{Appends};
 ghost use Rattle.hg_policy.specs.Names.{tenant_name};
 ghost use Rattle.hg_machine.specs.declared.Answer.TheVariants as answer;
@@ -27,7 +27,8 @@ pub(crate) struct Output {
 
 impl Output {
     pub(crate) fn new() -> Output
-        ensures { (start : Option (List ℕ)) → IsGiven start start result [] }
+        ensures given { (start : Option (List ℕ)) → IsGiven start start result [] }
+        ensures going { result.stopped ≡ false }
     {
         Output {
             waiting: ArrayVec::new(),

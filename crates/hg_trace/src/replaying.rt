@@ -1,6 +1,6 @@
 //! A trace replayed on a core.
 
-ghost use Rattle.std.specs.Prelude.{◌≡◌, ◌+◌, ◌≤◌, ◌<◌, ℕ, List, [], ◌∷◌, OnOk, OnErr, All, true};
+ghost use Rattle.std.specs.Prelude.{◌≡◌, ◌+◌, ◌≤◌, ◌<◌, ℕ, List, [], ◌∷◌, OnOk, OnErr, All, true, false};
 ghost use Rattle.std.specs.Prelude.{vec_len, vec_capacity, if◌then◌else◌, IfOk};
 ghost use Rattle.std.specs.Io.KnownBytes.{Appends};
 ghost use Rattle.hg_machine.specs.State.{opening};
@@ -10,7 +10,6 @@ ghost use Rattle.hg_trace.specs.Writes.{Gives, IsGiven};
 ghost use Rattle.hg_trace.specs.Replays.{Progress, handle_in, handles_after, starting};
 ghost use Rattle.hg_trace.specs.Replays.{Answered, Replays, StopsWithin, EndsReplay};
 ghost use Rattle.hg_trace.specs.Labels.{gives_label, label_count};
-ghost use Rattle.hg_trace.specs.Labels.{label_count, gives_label};
 
 use crate::events::{Meaning, label_count, meaning_of, unknown_worker};
 use crate::fault::ReplayFault;
@@ -109,10 +108,12 @@ fn replay_lines<W: Write>(
     requires count { vec_len handles.old ≡ 0 }
     requires room { label_count lines.now ≤ vec_capacity handles.old }
     requires empty { IsGiven (W.contents out.old) (W.contents out.old) output.old [] }
+    requires going { output.old.stopped ≡ false }
     ensures ok { OnOk result ((text : List ℕ)
         × Replays (starting core.old.state) lines.now
         (record { state = core.new.state; handles = handles.new.items }) text
-        × IsGiven (W.contents out.old) (W.contents out.new) output.new text) }
+        × IsGiven (W.contents out.old) (W.contents out.new) output.new text
+        × (output.new.stopped ≡ false)) }
     ensures stopped { OnErr result (StopsWithin core.old.state lines.now
         (W.contents out.old) (W.contents out.new)) }
 {

@@ -4,7 +4,7 @@ ghost use Rattle.hg_trace.specs.RunFaults.{status_after};
 ghost use Rattle.hg_trace.specs.Statuses.{EndsAs, EndsJoined};
 
 use crate::fault::RunFault;
-use crate::input::{LIMIT, read_limited};
+use crate::input::read_limited;
 use crate::joined::split_joined;
 use crate::read::read_trace;
 use crate::replaying::replay;
@@ -50,7 +50,7 @@ pub fn run_joined<R: Read, W: Write, E: Write>(
     out: &mut W,
     err: &mut E,
 ) -> u8
-    ensures { EndsJoined LIMIT result (R.remaining input.old)
+    ensures { EndsJoined 16777216 result (R.remaining input.old)
         (W.contents out.old) (W.contents out.new) }
 {
     match read_limited(alloc, input) {

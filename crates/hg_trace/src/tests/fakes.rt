@@ -28,6 +28,28 @@ impl Write for Stingy {
     }
 }
 
+/// A writer that fails at its first call alone, and takes all from then on.
+#[derive(Drop)]
+pub struct FailsOnce {
+    pub held: Vec<u8>,
+    pub failed: bool,
+}
+
+impl Write for FailsOnce {
+    fn write(&mut self, buf: &[u8]) -> io::Result<usize> {
+        if !self.failed {
+            self.failed = true;
+            return Err(io::Error::from(io::ErrorKind::Interrupted));
+        }
+        self.held.extend_from_slice(buf)?;
+        Ok(buf.len())
+    }
+
+    fn flush(&mut self) -> io::Result<()> {
+        Ok(())
+    }
+}
+
 /// A writer that takes nothing.
 #[derive(Drop)]
 pub struct Full;

@@ -38,6 +38,24 @@ fn labels_refused_in_turn(rt: HostRuntime) {
     }
 }
 
+/// With labels, for whose handles room is asked too.
+#[test]
+fn labelled_replay_refused_in_turn(rt: HostRuntime) {
+    let Ok(policy) = read_policy(rt.alloc(), POLICY.as_bytes()) else {
+        return;
+    };
+    let trace = b"w0 refill main\nw0 alloc alice main 8 as x\nw0 free alice x\n";
+    let Ok(trace) = read_trace(rt.alloc(), trace) else {
+        return;
+    };
+    let mut out = Held::new();
+    match replay(rt.alloc(), policy, &trace, &mut out) {
+        Ok(()) => assert_eq!(&rt; out.as_slice(), b"segment 0\nok @0.0.0.1\nok\n".as_slice()),
+        Err(ReplayFault::Memory) => assert_eq!(&rt; out.len(), 0),
+        Err(_) => assert!(&rt; false, "another fault"),
+    }
+}
+
 #[test]
 fn replay_refused_in_turn(rt: HostRuntime) {
     let policy = match read_policy(rt.alloc(), POLICY.as_bytes()) {

@@ -1,6 +1,6 @@
 //! Runs from bytes to bytes.
 
-use crate::tests::fakes::{Blanks, Flaky, Full, Stingy};
+use crate::tests::fakes::{Blanks, FailsOnce, Flaky, Full, Stingy};
 use crate::{run_joined, run_texts};
 use std::alloc::Global;
 use std::process::Abort;
@@ -211,6 +211,22 @@ fn failed_writes_are_told(rt: HostRuntime) -> Result<(), Fail> {
     assert_eq!(&rt; out.held.as_slice(), ANSWERS.as_bytes());
     let status = run_texts(a, POLICY.as_bytes(), TRACE.as_bytes(), &mut Full, &mut Full);
     assert_eq!(&rt; status, 3);
+    Ok(())
+}
+
+/// A write that failed isn't tried again, and nothing is written after it.
+#[test]
+fn failed_write_is_the_last(rt: HostRuntime) -> Result<(), Fail> {
+    let a = rt.alloc();
+    let mut out = FailsOnce {
+        held: Vec::new(a),
+        failed: false,
+    };
+    let mut err = Vec::new(a);
+    let status = run_texts(a, POLICY.as_bytes(), TRACE.as_bytes(), &mut out, &mut err);
+    assert_eq!(&rt; status, 3);
+    assert_eq!(&rt; out.held.len(), 0);
+    assert_eq!(&rt; err.as_slice(), b"write fault\n".as_slice());
     Ok(())
 }
 

@@ -28,5 +28,6 @@ loop-line-preserved g c =
       count =
           c.replay_line.ensures.count ∙ ap (λ n. n + (if gives_label line.command then 1 else 0)) c.loop-line.invariant.count
           ∙ sym (label_count_more c.args.lines.now c.loop-line.line-index line (omega arith) c.line-item.is);
+      going = sym c.has_stopped.ensures ∙ c.if-has_stopped.false;
       room = c.replay_line.ensures.room ∙ c.loop-line.invariant.room;
     }

@@ -1,4 +1,4 @@
-use Rattle.std.proofs.Common.{◌≡◌, ℕ, List, take, vec_len, vec_capacity}
+use Rattle.std.proofs.Common.{◌≡◌, false, ℕ, List, take, vec_len, vec_capacity}
 use Rattle.hg_trace.specs.Labels.{label_count}
 use Rattle.hg_trace.specs.Replays.{Replays, starting}
 use Rattle.hg_trace.specs.Writes.{IsGiven}
@@ -15,5 +15,6 @@ invariant-loop-line g l =
           × Replays (starting l.fn.core.state) (take l.line-index l.lines) (record { state = l.core.state; handles = l.handles.items }) text
           × IsGiven (contents l.fn.out) (contents l.out) l.output text;
       count : vec_len l.handles ≡ label_count (take l.line-index l.lines);
+      going : l.output.stopped ≡ false;
       room : vec_capacity l.handles ≡ vec_capacity l.fn.handles;
     }

@@ -4,7 +4,7 @@ use Rattle.hg_trace.proofs.replaying.replay_on.Goals as goal
 
 pub returns-in-Ok-clause-stopped : goal.returns-in-Ok-clause-stopped
 returns-in-Ok-clause-stopped g c =
-    let (text, replayed, given) = c.in-Ok.ensures.ok in
+    let (text, replayed, given, going) = c.in-Ok.ensures.ok in
     on_err_weaker c.finish.result
     (λ stopped. record {
       before = c.args.lines.now;
