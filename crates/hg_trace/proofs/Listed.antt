@@ -20,9 +20,13 @@ use Rattle.hg_machine.specs.declared.Answer.{Answer}
 use Rattle.hg_machine.specs.declared.Answer.TheVariants as answer
 use Rattle.hg_machine.proofs.Cases.{step_cases}
 use Rattle.hg_machine.proofs.Looks.{looks_are_listed}
+use Rattle.hg_trace.specs.declared.events.Meaning.TheVariants as meaning
+use Rattle.hg_trace.specs.Events.{actor_of, events_of, meaning_of}
 use Rattle.hg_trace.specs.Listings.{place_at, held_among, looks_at}
 use Rattle.hg_trace.specs.Rows.{is_row}
-use Rattle.hg_trace.specs.ReplayLaws.{row_of, rows_in, ListingsShowWhatIsListed}
+use Rattle.hg_trace.specs.Text.{listing_text, text_of}
+use Rattle.hg_trace.specs.Replays.{handles_after, meaning_at}
+use Rattle.hg_trace.specs.ReplayLaws.{row_of, rows_in, ListingsShowWhatIsListed, ListLinesPrintListings}
 use Rattle.hg_trace.proofs.Looking.{look_keeps}
 
 pub number_at : (n : ℕ) → n < 64 * 8192 → number_of (place_at n) ≡ n
@@ -120,3 +124,15 @@ pub listings_show_what_is_listed : ListingsShowWhatIsListed
 listings_show_what_is_listed s worker actor answers end sound run =
     let all = shown s worker actor sound 0 (length s.records) answers end (omega (arith, sound.whole.records, sound.policy.few_segments)) run in
     (all.same, all.rows, all.printed)
+
+pub list_lines_print_listings : ListLinesPrintListings
+list_lines_print_listings from end line name text sound lists answered =
+    let policy = from.state.policy in
+    let actor = actor_of policy name in
+    let meant : meaning_at from line ≡ meaning.Listing actor = ap (meaning_of policy from.handles) lists in
+    let run = subst (λ m. Run from.state (events_of from.state line.worker m) answered.answers end.state) meant answered.run in
+    let shown = listings_show_what_is_listed from.state line.worker actor answered.answers end.state sound run in
+    let handles : end.handles ≡ from.handles = answered.handles ∙ ap (λ c. handles_after from.handles c answered.answers) lists in
+    let same : end ≡ from =
+    ap (λ s. record { state = s; handles = end.handles }) shown.0 ∙ ap (λ h. record { state = from.state; handles = h }) handles in
+    (same, rows_in answered.answers, shown.1, answered.told ∙ ap (λ m. text_of policy m answered.answers) meant ∙ ap (listing_text policy) shown.2)

@@ -1,8 +1,8 @@
 //! Laws of the definitions. Each function does nothing: what it promises is the law.
 
 ghost use Rattle.hg_trace.specs.NumberLaws.{NumbersAreDecimals};
-ghost use Rattle.hg_trace.specs.ReplayLaws.{ListingsShowWhatIsListed, ReplaysAreRuns};
-ghost use Rattle.hg_trace.specs.ReplayLaws.{ReplaysKeepPolicy, ReplaysKeepSound};
+ghost use Rattle.hg_trace.specs.ReplayLaws.{ListLinesPrintListings, ListingsShowWhatIsListed};
+ghost use Rattle.hg_trace.specs.ReplayLaws.{ReplaysAreRuns, ReplaysKeepPolicy, ReplaysKeepSound};
 
 /// A word is read as a number exactly where it is how that number is written.
 pub fn numbers_are_decimals()
@@ -14,7 +14,13 @@ pub fn listings_show_what_is_listed()
     ensures { ListingsShowWhatIsListed }
 {}
 
-/// A replay is one run of the machine, of events of its lines' workers, and its text is the run's.
+/// A line that lists writes the machine's listing and the number of its rows. Nothing changes.
+pub fn list_lines_print_listings()
+    ensures { ListLinesPrintListings }
+{}
+
+/// A replay is one run of the machine, of what each line means where the lines before it lead, and
+/// its text is the run's.
 pub fn replays_are_runs()
     ensures { ReplaysAreRuns }
 {}
