@@ -237,7 +237,13 @@ fn rows_of_one_worker(rt: &impl Abort, a: Global, policy: &str) -> Result<(), Fa
     new_life(rt, a, policy)?;
     unbound(rt, a, policy)?;
     // A segment that there isn't, and a fault that leaves nothing written.
-    answers(rt, a, policy, b"w0 read alice @9.0.0.1 0\n", b"denied stale\n")?;
+    answers(
+        rt,
+        a,
+        policy,
+        b"w0 read alice @9.0.0.1 0\n",
+        b"denied stale\n",
+    )?;
     ends(
         rt,
         a,
