@@ -1,5 +1,6 @@
 ghost use Rattle.std.specs.Prelude.{◌≤◌, ◌<◌, IsTrue, All};
 
+use crate::policies::{ONE_LIFE, TWO_WORKERS};
 use hg_core::Core;
 use hg_machine::{Answer, Event, Rule};
 use hg_place::{Actor, Handle, Place};
@@ -15,24 +16,6 @@ const BOB: Actor = Actor(1);
 const MAIN: u8 = 0;
 /// A number that no arena has.
 const NOWHERE: u8 = 255;
-
-const SHARED: &str = r#"
-version = 1
-workers = 2
-tenant = [ {name = "alice", limit = 8192}, {name = "bob", limit = 64} ]
-arena = [ {name = "main", segments = 2}, {name = "vault", segments = 1, exclusive = ["alice"]} ]
-grant = [ {owner = "alice", to = "bob", rights = ["read", "free"]} ]
-"#;
-
-/// The same, where each place is given out once.
-const ONE_LIFE: &str = r#"
-version = 1
-workers = 2
-max_generation = 1
-tenant = [ {name = "alice", limit = 8192}, {name = "bob", limit = 64} ]
-arena = [ {name = "main", segments = 2}, {name = "vault", segments = 1, exclusive = ["alice"]} ]
-grant = [ {owner = "alice", to = "bob", rights = ["read", "free"]} ]
-"#;
 
 /// A life of a place of segment 0.
 fn life(page: u8, index: u16, generation: u32) -> Handle
@@ -146,7 +129,7 @@ fn delivered_then_taken(rt: HostRuntime) -> Result<(), Fail> {
         Answer::Taken(1),
         Answer::NothingInHand,
     ];
-    answers_are(&rt, rt.alloc(), SHARED, &events, &wanted)
+    answers_are(&rt, rt.alloc(), TWO_WORKERS, &events, &wanted)
 }
 
 /// What is in a hand stays there, also where its own worker holds the segment.
@@ -175,7 +158,7 @@ fn hand_is_not_taken(rt: HostRuntime) -> Result<(), Fail> {
         Answer::NotHeld,
         Answer::Block(life(0, 0, 2)),
     ];
-    answers_are(&rt, rt.alloc(), SHARED, &events, &wanted)
+    answers_are(&rt, rt.alloc(), TWO_WORKERS, &events, &wanted)
 }
 
 /// A hand has one block; the verdict on a block is told before a full hand.
@@ -205,7 +188,7 @@ fn full_hand_is_busy(rt: HostRuntime) -> Result<(), Fail> {
         Answer::Done,
         Answer::Parted,
     ];
-    answers_are(&rt, rt.alloc(), SHARED, &events, &wanted)
+    answers_are(&rt, rt.alloc(), TWO_WORKERS, &events, &wanted)
 }
 
 /// A parted block counts in the charge until it is taken.
@@ -232,7 +215,7 @@ fn parted_block_counts_in_charge(rt: HostRuntime) -> Result<(), Fail> {
         Answer::Taken(1),
         Answer::Block(life(1, 0, 1)),
     ];
-    answers_are(&rt, rt.alloc(), SHARED, &events, &wanted)
+    answers_are(&rt, rt.alloc(), TWO_WORKERS, &events, &wanted)
 }
 
 /// A place past its last life is never given out again, in no class.
@@ -287,7 +270,7 @@ fn grant_then_holder_then_length(rt: HostRuntime) -> Result<(), Fail> {
         Answer::OutOfBlock,
         Answer::Value(0),
     ];
-    answers_are(&rt, rt.alloc(), SHARED, &events, &wanted)
+    answers_are(&rt, rt.alloc(), TWO_WORKERS, &events, &wanted)
 }
 
 /// Places of two pages are taken at once, and both pages lose their classes.
@@ -331,7 +314,7 @@ fn all_that_was_sent_is_taken(rt: HostRuntime) -> Result<(), Fail> {
         Answer::Taken(4),
         Answer::Pages(2),
     ];
-    answers_are(&rt, rt.alloc(), SHARED, &events, &wanted)
+    answers_are(&rt, rt.alloc(), TWO_WORKERS, &events, &wanted)
 }
 
 /// Of two orphans the one that was abandoned first is taken.
@@ -357,7 +340,7 @@ fn orphans_by_turn(rt: HostRuntime) -> Result<(), Fail> {
         Answer::NotHeld,
         Answer::NoSegment,
     ];
-    answers_are(&rt, rt.alloc(), SHARED, &events, &wanted)
+    answers_are(&rt, rt.alloc(), TWO_WORKERS, &events, &wanted)
 }
 
 /// Blocks stay live while nobody holds their segment, and go with it to who takes it.
@@ -384,7 +367,7 @@ fn abandon_and_adopt_with_live_blocks(rt: HostRuntime) -> Result<(), Fail> {
         Answer::Value(5),
         Answer::Done,
     ];
-    answers_are(&rt, rt.alloc(), SHARED, &events, &wanted)
+    answers_are(&rt, rt.alloc(), TWO_WORKERS, &events, &wanted)
 }
 
 /// Where memory is refused to a run, nothing was served: the same run is answered in full when it
@@ -406,7 +389,7 @@ fn refused_in_turn(rt: HostRuntime) {
 
 /// Runs the events from the opening, and once more where the first run has no memory.
 fn run_twice(alloc: Global, events: &[(u8, Event)]) -> Result<Vec<Answer>, PolicyFault> {
-    let policy = read_policy(alloc, SHARED.as_bytes())?;
+    let policy = read_policy(alloc, TWO_WORKERS.as_bytes())?;
     let mut core = Core::open(alloc, policy)?;
     match run(&mut core, alloc, events) {
         Ok(answers) => Ok(answers),

@@ -5,4 +5,6 @@
 #[cfg(test)]
 mod event_rows;
 #[cfg(test)]
+mod policies;
+#[cfg(test)]
 mod trace_rows;

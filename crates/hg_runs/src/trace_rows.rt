@@ -1,32 +1,10 @@
 //! Traces from bytes to bytes, under a policy that two tenants share.
 
+use crate::policies::{ONE_LIFE, ONE_WORKER, TWO_WORKERS};
 use hg_trace::run_texts;
 use std::alloc::Global;
 use std::process::Abort;
 use std::test::Fail;
-
-const ONE_WORKER: &str = r#"version = 1
-workers = 1
-tenant = [ {name = "alice", limit = 8192}, {name = "bob", limit = 64} ]
-arena = [ {name = "main", segments = 2}, {name = "vault", segments = 1, exclusive = ["alice"]} ]
-grant = [ {owner = "alice", to = "bob", rights = ["read", "free"]} ]
-"#;
-
-const TWO_WORKERS: &str = r#"version = 1
-workers = 2
-tenant = [ {name = "alice", limit = 8192}, {name = "bob", limit = 64} ]
-arena = [ {name = "main", segments = 2}, {name = "vault", segments = 1, exclusive = ["alice"]} ]
-grant = [ {owner = "alice", to = "bob", rights = ["read", "free"]} ]
-"#;
-
-/// The same, where each place is given out once.
-const ONE_LIFE: &str = r#"version = 1
-workers = 2
-max_generation = 1
-tenant = [ {name = "alice", limit = 8192}, {name = "bob", limit = 64} ]
-arena = [ {name = "main", segments = 2}, {name = "vault", segments = 1, exclusive = ["alice"]} ]
-grant = [ {owner = "alice", to = "bob", rights = ["read", "free"]} ]
-"#;
 
 /// The run ends with this status, output and line on standard error.
 fn ends(
