@@ -1,8 +1,8 @@
 -- How a run on files ends. What a file holds is no fact of a proof, so some bytes are meant.
 use Rattle.std.specs.Prelude.{◌≡◌, ◌≤◌, ◌⊎◌, ℕ, List, Option, length}
 use Rattle.std.specs.Io.KnownBytes.{Keeps}
-use Rattle.hg_trace.specs.Checks.{EndsCheck}
-use Rattle.hg_trace.specs.Statuses.{EndsAs}
+use Rattle.hg_replay.specs.Checks.{EndsCheck}
+use Rattle.hg_replay.specs.Statuses.{EndsAs}
 
 -- the file is not read, with status 3 and nothing written, or a check of its bytes, up to the limit,
 -- ends so

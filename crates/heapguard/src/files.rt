@@ -3,7 +3,7 @@
 ghost use Rattle.std.specs.Prelude.{IfOk, vec_len, ◌≤◌};
 ghost use Rattle.heapguard.specs.Files.{EndsOnFile, EndsOnFiles};
 
-use hg_trace::{ReadFault, read_limited, run_check, run_texts};
+use hg_replay::{ReadFault, read_limited, run_check, run_texts};
 use std::fs;
 use std::io::Write;
 

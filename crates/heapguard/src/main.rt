@@ -5,7 +5,7 @@ mod files;
 
 use files::{check_file, replay_files};
 use hg_job::{Job, JobFault, job_of};
-use hg_trace::run_joined;
+use hg_replay::run_joined;
 use std::alloc::AllocError;
 use std::io::Write;
 use std::process::ExitCode;

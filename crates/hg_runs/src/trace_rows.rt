@@ -1,7 +1,7 @@
 //! Traces from bytes to bytes, under a policy that two tenants share.
 
 use crate::policies::{ONE_LIFE, ONE_WORKER, TWO_WORKERS};
-use hg_trace::run_texts;
+use hg_replay::run_texts;
 use std::alloc::Global;
 use std::process::Abort;
 use std::test::Fail;

@@ -5,14 +5,7 @@ pub mod WordCuts
 pub mod NameBytes
 pub mod Numerals
 pub mod Decimals
-pub mod Writes
 pub mod Parts
-pub mod Endings
 pub mod Dots
 pub mod PlaceNumbers
-pub mod RowLines
-pub mod Looking
-pub mod Answering
 pub mod LabelNames
-pub mod Listed
-pub mod ReplayRuns

@@ -12,8 +12,10 @@ fn is_mark(line: &[u8]) -> bool
     matches!(without_end(line), b"---" | b"---\r")
 }
 
-/// The policy's bytes, and the trace's.
-pub(crate) fn split_joined(bytes: &[u8]) -> (&[u8], &[u8])
+/// The policy's bytes, and the trace's: the lines before the first mark, and the lines after it. A
+/// mark is a line of three dashes, which a byte 0D may follow; it is in neither part. Without one
+/// the policy is all bytes, and the trace is empty.
+pub fn split_joined(bytes: &[u8]) -> (&[u8], &[u8])
     ensures policy { result.0.now ≡ policy_in bytes.now }
     ensures trace { result.1.now ≡ trace_in bytes.now }
 {

@@ -63,7 +63,7 @@ pub enum Command {
 
 impl Command {
     /// Whether its line gives a label.
-    pub(crate) fn gives_label(&self) -> bool
+    pub fn gives_label(&self) -> bool
         ensures { result ≡ gives_label self.now }
     {
         matches!(self, Command::Alloc { label: Some(_), .. })

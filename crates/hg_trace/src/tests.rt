@@ -1,6 +1,3 @@
-mod fakes;
-mod outputs;
+mod joined;
 mod reading;
 mod refusals;
-mod running;
-mod texts;

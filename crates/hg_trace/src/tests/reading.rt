@@ -279,6 +279,23 @@ fn blocks_are_named_by_label(rt: HostRuntime) -> Result<(), Fail> {
 }
 
 #[test]
+fn labels_are_given(rt: HostRuntime) -> Result<(), Fail> {
+    let a = rt.alloc();
+    let text = b"w0 alloc a b 8\nw0 alloc a b 8 as x\nw0 free a x\nw0 deliver\n";
+    let mut given = Vec::new(a);
+    match read_trace(a, text) {
+        Ok(trace) => {
+            for line in trace.lines() {
+                given.push(line.command.gives_label())?;
+            }
+        }
+        Err(fault) => assert!(&rt; false, "{fault}"),
+    }
+    assert_eq!(&rt; given.as_slice(), [false, true, false, false].as_slice());
+    Ok(())
+}
+
+#[test]
 fn listings_are_read(rt: HostRuntime) -> Result<(), Fail> {
     let a = rt.alloc();
     reads(

@@ -1,0 +1,191 @@
+-- A line is answered, and a replay goes on by it.
+use Rattle.std.proofs.Common.{◌≡◌, ℕ, ◌+◌, ◌<◌, suc, zero, leb, true, false, List, [], ◌∷◌, ◌++◌, length, get_or, take, drop, Option, None, Some, refl, sym, ap, subst, ◌∙◌, inl, inr, arith, append-nil, append_assoc, take-append-drop, filter}
+use Rattle.std.proofs.lemmas.Bool.{cases_Bool, leb-false}
+use Rattle.std.proofs.lemmas.List.{take_more}
+use Rattle.std.proofs.lemmas.List.Sums.{count_by_more_yes, count_by_more_no}
+use Rattle.std.specs.Prelude.{if◌then◌else◌}
+use Rattle.hg_place.specs.declared.Actor.{Actor}
+use Rattle.hg_place.specs.declared.Handle.{Handle}
+use Rattle.hg_machine.specs.Policy.{Policy}
+use Rattle.hg_machine.specs.State.{State}
+use Rattle.hg_machine.specs.Steps.{Step, Run}
+use Rattle.hg_machine.specs.declared.Event.{Event}
+use Rattle.hg_machine.specs.declared.Answer.{Answer}
+use Rattle.hg_machine.proofs.Preserves.{steps_keep_policy}
+use Rattle.hg_trace.specs.declared.line.Command.{Command}
+use Rattle.hg_trace.specs.declared.line.Command.TheVariants as command
+use Rattle.hg_trace.specs.declared.line.Line.{Line}
+use Rattle.hg_replay.specs.declared.events.Meaning.TheVariants as meaning
+use Rattle.hg_replay.specs.Events.{meaning_of, events_of, unknown_worker}
+use Rattle.hg_trace.specs.Labels.{gives_label, label_count}
+use Rattle.hg_replay.specs.Listings.{looks}
+use Rattle.hg_replay.specs.Rows.{is_row}
+use Rattle.hg_replay.specs.Text.{answer_line, listing_text, text_of}
+use Rattle.hg_replay.specs.Writes.{AppendsFront}
+use Rattle.hg_replay.specs.Replays.{Progress, handles_after, handle_in, starting, meaning_at, Answered, Replays, StopsWithin}
+
+-- a line that gives no label leaves the labels as they were
+pub no_label : (handles : List (Option Handle)) (c : Command) (answers : List Answer) → gives_label c ≡ false → handles_after handles c answers ≡ handles
+no_label handles (command.Alloc actor arena bytes None) answers e = refl
+no_label handles (command.Alloc actor arena bytes (Some label)) answers e = absurd (cc)
+no_label handles (command.Free actor block) answers e = refl
+no_label handles command.Deliver answers e = refl
+no_label handles (command.Take segment) answers e = refl
+no_label handles command.Collect answers e = refl
+no_label handles (command.Read actor block index) answers e = refl
+no_label handles (command.Write actor block index value) answers e = refl
+no_label handles (command.Look actor place) answers e = refl
+no_label handles (command.List actor) answers e = refl
+no_label handles (command.Abandon segment) answers e = refl
+no_label handles (command.Refill arena) answers e = refl
+
+pub some_label : (handles : List (Option Handle)) (c : Command) (answers : List Answer) → gives_label c ≡ true
+    → handles_after handles c answers ≡ handles ++ handle_in answers ∷ []
+some_label handles (command.Alloc actor arena bytes None) answers e = absurd (cc)
+some_label handles (command.Alloc actor arena bytes (Some label)) answers e = refl
+some_label handles (command.Free actor block) answers e = absurd (cc)
+some_label handles command.Deliver answers e = absurd (cc)
+some_label handles (command.Take segment) answers e = absurd (cc)
+some_label handles command.Collect answers e = absurd (cc)
+some_label handles (command.Read actor block index) answers e = absurd (cc)
+some_label handles (command.Write actor block index value) answers e = absurd (cc)
+some_label handles (command.Look actor place) answers e = absurd (cc)
+some_label handles (command.List actor) answers e = absurd (cc)
+some_label handles (command.Abandon segment) answers e = absurd (cc)
+some_label handles (command.Refill arena) answers e = absurd (cc)
+
+-- only an allocation gives a label, and it means one event
+pub one_labels : (policy : Policy) (handles : List (Option Handle)) (c : Command) → gives_label c ≡ true
+    → (event : Event) × (meaning_of policy handles c ≡ meaning.One event)
+one_labels policy handles (command.Alloc actor arena bytes None) e = absurd (cc)
+one_labels policy handles (command.Alloc actor arena bytes (Some label)) e = (_, refl)
+one_labels policy handles (command.Free actor block) e = absurd (cc)
+one_labels policy handles command.Deliver e = absurd (cc)
+one_labels policy handles (command.Take segment) e = absurd (cc)
+one_labels policy handles command.Collect e = absurd (cc)
+one_labels policy handles (command.Read actor block index) e = absurd (cc)
+one_labels policy handles (command.Write actor block index value) e = absurd (cc)
+one_labels policy handles (command.Look actor place) e = absurd (cc)
+one_labels policy handles (command.List actor) e = absurd (cc)
+one_labels policy handles (command.Abandon segment) e = absurd (cc)
+one_labels policy handles (command.Refill arena) e = absurd (cc)
+
+listing_labels : (policy : Policy) (handles : List (Option Handle)) (c : Command) (actor : Actor) → meaning_of policy handles c ≡ meaning.Listing actor → gives_label c ≡ false
+listing_labels policy handles c actor e =
+    elim (cases_Bool (gives_label c)) [
+      | inl given ↦ let one = (one_labels policy handles c given).1 in absurd (cc)
+      | inr none ↦ none
+    ]
+
+unbound_labels : (policy : Policy) (handles : List (Option Handle)) (c : Command) → meaning_of policy handles c ≡ meaning.Unbound → gives_label c ≡ false
+unbound_labels policy handles c e =
+    elim (cases_Bool (gives_label c)) [
+      | inl given ↦ let one = (one_labels policy handles c given).1 in absurd (cc)
+      | inr none ↦ none
+    ]
+
+-- a line is answered by its meaning
+module _ (from : Progress) (line : Line) where
+  pub one_answered : (event : Event) (answer : Answer) (end : State) (handles : List (Option Handle))
+      → meaning_at from line ≡ meaning.One event → Step from.state line.worker event answer end
+      → handles ≡ handles_after from.handles line.command (answer ∷ [])
+      → Answered from line (record { state = end; handles = handles }) (answer_line from.state.policy answer)
+  one_answered event answer end handles meant step noted = record {
+    answers = answer ∷ [];
+    run =
+        subst (λ m. Run from.state (events_of from.state line.worker m) (answer ∷ []) end) (sym meant) (end, step, refl);
+    handles = noted;
+    told = sym (ap (λ m. text_of from.state.policy m (answer ∷ [])) meant ∙ append-nil (answer_line from.state.policy answer));
+  }
+
+  pub listing_answered : (actor : Actor) (answers : List Answer) (end : State)
+      → meaning_at from line ≡ meaning.Listing actor → end ≡ from.state → Run from.state (looks from.state line.worker actor) answers from.state
+      → Answered from line (record { state = end; handles = from.handles }) (listing_text from.state.policy (filter is_row answers))
+  listing_answered actor answers end meant same run = record {
+    answers = answers;
+    run =
+        subst (λ m. Run from.state (events_of from.state line.worker m) answers end) (sym meant)
+        (subst (λ t. Run from.state (looks from.state line.worker actor) answers t) (sym same) run);
+    handles = sym (no_label from.handles line.command answers (listing_labels from.state.policy from.handles line.command actor meant));
+    told = sym (ap (λ m. text_of from.state.policy m answers) meant);
+  }
+
+  pub unbound_answered : meaning_at from line ≡ meaning.Unbound → Answered from line from (text_of from.state.policy meaning.Unbound [])
+  unbound_answered meant = record {
+    answers = [];
+    run = subst (λ m. Run from.state (events_of from.state line.worker m) [] from.state) (sym meant) refl;
+    handles = sym (no_label from.handles line.command [] (unbound_labels from.state.policy from.handles line.command meant));
+    told = sym (ap (λ m. text_of from.state.policy m []) meant);
+  }
+
+-- a replay goes on by a line
+pub replays_more : (lines : List Line) (line : Line) (from mid end : Progress) (text here : List ℕ)
+    → Replays from lines mid text → Answered mid line end here → Replays from (lines ++ line ∷ []) end (text ++ here)
+replays_more [] line from mid end text here so_far answered =
+    (end, here, [], subst (λ p. Answered p line end here) so_far.0 answered, (refl, refl), ap (λ t. t ++ here) so_far.1 ∙ sym (append-nil here))
+replays_more (first ∷ lines) line from mid end text here (next, one, rest, done, more, told) answered = (
+  next,
+  one,
+  rest ++ here,
+  done,
+  replays_more lines line next mid end rest here more answered,
+  ap (λ t. t ++ here) told ∙ append_assoc one rest here,
+)
+
+-- the lines up to index i are answered, and the next one is too
+module _ (s : State) (lines : List Line) (i : ℕ) (line : Line) (mid end : Progress) (text here : List ℕ) (within : i < length lines)
+    (here_is : line ≡ get_or lines i line) (so_far : Replays (starting s) (take i lines) mid text) (answered : Answered mid line end here) where
+  pub replays_next : Replays (starting s) (take (i + 1) lines) end (text ++ here)
+  replays_next =
+      let more : take (i + 1) lines ≡ take i lines ++ line ∷ [] =
+      take_more lines i line within ∙ ap (λ l. take i lines ++ l ∷ []) (sym here_is) in
+      subst (λ ls. Replays (starting s) ls end (text ++ here)) (sym more) (replays_more (take i lines) line (starting s) mid end text here so_far answered)
+
+  pub replays_stop : (old new : Option (List ℕ)) → AppendsFront old new (text ++ here) → StopsWithin s lines old new
+  replays_stop old new stopped = record {
+    before = take (i + 1) lines;
+    after = drop (i + 1) lines;
+    split = sym (take-append-drop (i + 1) lines);
+    end = end;
+    text = text ++ here;
+    replayed = replays_next;
+    stopped = stopped;
+  }
+
+-- a line adds the label that it gives
+pub label_count_more : (lines : List Line) (i : ℕ) (line : Line) → i < length lines → line ≡ get_or lines i line
+    → label_count (take (i + 1) lines) ≡ label_count (take i lines) + (if gives_label line.command then 1 else 0)
+label_count_more lines i line within here =
+    elim (cases_Bool (gives_label line.command)) as (λ _. label_count (take (i + 1) lines) ≡ label_count (take i lines) + (if gives_label line.command then 1 else 0)) [
+      | inl t ↦ rw t (count_by_more_yes (λ l. gives_label l.command) lines i line within (ap (λ l. gives_label l.command) (sym here) ∙ t))
+      | inr f ↦
+          let none : label_count (take i lines) ≡ label_count (take i lines) + 0 = omega arith in
+          rw f (count_by_more_no (λ l. gives_label l.command) lines i line within (ap (λ l. gives_label l.command) (sym here) ∙ f) ∙ none)
+    ]
+
+-- a run leaves the policy as it was
+pub runs_keep_policy : (events : List (ℕ × Event)) (answers : List Answer) (old new : State) → Run old events answers new → new.policy ≡ old.policy
+runs_keep_policy [] [] old new run = ap (λ t. t.policy) run
+runs_keep_policy [] (a ∷ answers) old new run = absurd run
+runs_keep_policy (e ∷ events) [] old new run = absurd run
+runs_keep_policy (e ∷ events) (a ∷ answers) old new run =
+    runs_keep_policy events answers run.0 new run.2 ∙ steps_keep_policy old e.0 e.1 a run.0 run.1
+
+pub answered_keeps_policy : (from end : Progress) (line : Line) (text : List ℕ) → Answered from line end text → end.state.policy ≡ from.state.policy
+answered_keeps_policy from end line text answered =
+    runs_keep_policy (events_of from.state line.worker (meaning_at from line)) answered.answers from.state end.state answered.run
+
+-- where no line's worker is unknown, each is below the count
+pub workers_below : (workers : ℕ) (lines : List Line) → None ≡ unknown_worker workers lines → (k : ℕ) (d : Line) → k < length lines
+    → (get_or lines k d).worker < workers
+workers_below workers [] none k d within = absurd (omega arith)
+workers_below workers (line ∷ lines) none zero d within =
+    elim (cases_Bool (leb workers line.worker)) [
+      | inl e ↦ let here = rw e at none in absurd (cc)
+      | inr e ↦ omega (arith, leb-false workers line.worker e)
+    ]
+workers_below workers (line ∷ lines) none (suc k) d within =
+    elim (cases_Bool (leb workers line.worker)) [
+      | inl e ↦ let here = rw e at none in absurd (cc)
+      | inr e ↦ workers_below workers lines (rw e at none) k d (omega arith)
+    ]

@@ -1,0 +1,131 @@
+-- Looks at places, one after another.
+use Rattle.std.proofs.Common.{◌≡◌, ℕ, ◌+◌, ◌*◌, ◌<◌, ◌≤◌, zero, suc, Bool, true, false, List, [], ◌∷◌, ◌++◌, length, Option, filter, refl, sym, ap, subst, ◌∙◌, arith, append-nil, length-append}
+use Rattle.std.specs.List.{range_with_len}
+use Rattle.std.proofs.lemmas.List.{map-append}
+use Rattle.std.proofs.lemmas.List.Elements.{filter-append}
+use Rattle.std.proofs.lemmas.Grind.{flat_map-append}
+use Rattle.hg_place.specs.declared.Actor.{Actor}
+use Rattle.hg_place.specs.declared.Place.{Place}
+use Rattle.hg_place.specs.Places.{segment_of}
+use Rattle.hg_machine.specs.Policy.{Policy}
+use Rattle.hg_machine.specs.State.{State}
+use Rattle.hg_machine.specs.Holders.{holds}
+use Rattle.hg_machine.specs.Steps.{Step, Run}
+use Rattle.hg_machine.specs.declared.Event.{Event}
+use Rattle.hg_machine.specs.declared.Event.TheVariants as event
+use Rattle.hg_machine.specs.declared.Answer.{Answer}
+use Rattle.hg_machine.proofs.Answered.{state_is_determined}
+use Rattle.hg_replay.specs.declared.output.Output.{Output}
+use Rattle.hg_replay.specs.Listings.{place_at, held_among, looks_at}
+use Rattle.hg_replay.specs.Looked.{Looked}
+use Rattle.hg_replay.specs.Rows.{is_row}
+use Rattle.hg_replay.specs.Text.{answer_line, answer_lines}
+use Rattle.hg_replay.specs.Writes.{Gives}
+use Rattle.hg_replay.proofs.Writes.{gives_then, gives_none}
+
+pub look_keeps : (s new : State) (worker : ℕ) (actor : Actor) (place : Place) (answer : Answer)
+    → Step s worker (event.Look actor place) answer new → new ≡ s
+look_keeps s new worker actor place answer step = state_is_determined s worker (event.Look actor place) answer new step
+
+pub run_then : (events more : List (ℕ × Event)) (answers rest : List Answer) (old mid new : State)
+    → Run old events answers mid → Run mid more rest new → Run old (events ++ more) (answers ++ rest) new
+run_then [] more [] rest old mid new run then = subst (λ s. Run s more rest new) run then
+run_then [] more (a ∷ answers) rest old mid new run then = absurd run
+run_then (e ∷ es) more [] rest old mid new run then = absurd run
+run_then (e ∷ es) more (a ∷ answers) rest old mid new run then =
+    (run.0, run.1, run_then es more answers rest run.0 mid new run.2 then)
+
+answer_lines-append : (policy : Policy) (one other : List Answer) → answer_lines policy (one ++ other) ≡ answer_lines policy one ++ answer_lines policy other
+answer_lines-append policy one other = flat_map-append (answer_line policy) one other
+
+-- nothing is looked at
+pub looked_none : (s : State) (worker : ℕ) (actor : Actor) (a : Option (List ℕ)) (x : Output) → Looked s worker actor [] 0 a x a x
+looked_none s worker actor a x = record { answers = []; run = refl; counted = refl; given = gives_none a x }
+
+-- some places are looked at, and then others
+pub looked_then : (s : State) (worker : ℕ) (actor : Actor) (one other : List ℕ) (m n : ℕ) (a b c : Option (List ℕ)) (x y z : Output)
+    → Looked s worker actor one m a x b y → Looked s worker actor other n b y c z → Looked s worker actor (one ++ other) (m + n) a x c z
+looked_then s worker actor one other m n a b c x y z first second =
+    let split = filter-append is_row first.answers second.answers in
+    record {
+      answers = first.answers ++ second.answers;
+      run =
+          subst (λ events. Run s events (first.answers ++ second.answers) s)
+          (sym (map-append (λ place. (worker, event.Look actor (place_at place))) one other))
+          (run_then (looks_at worker actor one) (looks_at worker actor other) first.answers second.answers s s s first.run second.run);
+      counted =
+          rw (first.counted, second.counted) (sym (ap (λ l. length l) split ∙ length-append (filter is_row first.answers) (filter is_row second.answers)));
+      given =
+          subst (Gives a x c z)
+          (sym (ap (answer_lines s.policy) split ∙ answer_lines-append s.policy (filter is_row first.answers) (filter is_row second.answers)))
+          (gives_then a b c x y z (answer_lines s.policy (filter is_row first.answers)) (answer_lines s.policy (filter is_row second.answers)) first.given second.given);
+    }
+
+module _ (s : State) (worker : ℕ) (actor : Actor) (place : ℕ) (answer : Answer) (step : Step s worker (event.Look actor (place_at place)) answer s)
+    (a : Option (List ℕ)) (x : Output) where
+  -- a place is looked at, and there is no row
+  pub looked_past : is_row answer ≡ false → Looked s worker actor (place ∷ []) 0 a x a x
+  looked_past miss = record {
+    answers = answer ∷ [];
+    run = (s, step, refl);
+    counted = rw miss refl;
+    given = rw miss (gives_none a x);
+  }
+
+  -- or there is one
+  pub looked_row : (b : Option (List ℕ)) (y : Output) → is_row answer ≡ true → Gives a x b y (answer_line s.policy answer)
+      → Looked s worker actor (place ∷ []) 1 a x b y
+  looked_row b y hit given = record {
+    answers = answer ∷ [];
+    run = (s, step, refl);
+    counted = rw hit refl;
+    given = rw hit (subst (Gives a x b y) (sym (append-nil (answer_line s.policy answer))) given);
+  }
+
+pub range_more : (a n : ℕ) → range_with_len a (n + 1) ≡ range_with_len a n ++ (a + n) ∷ []
+range_more a zero = let e : a + 0 ≡ a = omega arith in rw e refl
+range_more a (suc n) =
+    let d : suc n + 1 ≡ suc (n + 1) = omega arith in
+    let e : a + suc n ≡ (a + 1) + n = omega arith in
+    rw (d, e) (ap (λ l. a ∷ l) (range_more (a + 1) n))
+
+pub range_then : (a m n : ℕ) → range_with_len a (m + n) ≡ range_with_len a m ++ range_with_len (a + m) n
+range_then a zero n = let d : 0 + n ≡ n = omega arith in let e : a + 0 ≡ a = omega arith in rw (d, e) refl
+range_then a (suc m) n =
+    let d : suc m + n ≡ suc (m + n) = omega arith in
+    let e : a + suc m ≡ (a + 1) + m = omega arith in
+    rw (d, e) (ap (λ l. a ∷ l) (range_then (a + 1) m n))
+
+-- a range that a test takes whole, or not at all
+pub filter_taken : (p : ℕ → Bool) (a n : ℕ) → ((k : ℕ) → a ≤ k → k < a + n → p k ≡ true) → filter p (range_with_len a n) ≡ range_with_len a n
+filter_taken p a zero all = refl
+filter_taken p a (suc n) all =
+    rw (all a (omega arith) (omega arith)) (ap (λ l. a ∷ l) (filter_taken p (a + 1) n (λ k from below. all k (omega arith) (omega arith))))
+
+pub filter_passed : (p : ℕ → Bool) (a n : ℕ) → ((k : ℕ) → a ≤ k → k < a + n → p k ≡ false) → filter p (range_with_len a n) ≡ []
+filter_passed p a zero none = refl
+filter_passed p a (suc n) none =
+    rw (none a (omega arith) (omega arith)) (filter_passed p (a + 1) n (λ k from below. none k (omega arith) (omega arith)))
+
+pub in_segment : (segment k : ℕ) → segment * 8192 ≤ k → k < segment * 8192 + 8192 → segment_of k ≡ segment
+in_segment segment k from below = omega arith
+
+module _ (s : State) (worker segment : ℕ) where
+  pub held_whole : holds s worker segment ≡ true → held_among s worker (range_with_len (segment * 8192) 8192) ≡ range_with_len (segment * 8192) 8192
+  held_whole held =
+      filter_taken (λ place. holds s worker (segment_of place)) (segment * 8192) 8192
+      (λ k from below. ap (holds s worker) (in_segment segment k from below) ∙ held)
+
+  pub held_none : holds s worker segment ≡ false → held_among s worker (range_with_len (segment * 8192) 8192) ≡ []
+  held_none other =
+      filter_passed (λ place. holds s worker (segment_of place)) (segment * 8192) 8192
+      (λ k from below. ap (holds s worker) (in_segment segment k from below) ∙ other)
+
+  pub held_more : held_among s worker (range_with_len 0 ((segment + 1) * 8192))
+      ≡ held_among s worker (range_with_len 0 (segment * 8192)) ++ held_among s worker (range_with_len (segment * 8192) 8192)
+  held_more =
+      let e : (segment + 1) * 8192 ≡ segment * 8192 + 8192 = omega arith in
+      let z : 0 + segment * 8192 ≡ segment * 8192 = omega arith in
+      ap (λ n. held_among s worker (range_with_len 0 n)) e
+      ∙ ap (held_among s worker) (range_then 0 (segment * 8192) 8192 ∙ ap (λ a. range_with_len 0 (segment * 8192) ++ range_with_len a 8192) z)
+      ∙ filter-append (λ place. holds s worker (segment_of place)) (range_with_len 0 (segment * 8192)) (range_with_len (segment * 8192) 8192)

@@ -1,0 +1,11 @@
+pub mod Events
+pub mod Listings
+pub mod Rows
+pub mod Text
+pub mod Writes
+pub mod Looked
+pub mod Replays
+pub mod ReplayLaws
+pub mod RunFaults
+pub mod Statuses
+pub mod Checks

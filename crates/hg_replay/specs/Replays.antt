@@ -1,0 +1,84 @@
+-- What a replay writes, and how it ends.
+use Rattle.std.specs.Prelude.{◌≡◌, ℕ, List, [], ◌∷◌, ◌++◌, Option, Some, None, Result, Ok, Err}
+use Rattle.std.specs.Io.KnownBytes.{Appends, Keeps}
+use Rattle.hg_place.specs.declared.Handle.{Handle}
+use Rattle.hg_machine.specs.Policy.{Policy}
+use Rattle.hg_machine.specs.State.{State, opening}
+use Rattle.hg_machine.specs.Steps.{Run}
+use Rattle.hg_machine.specs.declared.Answer.{Answer}
+use Rattle.hg_machine.specs.declared.Answer.TheVariants as answer
+use Rattle.hg_trace.specs.declared.line.Command.{Command}
+use Rattle.hg_trace.specs.declared.line.Command.TheVariants as command
+use Rattle.hg_trace.specs.declared.line.Line.{Line}
+use Rattle.hg_replay.specs.declared.events.Meaning.{Meaning}
+use Rattle.hg_replay.specs.declared.fault.ReplayFault.{ReplayFault}
+use Rattle.hg_replay.specs.declared.fault.ReplayFault.TheVariants as fault
+use Rattle.hg_replay.specs.Events.{meaning_of, events_of, unknown_worker}
+use Rattle.hg_replay.specs.Text.{text_of}
+use Rattle.hg_replay.specs.Writes.{AppendsFront}
+
+-- where a replay stands: the state, and what the allocation of each label so far was answered, in
+-- the order of the labels; none where it wasn't served
+pub record Progress : Type 0 where
+  pub state : State
+  pub handles : List (Option Handle)
+
+-- the handle in the answers to an allocation
+abbrev pub handle_in : List Answer → Option Handle
+handle_in (answer.Block handle ∷ []) = Some handle
+handle_in _ = None
+
+-- a line that gives a label binds it to what its allocation was answered
+abbrev pub handles_after : List (Option Handle) → Command → List Answer → List (Option Handle)
+handles_after handles (command.Alloc actor arena bytes (Some label)) answers =
+    handles ++ handle_in answers ∷ []
+handles_after handles _ answers = handles
+
+-- what a line means here
+abbrev pub meaning_at : Progress → Line → Meaning
+meaning_at from line = meaning_of from.state.policy from.handles line.command
+
+-- the events of a line are answered as in a run, which leaves this, and this is their text
+pub record Answered (from : Progress) (line : Line) (end : Progress) (text : List ℕ) : Type 0 where
+  pub answers : List Answer
+  pub run :
+      Run from.state (events_of from.state line.worker (meaning_at from line)) answers end.state
+  pub handles : end.handles ≡ handles_after from.handles line.command answers
+  pub told : text ≡ text_of from.state.policy (meaning_at from line) answers
+
+-- the lines are answered one after another, which leaves this, and this is the text of all
+abbrev pub Replays : Progress → List Line → Progress → List ℕ → Type 0
+Replays from [] end text = (end ≡ from) × (text ≡ [])
+Replays from (line ∷ lines) end text =
+    (mid : Progress) × (here : List ℕ) × (rest : List ℕ) × Answered from line mid here
+    × Replays mid lines end rest × (text ≡ here ++ rest)
+
+-- a state, and no label is given
+abbrev pub starting : State → Progress
+starting s = record { state = s; handles = [] }
+
+-- from a state some of the lines, the first ones, are answered, and of their text only a front is
+-- written
+pub record StopsWithin (s : State) (lines : List Line) (old new : Option (List ℕ)) : Type 0 where
+  pub before : List Line
+  pub after : List Line
+  pub split : lines ≡ before ++ after
+  pub end : Progress
+  pub text : List ℕ
+  pub replayed : Replays (starting s) before end text
+  pub stopped : AppendsFront old new text
+
+-- how a replay under a policy from its opening state ends
+abbrev pub EndsReplay
+    : Policy → List Line → Option (List ℕ) → Option (List ℕ)
+    → Result (Unit {0}) ReplayFault → Type 0
+EndsReplay policy lines old new (Ok done) =
+    (unknown_worker policy.workers lines ≡ None)
+    × (end : Progress) × (text : List ℕ) × Replays (starting (opening policy)) lines end text
+    × Appends old new text
+EndsReplay policy lines old new (Err (fault.Worker line)) =
+    (unknown_worker policy.workers lines ≡ Some line) × Keeps old new
+EndsReplay policy lines old new (Err fault.Write) =
+    (unknown_worker policy.workers lines ≡ None) × StopsWithin (opening policy) lines old new
+EndsReplay policy lines old new (Err fault.Memory) =
+    (unknown_worker policy.workers lines ≡ None) × Keeps old new

@@ -1,0 +1,134 @@
+//! The events that lines mean.
+
+ghost use Rattle.std.specs.Prelude.{◌≡◌};
+ghost use Rattle.hg_policy.specs.Names.{arena_number};
+ghost use Rattle.hg_replay.specs.Events.{or_nobody, actor_of, handle_named, meaning_of};
+ghost use Rattle.hg_replay.specs.Events.{unknown_worker};
+ghost use Rattle.hg_trace.specs.Labels.{label_count};
+
+use hg_machine::Event;
+use hg_place::{Actor, Handle};
+use hg_policy::Policy;
+use hg_trace::{BlockName, Command, Line, Name};
+
+/// The number of a name that the policy lacks.
+const NOBODY: u8 = 255;
+
+/// Who has a name under a policy.
+fn actor_of(policy: &Policy, name: &Name) -> Actor
+    ensures { result ≡ actor_of policy.now name.now }
+{
+    Actor(policy.tenant(name.as_str()).unwrap_or(NOBODY))
+}
+
+fn arena_of(policy: &Policy, name: &Name) -> u8
+    ensures { result ≡ or_nobody (arena_number policy.now name.now) }
+{
+    policy.arena(name.as_str()).unwrap_or(NOBODY)
+}
+
+/// What a command means where a replay stands.
+#[derive(Clone, Copy, Debug, PartialEq, Eq)]
+pub(crate) enum Meaning {
+    One(Event),
+    /// A Look at each place of the segments that the worker holds, rising.
+    Listing(Actor),
+    /// No event, since the allocation of the block's label wasn't served.
+    Unbound,
+}
+
+/// The handle of a block, where these are the handles that the labels stand for.
+fn handle_named(handles: &[Option<Handle>], block: BlockName) -> Option<Handle>
+    ensures { result ≡ handle_named handles.now block }
+{
+    match block {
+        BlockName::Handle(handle) => Some(handle),
+        BlockName::Label(label) => match handles.get(label) {
+            Some(handle) => *handle,
+            None => None,
+        },
+    }
+}
+
+/// What a command means under a policy, where these are the handles that the labels stand for.
+pub(crate) fn meaning_of(policy: &Policy, handles: &[Option<Handle>], command: &Command) -> Meaning
+    ensures { result ≡ meaning_of policy.now handles.now command.now }
+{
+    match command {
+        Command::Alloc {
+            actor,
+            arena,
+            bytes,
+            label: _,
+        } => Meaning::One(Event::Alloc {
+            actor: actor_of(policy, actor),
+            arena: arena_of(policy, arena),
+            bytes: *bytes,
+        }),
+        Command::Free { actor, block } => match handle_named(handles, *block) {
+            Some(handle) => Meaning::One(Event::Free {
+                actor: actor_of(policy, actor),
+                handle,
+            }),
+            None => Meaning::Unbound,
+        },
+        Command::Deliver => Meaning::One(Event::Deliver),
+        Command::Take { segment } => Meaning::One(Event::Take { segment: *segment }),
+        Command::Collect => Meaning::One(Event::Collect),
+        Command::Read {
+            actor,
+            block,
+            index,
+        } => match handle_named(handles, *block) {
+            Some(handle) => Meaning::One(Event::Read {
+                actor: actor_of(policy, actor),
+                handle,
+                index: *index,
+            }),
+            None => Meaning::Unbound,
+        },
+        Command::Write {
+            actor,
+            block,
+            index,
+            value,
+        } => match handle_named(handles, *block) {
+            Some(handle) => Meaning::One(Event::Write {
+                actor: actor_of(policy, actor),
+                handle,
+                index: *index,
+                value: *value,
+            }),
+            None => Meaning::Unbound,
+        },
+        Command::Look { actor, place } => Meaning::One(Event::Look {
+            actor: actor_of(policy, actor),
+            place: *place,
+        }),
+        Command::List { actor } => Meaning::Listing(actor_of(policy, actor)),
+        Command::Abandon { segment } => Meaning::One(Event::Abandon { segment: *segment }),
+        Command::Refill { arena } => Meaning::One(Event::Refill {
+            arena: arena_of(policy, arena),
+        }),
+    }
+}
+
+/// The number of the first line whose worker isn't below the count.
+pub(crate) fn unknown_worker(workers: u8, lines: &[Line]) -> Option<u64>
+    ensures { result ≡ unknown_worker workers lines.now }
+{
+    lines
+        .iter()
+        .find(|line| line.worker >= workers)
+        .map(|line| line.number)
+}
+
+/// How many labels the lines give.
+pub(crate) fn label_count(lines: &[Line]) -> usize
+    ensures { result ≡ label_count lines.now }
+{
+    lines
+        .iter()
+        .filter(|line| line.command.gives_label())
+        .count()
+}

@@ -1,0 +1,189 @@
+//! A trace replayed on a core.
+
+ghost use Rattle.std.specs.Prelude.{◌≡◌, ◌+◌, ◌≤◌, ◌<◌, ℕ, List, [], ◌∷◌, OnOk, OnErr, All, true, false};
+ghost use Rattle.std.specs.Prelude.{vec_len, vec_capacity, if◌then◌else◌, IfOk};
+ghost use Rattle.std.specs.Io.KnownBytes.{Appends};
+ghost use Rattle.hg_machine.specs.State.{opening};
+ghost use Rattle.hg_machine.specs.Steps.{Step};
+ghost use Rattle.hg_replay.specs.Text.{answer_line};
+ghost use Rattle.hg_replay.specs.Writes.{Gives, IsGiven};
+ghost use Rattle.hg_replay.specs.Replays.{Progress, handle_in, handles_after, starting};
+ghost use Rattle.hg_replay.specs.Replays.{Answered, Replays, StopsWithin, EndsReplay};
+ghost use Rattle.hg_trace.specs.Labels.{gives_label, label_count};
+
+use crate::events::{Meaning, label_count, meaning_of, unknown_worker};
+use crate::fault::ReplayFault;
+use crate::listing::list;
+use crate::output::Output;
+use crate::put::WriteStopped;
+use hg_core::Core;
+use hg_machine::{Answer, Event};
+use hg_place::Handle;
+use hg_policy::Policy;
+use hg_trace::{Command, Line, Trace};
+use std::alloc::{AllocError, Global};
+use std::io::Write;
+
+/// Serves an event, and gives the line of its answer to be written.
+fn serve<W: Write>(
+    core: &mut Core,
+    worker: u8,
+    event: Event,
+    output: &mut Output,
+    out: &mut W,
+) -> Answer
+    requires { worker < core.old.state.policy.workers }
+    ensures step { Step core.old.state worker event result core.new.state }
+    ensures given { Gives (W.contents out.old) output.old (W.contents out.new) output.new
+        (answer_line core.old.state.policy result) }
+{
+    let answer = core.step(worker, event);
+    output.put_answer(out, core.policy(), answer);
+    answer
+}
+
+/// The handle of an answer to an allocation.
+fn handle_in(answer: Answer) -> Option<Handle>
+    ensures { result ≡ handle_in (answer ∷ []) }
+{
+    match answer {
+        Answer::Block(handle) => Some(handle),
+        _ => None,
+    }
+}
+
+/// Notes what a command was answered, where its line gives a label.
+fn note(handles: &mut Vec<Option<Handle>>, command: &Command, answer: Answer)
+    requires { gives_label command.now ≡ true → vec_len handles.old < vec_capacity handles.old }
+    ensures handles { handles.new.items
+        ≡ handles_after handles.old.items command.now (answer ∷ []) }
+    ensures count { vec_len handles.new
+        ≡ vec_len handles.old + (if gives_label command.now then 1 else 0) }
+    ensures room { vec_capacity handles.new ≡ vec_capacity handles.old }
+{
+    if command.gives_label() {
+        handles.push_reserved(handle_in(answer));
+    }
+}
+
+/// Answers a line.
+fn replay_line<W: Write>(
+    core: &mut Core,
+    handles: &mut Vec<Option<Handle>>,
+    line: &Line,
+    output: &mut Output,
+    out: &mut W,
+)
+    requires worker { line.now.worker < core.old.state.policy.workers }
+    requires room { gives_label line.now.command ≡ true
+        → vec_len handles.old < vec_capacity handles.old }
+    ensures answered { (text : List ℕ)
+        × Answered (record { state = core.old.state; handles = handles.old.items }) line.now
+        (record { state = core.new.state; handles = handles.new.items }) text
+        × Gives (W.contents out.old) output.old (W.contents out.new) output.new text }
+    ensures count { vec_len handles.new
+        ≡ vec_len handles.old + (if gives_label line.now.command then 1 else 0) }
+    ensures room { vec_capacity handles.new ≡ vec_capacity handles.old }
+{
+    match meaning_of(core.policy(), handles, &line.command) {
+        Meaning::One(event) => {
+            let answer = serve(core, line.worker, event, output, out);
+            note(handles, &line.command, answer);
+        }
+        Meaning::Listing(actor) => list(core, line.worker, actor, output, out),
+        Meaning::Unbound => output.put(out, b"unbound\n"),
+    }
+}
+
+/// Answers the lines, until a write stops. It asks for no memory.
+fn replay_lines<W: Write>(
+    core: &mut Core,
+    handles: &mut Vec<Option<Handle>>,
+    lines: &[Line],
+    output: &mut Output,
+    out: &mut W,
+) -> Result<(), WriteStopped>
+    requires workers { All (λ line. line.worker < core.old.state.policy.workers) lines.now }
+    requires none { handles.old.items ≡ [] }
+    requires count { vec_len handles.old ≡ 0 }
+    requires room { label_count lines.now ≤ vec_capacity handles.old }
+    requires empty { IsGiven (W.contents out.old) (W.contents out.old) output.old [] }
+    requires going { output.old.stopped ≡ false }
+    ensures ok { OnOk result ((text : List ℕ)
+        × Replays (starting core.old.state) lines.now
+        (record { state = core.new.state; handles = handles.new.items }) text
+        × IsGiven (W.contents out.old) (W.contents out.new) output.new text
+        × (output.new.stopped ≡ false)) }
+    ensures stopped { OnErr result (StopsWithin core.old.state lines.now
+        (W.contents out.old) (W.contents out.new)) }
+{
+    for line in lines {
+        replay_line(core, handles, line, output, out);
+        if output.has_stopped() {
+            return Err(WriteStopped);
+        }
+    }
+    Ok(())
+}
+
+/// Answers the lines on a core whose labels have room, and writes all that they are answered.
+fn replay_on<W: Write>(
+    core: &mut Core,
+    mut handles: Vec<Option<Handle>>,
+    lines: &[Line],
+    out: &mut W,
+) -> Result<(), WriteStopped>
+    requires workers { All (λ line. line.worker < core.old.state.policy.workers) lines.now }
+    requires none { handles.items ≡ [] }
+    requires count { vec_len handles ≡ 0 }
+    requires room { label_count lines.now ≤ vec_capacity handles }
+    ensures ok { OnOk result ((end : Progress) × (text : List ℕ)
+        × Replays (starting core.old.state) lines.now end text
+        × Appends (W.contents out.old) (W.contents out.new) text) }
+    ensures stopped { OnErr result (StopsWithin core.old.state lines.now
+        (W.contents out.old) (W.contents out.new)) }
+{
+    let mut output = Output::new();
+    match replay_lines(core, &mut handles, lines, &mut output, out) {
+        Ok(()) => output.finish(out),
+        Err(stopped) => Err(stopped),
+    }
+}
+
+/// A core for a policy, and room for the handles of the labels that the lines give.
+fn start(
+    alloc: Global,
+    policy: Policy,
+    lines: &[Line],
+) -> Result<(Core, Vec<Option<Handle>>), AllocError>
+    ensures opening { IfOk result (λ started. started.0.state ≡ opening policy) }
+    ensures none { IfOk result (λ started. started.1.items ≡ []) }
+    ensures count { IfOk result (λ started. vec_len started.1 ≡ 0) }
+    ensures room { IfOk result (λ started. label_count lines.now ≤ vec_capacity started.1) }
+{
+    let core = Core::open(alloc, policy)?;
+    let handles = Vec::with_capacity(alloc, label_count(lines))?;
+    Ok((core, handles))
+}
+
+/// Writes the answers to a trace, from a core of its own that the policy opens. All memory is asked
+/// for before the first event.
+pub fn replay<W: Write>(
+    alloc: Global,
+    policy: Policy,
+    trace: &Trace,
+    out: &mut W,
+) -> Result<(), ReplayFault>
+    ensures { EndsReplay policy trace.now (W.contents out.old) (W.contents out.new) result }
+{
+    if let Some(line) = unknown_worker(policy.workers(), trace.lines()) {
+        return Err(ReplayFault::Worker(line));
+    }
+    match start(alloc, policy, trace.lines()) {
+        Ok((mut core, handles)) => match replay_on(&mut core, handles, trace.lines(), out) {
+            Ok(()) => Ok(()),
+            Err(WriteStopped) => Err(ReplayFault::Write),
+        },
+        Err(_) => Err(ReplayFault::Memory),
+    }
+}

@@ -1,0 +1,5 @@
+mod fakes;
+mod outputs;
+mod refusals;
+mod running;
+mod texts;

@@ -1,5 +1,0 @@
-use Rattle.hg_trace.proofs.Listed.{list_lines_print_listings as law}
-use Rattle.hg_trace.proofs.laws.list_lines_print_listings.Goals as goal
-
-pub returns : goal.returns
-returns c = law
