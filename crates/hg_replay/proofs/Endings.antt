@@ -1,12 +1,16 @@
--- How a run ends where no trace was read.
-use Rattle.std.proofs.Common.{◌≡◌, ◌≢◌, ℕ, List, Option, Ok, Err, inl}
+-- How a run ends where no trace was read, or where its replay gave up.
+use Rattle.std.proofs.Common.{◌≡◌, ◌≢◌, ℕ, List, Option, Ok, Err, inl, inr}
 use Rattle.std.proofs.KnownBytes.{Keeps-refl}
 use Rattle.hg_machine.specs.Policy.{Policy}
 use Rattle.hg_policy.specs.Document.{document_of}
 use Rattle.hg_trace.specs.declared.fault.TraceFault.{TraceFault}
 use Rattle.hg_trace.specs.declared.fault.TraceFault.TheVariants as trace_fault
+use Rattle.hg_replay.specs.declared.fault.ReplayFault.{ReplayFault}
+use Rattle.hg_replay.specs.declared.fault.ReplayFault.TheVariants as replay_fault
+use Rattle.hg_trace.specs.declared.line.Line.{Line}
 use Rattle.hg_trace.specs.Trace.{trace_of}
-use Rattle.hg_replay.specs.RunFaults.{trace_status}
+use Rattle.hg_replay.specs.Replays.{EndsReplay}
+use Rattle.hg_replay.specs.RunFaults.{trace_status, replay_status}
 use Rattle.hg_replay.specs.Statuses.{EndsAs}
 
 module _ (policy_bytes trace_bytes : List ℕ) (old : Option (List ℕ)) (policy : Policy) (is : document_of policy_bytes ≡ Ok policy) where
@@ -18,3 +22,11 @@ module _ (policy_bytes trace_bytes : List ℕ) (old : Option (List ℕ)) (policy
   trace_ends (trace_fault.UnknownLabel line) fails = (policy, is, inl (trace_fault.UnknownLabel line, fails (λ e. cc)), Keeps-refl old)
   trace_ends (trace_fault.RepeatedLabel line) fails = (policy, is, inl (trace_fault.RepeatedLabel line, fails (λ e. cc)), Keeps-refl old)
   trace_ends trace_fault.Memory fails = inl (Keeps-refl old)
+
+-- how a run ends where its replay gave up
+module _ (policy_bytes trace_bytes : List ℕ) (old new : Option (List ℕ)) (policy : Policy) (lines : List Line)
+    (is : document_of policy_bytes ≡ Ok policy) (read : trace_of trace_bytes ≡ Ok lines) where
+  pub replay_ends : (fault : ReplayFault) → EndsReplay policy lines old new (Err fault) → EndsAs (replay_status fault) policy_bytes trace_bytes old new
+  replay_ends (replay_fault.Worker line) (unknown, keeps) = (policy, is, inr (lines, line, read, unknown), keeps)
+  replay_ends replay_fault.Write (known, stops) = inr (policy, lines, (is, read, known), stops)
+  replay_ends replay_fault.Memory (known, keeps) = inl keeps

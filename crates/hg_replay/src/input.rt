@@ -31,7 +31,7 @@ pub fn read_limited<R: Read>(alloc: Global, input: &mut R) -> Result<Vec<u8>, Re
         → IfSome (R.remaining input.old) (λ bytes. 16777216 < length bytes) }
 {
     let mut bytes = Vec::new(alloc);
-    let mut buf = [0u8; 4096];
+    let mut buf = [0u8; 32_768];
     for _ in 0..u64::MAX {
         match input.read(&mut buf) {
             Ok(0) => return Ok(bytes),

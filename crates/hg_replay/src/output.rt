@@ -8,7 +8,7 @@ ghost use Rattle.hg_replay.specs.Text.{answer_line, listing_end};
 ghost use Rattle.hg_replay.specs.Writes.{AppendsFront, IsGiven, Gives};
 
 use crate::put::{WriteStopped, put};
-use crate::text::{line_of, listing_end, row_back, row_front};
+use crate::text::{Text, listing_end, push_line, row_back, row_front};
 use arrayvec::ArrayVec;
 use hg_machine::{Answer, Row};
 use hg_policy::Policy;
@@ -99,7 +99,11 @@ impl Output {
     {
         match answer {
             Answer::Listed(row) => self.put_row(out, policy, row),
-            _ => self.put(out, line_of(answer).as_str().as_bytes()),
+            _ => {
+                let mut text = Text::new();
+                push_line(&mut text, answer);
+                self.put(out, text.as_str().as_bytes());
+            }
         }
     }
 

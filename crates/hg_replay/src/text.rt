@@ -47,17 +47,16 @@ fn push_handle(text: &mut Text, handle: Handle)
     push_short(text, handle.generation);
 }
 
-/// A word and a number behind it.
-fn tagged(word: &str, n: u64) -> Text
-    requires { length word.now ≤ 8 }
-    ensures bytes { result.bytes ≡ word.now ++ decimal n }
-    ensures len { array_string_len result ≤ 28 }
+/// Appends a word and a number behind it to an empty text.
+fn push_tagged(text: &mut Text, word: &str, n: u64)
+    requires empty { text.old.bytes ≡ [] }
+    requires short { length word.now ≤ 8 }
+    ensures bytes { text.new.bytes ≡ word.now ++ decimal n }
+    ensures len { array_string_len text.new ≤ 28 }
 {
-    let mut text = Text::new();
     let mut digits = itoa::Buffer::new();
     text.push_str(word);
     text.push_str(digits.format(n));
-    text
 }
 
 fn rule_word(rule: Rule) -> &'static str
@@ -74,33 +73,22 @@ fn rule_word(rule: Rule) -> &'static str
     }
 }
 
-fn block_text(handle: Handle) -> Text
-    ensures bytes { result.bytes ≡ codes "ok " ++ handle_text handle }
-    ensures len { array_string_len result ≤ 47 }
+fn push_block(text: &mut Text, handle: Handle)
+    requires { text.old.bytes ≡ [] }
+    ensures bytes { text.new.bytes ≡ codes "ok " ++ handle_text handle }
+    ensures len { array_string_len text.new ≤ 47 }
 {
-    let mut text = Text::new();
     text.push_str("ok ");
-    push_handle(&mut text, handle);
-    text
+    push_handle(text, handle);
 }
 
-fn denied_text(rule: Rule) -> Text
-    ensures bytes { result.bytes ≡ codes "denied " ++ rule_text rule }
-    ensures len { array_string_len result ≤ 15 }
+fn push_denied(text: &mut Text, rule: Rule)
+    requires { text.old.bytes ≡ [] }
+    ensures bytes { text.new.bytes ≡ codes "denied " ++ rule_text rule }
+    ensures len { array_string_len text.new ≤ 15 }
 {
-    let mut text = Text::new();
     text.push_str("denied ");
     text.push_str(rule_word(rule));
-    text
-}
-
-fn word_text(word: &str) -> Text
-    requires { length word.now ≤ 16 }
-    ensures { result.bytes ≡ word.now }
-{
-    let mut text = Text::new();
-    text.push_str(word);
-    text
 }
 
 fn push_blanks(text: &mut Text, n: usize)
@@ -152,30 +140,30 @@ pub(crate) fn listing_end(rows: u32) -> Text
     text
 }
 
-/// The line of an answer that is no row.
-pub(crate) fn line_of(answer: Answer) -> Text
-    requires { is_row answer ≡ false }
-    ensures { (policy : Policy) → result.bytes ≡ answer_line policy answer }
+/// Appends the line of an answer that is no row to an empty text.
+pub(crate) fn push_line(text: &mut Text, answer: Answer)
+    requires empty { text.old.bytes ≡ [] }
+    requires other { is_row answer ≡ false }
+    ensures { (policy : Policy) → text.new.bytes ≡ answer_line policy answer }
 {
-    let mut text = match answer {
-        Answer::Block(handle) => block_text(handle),
-        Answer::Done => word_text("ok"),
-        Answer::Parted => word_text("parted"),
-        Answer::Value(n) => tagged("word ", n),
-        Answer::Taken(n) => tagged("taken ", u64::from(n)),
-        Answer::Pages(n) => tagged("pages ", u64::from(n)),
-        Answer::Refilled(segment) => tagged("segment ", u64::from(segment)),
+    match answer {
+        Answer::Block(handle) => push_block(text, handle),
+        Answer::Done => text.push_str("ok"),
+        Answer::Parted => text.push_str("parted"),
+        Answer::Value(n) => push_tagged(text, "word ", n),
+        Answer::Taken(n) => push_tagged(text, "taken ", u64::from(n)),
+        Answer::Pages(n) => push_tagged(text, "pages ", u64::from(n)),
+        Answer::Refilled(segment) => push_tagged(text, "segment ", u64::from(segment)),
         Answer::Listed(_) => unreachable!(),
-        Answer::Denied(rule) => denied_text(rule),
-        Answer::TooLarge => word_text("large"),
-        Answer::NoRoom => word_text("noroom"),
-        Answer::Elsewhere => word_text("elsewhere"),
-        Answer::OutOfBlock => word_text("range"),
-        Answer::Busy => word_text("busy"),
-        Answer::NothingInHand => word_text("empty"),
-        Answer::NotHeld => word_text("notheld"),
-        Answer::NoSegment => word_text("nosegment"),
-    };
+        Answer::Denied(rule) => push_denied(text, rule),
+        Answer::TooLarge => text.push_str("large"),
+        Answer::NoRoom => text.push_str("noroom"),
+        Answer::Elsewhere => text.push_str("elsewhere"),
+        Answer::OutOfBlock => text.push_str("range"),
+        Answer::Busy => text.push_str("busy"),
+        Answer::NothingInHand => text.push_str("empty"),
+        Answer::NotHeld => text.push_str("notheld"),
+        Answer::NoSegment => text.push_str("nosegment"),
+    }
     text.push_str("\n");
-    text
 }

@@ -1,4 +1,5 @@
 pub mod Firsts
+pub mod LineReads
 pub mod LineCuts
 pub mod TextCuts
 pub mod WordCuts

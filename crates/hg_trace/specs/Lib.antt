@@ -7,4 +7,5 @@ pub mod Handles
 pub mod Labels
 pub mod Commands
 pub mod Trace
+pub mod Reads
 pub mod Joined

@@ -1,10 +1,12 @@
 //! What a trace says, line by line.
 
-ghost use Rattle.std.specs.Prelude.{◌≡◌};
+ghost use Rattle.std.specs.Prelude.{◌≡◌, ◌++◌, ◌∷◌, [], OnOk, IfErr};
 ghost use Rattle.hg_trace.specs.Labels.{gives_label};
 
+use crate::fault::TraceFault;
 use crate::name::Name;
 use hg_place::{Handle, Place};
+use std::alloc::Global;
 use std::marker::Model;
 
 /// A block, as an operand names it.
@@ -18,16 +20,16 @@ pub enum BlockName {
 
 /// A command of a worker, with its operands.
 #[derive(Drop)]
-pub enum Command {
+pub enum Command<'a> {
     Alloc {
-        actor: Name,
-        arena: Name,
+        actor: Name<'a>,
+        arena: Name<'a>,
         bytes: u64,
         /// The label that the line gives.
-        label: Option<Name>,
+        label: Option<Name<'a>>,
     },
     Free {
-        actor: Name,
+        actor: Name<'a>,
         block: BlockName,
     },
     Deliver,
@@ -36,32 +38,32 @@ pub enum Command {
     },
     Collect,
     Read {
-        actor: Name,
+        actor: Name<'a>,
         block: BlockName,
         index: u32,
     },
     Write {
-        actor: Name,
+        actor: Name<'a>,
         block: BlockName,
         index: u32,
         value: u64,
     },
     Look {
-        actor: Name,
+        actor: Name<'a>,
         place: Place,
     },
     List {
-        actor: Name,
+        actor: Name<'a>,
     },
     Abandon {
         segment: u8,
     },
     Refill {
-        arena: Name,
+        arena: Name<'a>,
     },
 }
 
-impl Command {
+impl Command<'_> {
     /// Whether its line gives a label.
     pub fn gives_label(&self) -> bool
         ensures { result ≡ gives_label self.now }
@@ -72,19 +74,19 @@ impl Command {
 
 /// A line that has a command. Lines are numbered from 1.
 #[derive(Drop)]
-pub struct Line {
+pub struct Line<'a> {
     pub number: u64,
     pub worker: u8,
-    pub command: Command,
+    pub command: Command<'a>,
 }
 
 /// The lines that have a command, in order.
 #[derive(Drop)]
-pub struct Trace {
-    lines: Vec<Line>,
+pub struct Trace<'a> {
+    lines: Vec<Line<'a>>,
 }
 
-impl Model for Trace {
+impl<'a> Model for Trace<'a> {
     ghost use Rattle.std.specs.Prelude.{List};
     ghost use Rattle.hg_trace.specs.declared.line.Line.{Line};
 
@@ -93,14 +95,25 @@ impl Model for Trace {
     ghost view = { λ trace. trace.lines.items };
 }
 
-impl Trace {
-    pub(crate) fn new(lines: Vec<Line>) -> Trace
-        ensures { result ≡ lines.items }
+impl<'a> Trace<'a> {
+    pub(crate) fn new(alloc: Global) -> Trace<'a>
+        ensures { result ≡ [] }
     {
-        Trace { lines }
+        Trace {
+            lines: Vec::new(alloc),
+        }
     }
 
-    pub fn lines(&self) -> &[Line]
+    /// The line goes behind the others.
+    pub(crate) fn push(&mut self, line: Line<'a>) -> Result<(), TraceFault>
+        ensures ok { OnOk result (self.new ≡ self.old ++ line.entry ∷ []) }
+        ensures err { IfErr result (λ fault. fault ≡ TraceFault.Memory) }
+    {
+        self.lines.push(line)?;
+        Ok(())
+    }
+
+    pub fn lines(&self) -> &[Line<'a>]
         ensures { result.now ≡ self.now }
     {
         &self.lines

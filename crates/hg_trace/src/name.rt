@@ -4,43 +4,40 @@ ghost use Rattle.std.specs.Prelude.{◌≡◌, IfSome, is_some};
 ghost use Rattle.std.specs.List.{list_all};
 ghost use Rattle.hg_policy.specs.NameForm.{is_lower, is_name, is_name_byte};
 
-use arrayvec::ArrayString;
 use std::marker::Model;
 
-/// A name of 1 to 16 bytes. It takes no memory of its own.
+/// A name of 1 to 16 bytes, where it stands in the bytes of a trace.
 #[derive(Drop)]
-pub struct Name {
-    text: ArrayString<16>,
+pub struct Name<'a> {
+    text: &'a str,
 }
 
-impl Model for Name {
+impl<'a> Model for Name<'a> {
     ghost use Rattle.std.specs.Prelude.{ℕ, List};
 
     ghost Value = { List ℕ };
 
-    ghost view = { λ name. name.text.bytes };
+    ghost view = { λ name. name.text.now };
 }
 
-impl Name {
+impl<'a> Name<'a> {
     /// The name that a word is.
-    pub(crate) fn of(word: &[u8]) -> Option<Name>
+    pub(crate) fn of(word: &'a [u8]) -> Option<Name<'a>>
         ensures some { IfSome result (λ name. name ≡ word.now) }
         ensures cases { is_some result ≡ is_name word.now }
     {
         if !is_name(word) {
             return None;
         }
-        let Ok(text) = str::from_utf8(word) else {
-            return None;
-        };
-        let text = ArrayString::from(text).ok()?;
+        // SAFETY: the bytes of a name are ASCII.
+        let text = unsafe { str::from_utf8_unchecked(word) };
         Some(Name { text })
     }
 
-    pub fn as_str(&self) -> &str
+    pub fn as_str(&self) -> &'a str
         ensures { result.now ≡ self.now }
     {
-        self.text.as_str()
+        self.text
     }
 }
 

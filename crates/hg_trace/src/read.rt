@@ -1,13 +1,15 @@
 //! Reading a trace.
 
-ghost use Rattle.std.specs.Prelude.{◌≡◌, ◌≢◌, ◌^◌, ◌∷◌, IfOk, IfErr, IfSome, MatchResult, Ok, Err, ok_or};
-ghost use Rattle.std.specs.Prelude.{bytes_eq, false};
+ghost use Rattle.std.specs.Prelude.{◌≡◌, ◌≢◌, ◌^◌, ◌++◌, ◌∷◌, [], IfOk, IfErr, OnOk};
+ghost use Rattle.std.specs.Prelude.{MatchResult, Ok, Err, ok_or, bytes_eq, true, false};
 ghost use Rattle.hg_trace.specs.Numbers.{number_below};
+ghost use Rattle.hg_trace.specs.Faults.{fault_in};
 ghost use Rattle.hg_trace.specs.Commands.{worker_at, command_at, words_at};
 ghost use Rattle.hg_trace.specs.Commands.{alloc_at, free_at, deliver_at, take_at, collect_at};
 ghost use Rattle.hg_trace.specs.Commands.{read_at, write_at, look_at, list_at, abandon_at, refill_at};
-ghost use Rattle.hg_trace.specs.Labels.{repeats};
-ghost use Rattle.hg_trace.specs.Trace.{line_at, trace_of};
+ghost use Rattle.hg_trace.specs.Labels.{repeats, with_label};
+ghost use Rattle.hg_trace.specs.Trace.{line_at, numbered, trace_of};
+ghost use Rattle.hg_trace.specs.Reads.{Reads};
 
 use crate::fault::{LineFault, TraceFault};
 use crate::labels::Labels;
@@ -33,7 +35,7 @@ fn worker_of(word: &[u8]) -> Result<u8, LineFault>
 }
 
 #[tactic(auto, unfolding(crate::specs::Commands::alloc_at))]
-fn alloc_of(words: &mut Words) -> Result<Command, LineFault>
+fn alloc_of<'a>(words: &mut Words<'a>) -> Result<Command<'a>, LineFault>
     ensures { result ≡ alloc_at words.old }
 {
     let actor = words.next_name()?;
@@ -49,7 +51,7 @@ fn alloc_of(words: &mut Words) -> Result<Command, LineFault>
 }
 
 #[tactic(auto, unfolding(crate::specs::Commands::free_at))]
-fn free_of(labels: &Labels, words: &mut Words) -> Result<Command, LineFault>
+fn free_of<'a>(labels: &Labels, words: &mut Words<'a>) -> Result<Command<'a>, LineFault>
     ensures { result ≡ free_at labels.now words.old }
 {
     let actor = words.next_name()?;
@@ -60,7 +62,7 @@ fn free_of(labels: &Labels, words: &mut Words) -> Result<Command, LineFault>
 }
 
 #[tactic(auto, unfolding(crate::specs::Commands::deliver_at))]
-fn deliver_of(words: &mut Words) -> Result<Command, LineFault>
+fn deliver_of<'a>(words: &mut Words<'a>) -> Result<Command<'a>, LineFault>
     ensures { result ≡ deliver_at words.old }
 {
     words.ends()?;
@@ -68,7 +70,7 @@ fn deliver_of(words: &mut Words) -> Result<Command, LineFault>
 }
 
 #[tactic(auto, unfolding(crate::specs::Commands::take_at))]
-fn take_of(words: &mut Words) -> Result<Command, LineFault>
+fn take_of<'a>(words: &mut Words<'a>) -> Result<Command<'a>, LineFault>
     ensures { result ≡ take_at words.old }
 {
     let segment = words.next_segment()?;
@@ -77,7 +79,7 @@ fn take_of(words: &mut Words) -> Result<Command, LineFault>
 }
 
 #[tactic(auto, unfolding(crate::specs::Commands::collect_at))]
-fn collect_of(words: &mut Words) -> Result<Command, LineFault>
+fn collect_of<'a>(words: &mut Words<'a>) -> Result<Command<'a>, LineFault>
     ensures { result ≡ collect_at words.old }
 {
     words.ends()?;
@@ -85,7 +87,7 @@ fn collect_of(words: &mut Words) -> Result<Command, LineFault>
 }
 
 #[tactic(auto, unfolding(crate::specs::Commands::read_at))]
-fn read_of(labels: &Labels, words: &mut Words) -> Result<Command, LineFault>
+fn read_of<'a>(labels: &Labels, words: &mut Words<'a>) -> Result<Command<'a>, LineFault>
     ensures { result ≡ read_at labels.now words.old }
 {
     let actor = words.next_name()?;
@@ -101,7 +103,7 @@ fn read_of(labels: &Labels, words: &mut Words) -> Result<Command, LineFault>
 }
 
 #[tactic(auto, unfolding(crate::specs::Commands::write_at))]
-fn write_of(labels: &Labels, words: &mut Words) -> Result<Command, LineFault>
+fn write_of<'a>(labels: &Labels, words: &mut Words<'a>) -> Result<Command<'a>, LineFault>
     ensures { result ≡ write_at labels.now words.old }
 {
     let actor = words.next_name()?;
@@ -119,7 +121,7 @@ fn write_of(labels: &Labels, words: &mut Words) -> Result<Command, LineFault>
 }
 
 #[tactic(auto, unfolding(crate::specs::Commands::look_at))]
-fn look_of(words: &mut Words) -> Result<Command, LineFault>
+fn look_of<'a>(words: &mut Words<'a>) -> Result<Command<'a>, LineFault>
     ensures { result ≡ look_at words.old }
 {
     let actor = words.next_name()?;
@@ -129,7 +131,7 @@ fn look_of(words: &mut Words) -> Result<Command, LineFault>
 }
 
 #[tactic(auto, unfolding(crate::specs::Commands::list_at))]
-fn list_of(words: &mut Words) -> Result<Command, LineFault>
+fn list_of<'a>(words: &mut Words<'a>) -> Result<Command<'a>, LineFault>
     ensures { result ≡ list_at words.old }
 {
     let actor = words.next_name()?;
@@ -138,7 +140,7 @@ fn list_of(words: &mut Words) -> Result<Command, LineFault>
 }
 
 #[tactic(auto, unfolding(crate::specs::Commands::abandon_at))]
-fn abandon_of(words: &mut Words) -> Result<Command, LineFault>
+fn abandon_of<'a>(words: &mut Words<'a>) -> Result<Command<'a>, LineFault>
     ensures { result ≡ abandon_at words.old }
 {
     let segment = words.next_segment()?;
@@ -147,7 +149,7 @@ fn abandon_of(words: &mut Words) -> Result<Command, LineFault>
 }
 
 #[tactic(auto, unfolding(crate::specs::Commands::refill_at))]
-fn refill_of(words: &mut Words) -> Result<Command, LineFault>
+fn refill_of<'a>(words: &mut Words<'a>) -> Result<Command<'a>, LineFault>
     ensures { result ≡ refill_at words.old }
 {
     let arena = words.next_name()?;
@@ -162,7 +164,7 @@ fn is(word: &[u8], name: &str) -> bool
 }
 
 #[tactic(auto, unfolding(crate::specs::Commands::command_at))]
-fn command_of(labels: &Labels, words: &mut Words) -> Result<Command, LineFault>
+fn command_of<'a>(labels: &Labels, words: &mut Words<'a>) -> Result<Command<'a>, LineFault>
     ensures { result ≡ command_at labels.now words.old }
 {
     match words.next_word() {
@@ -181,55 +183,90 @@ fn command_of(labels: &Labels, words: &mut Words) -> Result<Command, LineFault>
     }
 }
 
-#[tactic(auto, unfolding(crate::specs::Commands::words_at))]
-fn words_mean(labels: &Labels, words: &mut Words) -> Result<Option<(u8, Command)>, LineFault>
-    ensures means { result ≡ words_at labels.now words.old }
-    ensures fresh { IfOk result (λ here. IfSome here (λ it. repeats labels.now it.1 ≡ false)) }
+/// A line that has a command goes behind the trace, and a label that it gives behind the labels.
+fn keep<'a>(
+    alloc: Global,
+    trace: &mut Trace<'a>,
+    labels: &mut Labels,
+    line: Line<'a>,
+) -> Result<(), TraceFault>
+    ensures fresh { OnOk result (repeats labels.old line.entry.command ≡ false) }
+    ensures trace { OnOk result (trace.new ≡ trace.old ++ line.entry ∷ []) }
+    ensures labels { OnOk result (labels.new ≡ with_label labels.old line.entry.command) }
+    ensures err { IfErr result (λ fault. fault ≢ TraceFault.Memory
+        → (repeats labels.old line.entry.command ≡ true)
+        × (fault ≡ fault_in line.entry.number LineFault.RepeatedLabel)) }
 {
-    let Some(word) = words.next_word() else {
-        return Ok(None);
-    };
-    let worker = worker_of(word)?;
-    let command = command_of(labels, words)?;
-    if labels.repeats(&command) {
-        return Err(LineFault::RepeatedLabel);
+    if labels.repeats(&line.command) {
+        return Err(LineFault::RepeatedLabel.at(line.number));
     }
-    Ok(Some((worker, command)))
+    labels.add(alloc, &line.command)?;
+    trace.push(line)
 }
 
-#[tactic(auto, unfolding(crate::specs::Trace::line_at))]
-fn line_means(labels: &Labels, line: &[u8]) -> Result<Option<(u8, Command)>, LineFault>
-    ensures means { result ≡ line_at labels.now line.now }
-    ensures fresh { IfOk result (λ here. IfSome here (λ it. repeats labels.now it.1 ≡ false)) }
+/// Reads the words of the line with this number.
+fn read_words<'a>(
+    alloc: Global,
+    trace: &mut Trace<'a>,
+    labels: &mut Labels,
+    number: u64,
+    words: &mut Words<'a>,
+) -> Result<(), TraceFault>
+    ensures { Reads (numbered number (words_at labels.old words.old))
+        trace.old trace.new labels.old labels.new result }
 {
-    let text = clean_text(line).ok_or(LineFault::Byte)?;
-    words_mean(labels, &mut Words::new(text))
+    let Some(word) = words.next_word() else {
+        return Ok(());
+    };
+    let worker = match worker_of(word) {
+        Ok(worker) => worker,
+        Err(fault) => return Err(fault.at(number)),
+    };
+    match command_of(labels, words) {
+        Ok(command) => keep(
+            alloc,
+            trace,
+            labels,
+            Line {
+                number,
+                worker,
+                command,
+            },
+        ),
+        Err(fault) => Err(fault.at(number)),
+    }
+}
+
+/// Reads the line with this number.
+fn read_line<'a>(
+    alloc: Global,
+    trace: &mut Trace<'a>,
+    labels: &mut Labels,
+    number: u64,
+    line: &'a [u8],
+) -> Result<(), TraceFault>
+    ensures { Reads (numbered number (line_at labels.old line.now))
+        trace.old trace.new labels.old labels.new result }
+{
+    match clean_text(line) {
+        Some(text) => read_words(alloc, trace, labels, number, &mut Words::new(text)),
+        None => Err(LineFault::Byte.at(number)),
+    }
 }
 
 /// The trace that the bytes mean, or the fault of their first faulty line.
-pub fn read_trace(alloc: Global, bytes: &[u8]) -> Result<Trace, TraceFault>
+pub fn read_trace<'a>(alloc: Global, bytes: &'a [u8]) -> Result<Trace<'a>, TraceFault>
     ensures ok { IfOk result (λ trace. trace_of bytes.now ≡ Ok trace) }
     ensures err { IfErr result
         (λ fault. fault ≢ TraceFault.Memory → trace_of bytes.now ≡ Err fault) }
 {
-    let mut read = Vec::new(alloc);
+    let mut trace = Trace::new(alloc);
     let mut labels = Labels::new(alloc);
     let mut lines = Lines::new(bytes);
     let mut number = 0;
     while let Some(line) = lines.next_line() {
         number += 1;
-        match line_means(&labels, line) {
-            Ok(None) => {}
-            Ok(Some((worker, command))) => {
-                labels.add(alloc, &command)?;
-                read.push(Line {
-                    number,
-                    worker,
-                    command,
-                })?;
-            }
-            Err(fault) => return Err(fault.at(number)),
-        }
+        read_line(alloc, &mut trace, &mut labels, number, line)?;
     }
-    Ok(Trace::new(read))
+    Ok(trace)
 }

@@ -58,7 +58,7 @@ impl<'a> Words<'a> {
     }
 
     /// The next word, as a name.
-    pub(crate) fn next_name(&mut self) -> Result<Name, LineFault>
+    pub(crate) fn next_name(&mut self) -> Result<Name<'a>, LineFault>
         ensures { MatchResult result
             (λ name. name_at self.old ≡ Ok (name, self.new))
             (λ fault. name_at self.old ≡ Err fault) }
@@ -131,7 +131,7 @@ impl<'a> Words<'a> {
 
     /// The words that are left, as nothing or the label that a line gives.
     #[tactic(auto, unfolding(crate::specs::Operands::label_at))]
-    pub(crate) fn last_label(&mut self) -> Result<Option<Name>, LineFault>
+    pub(crate) fn last_label(&mut self) -> Result<Option<Name<'a>>, LineFault>
         ensures { result ≡ label_at self.old }
     {
         match self.next_word() {

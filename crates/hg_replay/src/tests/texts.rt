@@ -2,7 +2,7 @@
 
 ghost use Rattle.std.specs.Prelude.{◌<◌, ◌≤◌};
 
-use crate::text::line_of;
+use crate::text::{Text, push_line};
 use hg_machine::{Answer, Rule};
 use hg_place::{Handle, Place};
 use std::process::Abort;
@@ -10,7 +10,11 @@ use std::process::Abort;
 fn shows(rt: &impl Abort, answer: Answer, want: &str) {
     match answer {
         Answer::Listed(_) => {}
-        _ => assert_eq!(rt; line_of(answer).as_str(), want),
+        _ => {
+            let mut text = Text::new();
+            push_line(&mut text, answer);
+            assert_eq!(rt; text.as_str(), want);
+        }
     }
 }
 

@@ -8,7 +8,7 @@ use Rattle.hg_trace.proofs.read.read_trace.Given as goal
 abbrev pub invariant-loop-line : goal.invariant-loop-line
 invariant-loop-line l = record {
   numbered : l.number + length l.lines ≡ length (lines_of l.bytes);
-  read : (lines_from (l.number + 1) l.labels l.lines >>= λ rest. Ok (l.read.items ++ rest)) ≡ trace_of l.bytes;
+  read : (lines_from (l.number + 1) l.labels l.lines >>= λ rest. Ok (l.trace ++ rest)) ≡ trace_of l.bytes;
 }
 
 abbrev pub decreases-loop-line : goal.decreases-loop-line
