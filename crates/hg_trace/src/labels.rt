@@ -10,23 +10,23 @@ use indexmap::IndexSet;
 use std::alloc::Global;
 use std::marker::Model;
 
-/// The labels that lines gave, in order. A label is found by its hash: a trace may give a label in
-/// each of its lines.
+/// The labels that lines gave, in order, where they stand in the bytes of a trace. A label is found
+/// by its hash: a trace may give a label in each of its lines.
 #[derive(Drop)]
-pub(crate) struct Labels {
-    names: IndexSet<String>,
+pub(crate) struct Labels<'a> {
+    names: IndexSet<&'a str>,
 }
 
-impl Model for Labels {
-    ghost use Rattle.std.specs.Prelude.{ℕ, List, map, string_bytes};
+impl<'a> Model for Labels<'a> {
+    ghost use Rattle.std.specs.Prelude.{ℕ, List, map};
 
     ghost Value = { List (List ℕ) };
 
-    ghost view = { λ labels. map (λ name. string_bytes name) labels.names.keys };
+    ghost view = { λ labels. map (λ name. name.now) labels.names.keys };
 }
 
-impl Labels {
-    pub(crate) fn new(alloc: Global) -> Labels
+impl<'a> Labels<'a> {
+    pub(crate) fn new(alloc: Global) -> Labels<'a>
         ensures { result ≡ [] }
     {
         Labels {
@@ -60,18 +60,17 @@ impl Labels {
         }
     }
 
-    fn push(&mut self, alloc: Global, name: &str) -> Result<(), TraceFault>
+    fn push(&mut self, name: &'a str) -> Result<(), TraceFault>
         requires { is_among name.now self.old ≡ false }
         ensures ok { OnOk result (self.new ≡ self.old ++ name.now ∷ []) }
         ensures err { IfErr result (λ fault. fault ≡ TraceFault.Memory) }
     {
-        let name = String::from_str(alloc, name)?;
         self.names.insert(name)?;
         Ok(())
     }
 
     /// The label that a command gives, if it gives one, goes behind the others.
-    pub(crate) fn add(&mut self, alloc: Global, command: &Command) -> Result<(), TraceFault>
+    pub(crate) fn add(&mut self, command: &Command<'a>) -> Result<(), TraceFault>
         requires { repeats self.old command.now ≡ false }
         ensures ok { OnOk result (self.new ≡ with_label self.old command.now) }
         ensures err { IfErr result (λ fault. fault ≡ TraceFault.Memory) }
@@ -80,7 +79,7 @@ impl Labels {
             Command::Alloc {
                 label: Some(label),
                 ..
-            } => self.push(alloc, label.as_str()),
+            } => self.push(label.as_str()),
             _ => Ok(()),
         }
     }

@@ -185,9 +185,8 @@ fn command_of<'a>(labels: &Labels, words: &mut Words<'a>) -> Result<Command<'a>,
 
 /// A line that has a command goes behind the trace, and a label that it gives behind the labels.
 fn keep<'a>(
-    alloc: Global,
     trace: &mut Trace<'a>,
-    labels: &mut Labels,
+    labels: &mut Labels<'a>,
     line: Line<'a>,
 ) -> Result<(), TraceFault>
     ensures fresh { OnOk result (repeats labels.old line.entry.command ≡ false) }
@@ -200,15 +199,14 @@ fn keep<'a>(
     if labels.repeats(&line.command) {
         return Err(LineFault::RepeatedLabel.at(line.number));
     }
-    labels.add(alloc, &line.command)?;
+    labels.add(&line.command)?;
     trace.push(line)
 }
 
 /// Reads the words of the line with this number.
 fn read_words<'a>(
-    alloc: Global,
     trace: &mut Trace<'a>,
-    labels: &mut Labels,
+    labels: &mut Labels<'a>,
     number: u64,
     words: &mut Words<'a>,
 ) -> Result<(), TraceFault>
@@ -224,7 +222,6 @@ fn read_words<'a>(
     };
     match command_of(labels, words) {
         Ok(command) => keep(
-            alloc,
             trace,
             labels,
             Line {
@@ -239,9 +236,8 @@ fn read_words<'a>(
 
 /// Reads the line with this number.
 fn read_line<'a>(
-    alloc: Global,
     trace: &mut Trace<'a>,
-    labels: &mut Labels,
+    labels: &mut Labels<'a>,
     number: u64,
     line: &'a [u8],
 ) -> Result<(), TraceFault>
@@ -249,7 +245,7 @@ fn read_line<'a>(
         trace.old trace.new labels.old labels.new result }
 {
     match clean_text(line) {
-        Some(text) => read_words(alloc, trace, labels, number, &mut Words::new(text)),
+        Some(text) => read_words(trace, labels, number, &mut Words::new(text)),
         None => Err(LineFault::Byte.at(number)),
     }
 }
@@ -266,7 +262,7 @@ pub fn read_trace<'a>(alloc: Global, bytes: &'a [u8]) -> Result<Trace<'a>, Trace
     let mut number = 0;
     while let Some(line) = lines.next_line() {
         number += 1;
-        read_line(alloc, &mut trace, &mut labels, number, line)?;
+        read_line(&mut trace, &mut labels, number, line)?;
     }
     Ok(trace)
 }

@@ -5,6 +5,13 @@ use crate::{TraceFault, read_trace};
 
 const TRACE: &str = "w0 alloc alice main 24\nw0 refill main\nw0 alloc alice main 24\n";
 
+/// More labels than the first room for them takes.
+const LABELS: &str = "\
+w0 alloc a b 8 as p\nw0 alloc a b 8 as q\nw0 alloc a b 8 as r\n\
+w0 alloc a b 8 as s\nw0 alloc a b 8 as t\nw0 alloc a b 8 as u\n\
+w0 alloc a b 8 as v\nw0 alloc a b 8 as w\nw0 alloc a b 8 as x\n\
+w0 free a p\nw0 free a x\n";
+
 #[test]
 fn read_trace_refused_in_turn(rt: HostRuntime) {
     match read_trace(rt.alloc(), TRACE.as_bytes()) {
@@ -16,9 +23,8 @@ fn read_trace_refused_in_turn(rt: HostRuntime) {
 
 #[test]
 fn labels_refused_in_turn(rt: HostRuntime) {
-    let trace = b"w0 alloc a b 8 as x\nw0 alloc a b 8 as y\nw0 free a x\nw0 free a y\n";
-    match read_trace(rt.alloc(), trace) {
-        Ok(trace) => assert_eq!(&rt; trace.lines().len(), 4),
+    match read_trace(rt.alloc(), LABELS.as_bytes()) {
+        Ok(trace) => assert_eq!(&rt; trace.lines().len(), 11),
         Err(TraceFault::Memory) => {}
         Err(_) => assert!(&rt; false, "another fault"),
     }
