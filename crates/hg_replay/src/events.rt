@@ -1,6 +1,6 @@
 //! The events that lines mean.
 
-ghost use Rattle.std.specs.Prelude.{◌≡◌};
+ghost use Rattle.std.specs.Prelude.{◌≡◌, Some, None, MatchResult};
 ghost use Rattle.hg_policy.specs.Names.{arena_number};
 ghost use Rattle.hg_replay.specs.Events.{or_nobody, actor_of, handle_named, meaning_of};
 ghost use Rattle.hg_replay.specs.Events.{unknown_worker};
@@ -113,22 +113,21 @@ pub(crate) fn meaning_of(policy: &Policy, handles: &[Option<Handle>], command: &
     }
 }
 
-/// The number of the first line whose worker isn't below the count.
-pub(crate) fn unknown_worker(workers: u8, lines: &[Line]) -> Option<u64>
-    ensures { result ≡ unknown_worker workers lines.now }
+/// How many labels the lines give, or the number of the first line whose worker isn't below the
+/// count. One pass tells both, since a long trace fits in no cache.
+pub(crate) fn prescan(workers: u8, lines: &[Line]) -> Result<usize, u64>
+    ensures { MatchResult result
+        (λ labels. (unknown_worker workers lines.now ≡ None) × (labels ≡ label_count lines.now))
+        (λ number. unknown_worker workers lines.now ≡ Some number) }
 {
-    lines
-        .iter()
-        .find(|line| line.worker >= workers)
-        .map(|line| line.number)
-}
-
-/// How many labels the lines give.
-pub(crate) fn label_count(lines: &[Line]) -> usize
-    ensures { result ≡ label_count lines.now }
-{
-    lines
-        .iter()
-        .filter(|line| line.command.gives_label())
-        .count()
+    let mut labels = 0;
+    for line in lines {
+        if line.worker >= workers {
+            return Err(line.number);
+        }
+        if line.command.gives_label() {
+            labels += 1;
+        }
+    }
+    Ok(labels)
 }

@@ -11,7 +11,7 @@ ghost use Rattle.hg_replay.specs.Replays.{Progress, handle_in, handles_after, st
 ghost use Rattle.hg_replay.specs.Replays.{Answered, Replays, StopsWithin, EndsReplay};
 ghost use Rattle.hg_trace.specs.Labels.{gives_label, label_count};
 
-use crate::events::{Meaning, label_count, meaning_of, unknown_worker};
+use crate::events::{Meaning, meaning_of, prescan};
 use crate::fault::ReplayFault;
 use crate::listing::list;
 use crate::output::Output;
@@ -150,19 +150,19 @@ fn replay_on<W: Write>(
     }
 }
 
-/// A core for a policy, and room for the handles of the labels that the lines give.
+/// A core for a policy, and room for the handles of so many labels.
 fn start(
     alloc: Global,
     policy: Policy,
-    lines: &[Line],
+    labels: usize,
 ) -> Result<(Core, Vec<Option<Handle>>), AllocError>
     ensures opening { IfOk result (λ started. started.0.state ≡ opening policy) }
     ensures none { IfOk result (λ started. started.1.items ≡ []) }
     ensures count { IfOk result (λ started. vec_len started.1 ≡ 0) }
-    ensures room { IfOk result (λ started. label_count lines.now ≤ vec_capacity started.1) }
+    ensures room { IfOk result (λ started. labels ≤ vec_capacity started.1) }
 {
     let core = Core::open(alloc, policy)?;
-    let handles = Vec::with_capacity(alloc, label_count(lines))?;
+    let handles = Vec::with_capacity(alloc, labels)?;
     Ok((core, handles))
 }
 
@@ -176,10 +176,11 @@ pub fn replay<W: Write>(
 ) -> Result<(), ReplayFault>
     ensures { EndsReplay policy trace.now (W.contents out.old) (W.contents out.new) result }
 {
-    if let Some(line) = unknown_worker(policy.workers(), trace.lines()) {
-        return Err(ReplayFault::Worker(line));
-    }
-    match start(alloc, policy, trace.lines()) {
+    let labels = match prescan(policy.workers(), trace.lines()) {
+        Ok(labels) => labels,
+        Err(line) => return Err(ReplayFault::Worker(line)),
+    };
+    match start(alloc, policy, labels) {
         Ok((mut core, handles)) => match replay_on(&mut core, handles, trace.lines(), out) {
             Ok(()) => Ok(()),
             Err(WriteStopped) => Err(ReplayFault::Write),

@@ -8,10 +8,10 @@ replay_on-requires-clause-workers g c =
     let workers = c.args.policy.workers in
     let lines = c.args.trace.now in
     let none : None ≡ unknown_worker workers lines =
-    c.in_default.ensures ∙ ap (λ n. unknown_worker n c.lines.result.now) c.workers.ensures.workers
+    sym c.in-Ok.ensures.0 ∙ ap (λ n. unknown_worker n c.lines.result.now) c.workers.ensures.workers
     ∙ ap (unknown_worker workers) c.lines.ensures in
     λ k d within.
     let below : (get_or lines k d).worker < workers =
-    workers_below workers lines none k d (subst (λ ls. k < length ls) c.lines-in-Ok.ensures within) in
-    subst (λ s. (get_or c.lines-in-Ok.result.now k d).worker < s.policy.workers) (sym c.in-Ok.ensures.opening)
-    (subst (λ ls. (get_or ls k d).worker < workers) (sym c.lines-in-Ok.ensures) below)
+    workers_below workers lines none k d (subst (λ ls. k < length ls) c.lines-in-Ok-start.ensures within) in
+    subst (λ s. (get_or c.lines-in-Ok-start.result.now k d).worker < s.policy.workers) (sym c.in-Ok-start.ensures.opening)
+    (subst (λ ls. (get_or ls k d).worker < workers) (sym c.lines-in-Ok-start.ensures) below)
