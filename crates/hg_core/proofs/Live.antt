@@ -5,7 +5,7 @@ use Rattle.std.proofs.lemmas.Grind.{same_number_lists, get_or-set_at}
 use Rattle.std.proofs.lemmas.List.{length-set, get_or-set_other, set-get_or}
 use Rattle.std.proofs.lemmas.List.Edits.{length-between, get_or-between}
 use Rattle.hg_place.specs.Places.{first_word}
-use Rattle.hg_machine.specs.Life.{Record, words_of, is_live, home}
+use Rattle.hg_machine.specs.Life.{Record, contents_of, is_live, home}
 use Rattle.hg_machine.specs.State.{State, record_at}
 use Rattle.hg_machine.specs.Changes.{part, write, with_life}
 use Rattle.hg_core.specs.declared.slot.Slot.{Slot}
@@ -20,7 +20,7 @@ use Rattle.hg_core.proofs.Stores.{slot_within, slot_of, record_is}
 use Rattle.hg_core.proofs.Ranged.{Touches, kept_record}
 use Rattle.hg_core.proofs.Changes.{state_changed}
 
-used_words : (st : Standing) (owner : ℕ) (ws : List ℕ) → is_live (life_from st owner ws) ≡ true → words_of (life_from st owner ws) ≡ ws
+used_words : (st : Standing) (owner : ℕ) (ws : List ℕ) → is_live (life_from st owner ws) ≡ true → contents_of (life_from st owner ws) ≡ ws
 used_words standing.Home owner ws e = absurd (cc)
 used_words standing.Live owner ws e = refl
 used_words standing.Parted owner ws e = absurd (cc)
@@ -46,8 +46,8 @@ pub record IsAt (a : Inside) (s : State) (place : ℕ) (slot : Slot) : Type 0 wh
   pub small : place < 524288
   pub fits : first_word place slot.size + slot.size ≤ length a.words.items
   pub few : length a.words.items ≤ 524288
-  pub len : length (words_of (record_at s place).life) ≡ slot.size
-  pub words : words_of (record_at s place).life ≡ block_in a.words.items place slot.size
+  pub len : length (contents_of (record_at s place).life) ≡ slot.size
+  pub words : contents_of (record_at s place).life ≡ block_in a.words.items place slot.size
   pub alive : is_live (life_from slot.standing slot.owner (block_in a.words.items place slot.size)) ≡ true
 
 -- the slot of a place
@@ -64,7 +64,7 @@ live_at a s place e stored live =
     let block : IsBlock a.classes.items place slot = (stored.places place).block (live_standing slot.standing slot.owner ws alive) in
     let within = block_within place slot.size (length a.policy.segments) block.sized (omega (arith, stored.slots)) block.within in
     let fits : first_word place slot.size + slot.size ≤ length a.words.items = omega (arith, stored.words) in
-    let words : words_of (record_at s place).life ≡ ws = ap (λ r. words_of r.life) is ∙ used_words slot.standing slot.owner ws alive in
+    let words : contents_of (record_at s place).life ≡ ws = ap (λ r. contents_of r.life) is ∙ used_words slot.standing slot.owner ws alive in
     record {
       block = block;
       small = omega (arith, stored.slots, stored.policy.few_segments);
@@ -79,10 +79,10 @@ live_at a s place e stored live =
 pub record WordIs (a : Inside) (s : State) (place start index : ℕ) : Type 0 where
   pub within : start + index < length a.words.items
   pub few : length a.words.items ≤ 524288
-  pub word : get_or a.words.items (start + index) 0 ≡ get_or (words_of (record_at s place).life) index 0
+  pub word : get_or a.words.items (start + index) 0 ≡ get_or (contents_of (record_at s place).life) index 0
 
 pub word_is : (a : Inside) (s : State) (place size start index : ℕ) → state_of a ≡ s → IsStored a → IsWordAt s place index
-    → size ≡ length (words_of (record_at s place).life) → start ≡ first_word place size → WordIs a s place start index
+    → size ≡ length (contents_of (record_at s place).life) → start ≡ first_word place size → WordIs a s place start index
 word_is a s place size start index e stored word f g =
     let at = live_at a s place e stored word.block in
     let slot = slot_in a place in
@@ -140,7 +140,7 @@ state_parted a s place slot e stored live read =
 
 -- after a word was written
 pub state_written : (a : Inside) (s : State) (place size start index value : ℕ) → state_of a ≡ s → IsStored a → IsWordAt s place index
-    → size ≡ length (words_of (record_at s place).life) → start ≡ first_word place size
+    → size ≡ length (contents_of (record_at s place).life) → start ≡ first_word place size
     → record (state_of a) { records = records_from a.slots.items (set a.words.items (start + index) value) } ≡ with_life s place (write (record_at s place).life index value)
 state_written a s place size start index value e stored word f g =
     let slot = slot_in a place in

@@ -2,7 +2,7 @@
 use Rattle.std.specs.Prelude.{◌≡◌, ℕ, ◌<◌, true, false, length, Some}
 use Rattle.hg_size.specs.Sizes.{places_of}
 use Rattle.hg_place.specs.Places.{page_of, index_of}
-use Rattle.hg_machine.specs.Life.{is_home, is_live, words_of}
+use Rattle.hg_machine.specs.Life.{is_home, is_live, contents_of}
 use Rattle.hg_machine.specs.State.{State, record_at, class_at}
 use Rattle.hg_machine.specs.Room.{has_room, is_room, is_worn}
 
@@ -28,4 +28,4 @@ pub record IsLiveAt (s : State) (place : ℕ) : Type 0 where
 -- a word of a live block
 pub record IsWordAt (s : State) (place index : ℕ) : Type 0 where
   pub block : IsLiveAt s place
-  pub below : index < length (words_of (record_at s place).life)
+  pub below : index < length (contents_of (record_at s place).life)

@@ -16,7 +16,7 @@ use Rattle.hg_machine.specs.declared.Event.TheVariants as event
 use Rattle.hg_machine.specs.declared.Answer.{Answer}
 use Rattle.hg_machine.specs.declared.Answer.TheVariants as answer
 use Rattle.hg_machine.specs.Life.{Life, home, live, Record, never_used, is_home, is_live}
-use Rattle.hg_machine.specs.Life.{is_parted, words_of}
+use Rattle.hg_machine.specs.Life.{is_parted, contents_of}
 use Rattle.hg_machine.specs.State.{State, record_at, opening}
 use Rattle.hg_machine.specs.Holders.{holds}
 use Rattle.hg_machine.specs.Changes.{given_out, part, write, with_life}
@@ -42,18 +42,18 @@ use Rattle.hg_laws.proofs.Refusals.{refused_is, was_served}
 
 -- the word at the index where the place has this life, and else zero
 abbrev word_in : ℕ → ℕ → Record → ℕ
-word_in g index r = if is_live r.life && r.generation == g then get_or (words_of r.life) index 0 else 0
+word_in g index r = if is_live r.life && r.generation == g then get_or (contents_of r.life) index 0 else 0
 
 dead_word : (g index : ℕ) (r : Record) → is_live r.life ≡ false → word_in g index r ≡ 0
-dead_word g index r e = ap (λ b. if b && r.generation == g then get_or (words_of r.life) index 0 else 0) e
+dead_word g index r e = ap (λ b. if b && r.generation == g then get_or (contents_of r.life) index 0 else 0) e
 
 other_word : (g index : ℕ) (r : Record) → r.generation ≢ g → word_in g index r ≡ 0
-other_word g index r ne = ap (λ b. if b then get_or (words_of r.life) index 0 else 0) (and_right (is_live r.life) _ (ne_eqb _ _ ne))
+other_word g index r ne = ap (λ b. if b then get_or (contents_of r.life) index 0 else 0) (and_right (is_live r.life) _ (ne_eqb _ _ ne))
 
-live_word : (g index : ℕ) (r : Record) → is_live r.life ≡ true → r.generation ≡ g → word_in g index r ≡ get_or (words_of r.life) index 0
+live_word : (g index : ℕ) (r : Record) → is_live r.life ≡ true → r.generation ≡ g → word_in g index r ≡ get_or (contents_of r.life) index 0
 live_word g index r alive same =
-    ap (λ b. if b && r.generation == g then get_or (words_of r.life) index 0 else 0) alive
-    ∙ ap (λ b. if b then get_or (words_of r.life) index 0 else 0) (eq-eqb _ _ same)
+    ap (λ b. if b && r.generation == g then get_or (contents_of r.life) index 0 else 0) alive
+    ∙ ap (λ b. if b then get_or (contents_of r.life) index 0 else 0) (eq-eqb _ _ same)
 
 zero_if : (b : Bool) (n : ℕ) → n ≡ 0 → (if b then n else 0) ≡ 0
 zero_if true n e = e
@@ -125,7 +125,7 @@ settled_word false g index r dead = refl
 -- a served Write
 write_goes : (s : State) (place g index : ℕ) (actor : Actor) (handle : Handle) (at value : ℕ)
     → is_live (record_at s (number_of handle.place)).life ≡ true → (record_at s (number_of handle.place)).generation ≡ handle.generation
-    → at < length (words_of (record_at s (number_of handle.place)).life)
+    → at < length (contents_of (record_at s (number_of handle.place)).life)
     → Goes place g index (event.Write actor handle at value) answer.Done (record_at s place) (record_at (with_life s (number_of handle.place) (write (record_at s (number_of handle.place)).life at value)) place)
 write_goes s place g index actor handle at value alive same below =
     let p = number_of handle.place in
@@ -141,12 +141,12 @@ write_goes s place g index actor handle at value alive same below =
           elim (cases_eq handle.generation g) as (λ _. Goes place g index (event.Write actor handle at value) answer.Done (record_at s place) now) [
             | inr ne ↦ inr (λ x t. ne t.0.life_is, ap (word_in g index) is ∙ other_word g index changed (λ e. ne (sym same ∙ e)) ∙ sym (other_word g index r (λ e. ne (sym same ∙ e))) ∙ back)
             | inl life ↦
-                let word : word_in g index now ≡ get_or (set (words_of r.life) at value) index 0 =
+                let word : word_in g index now ≡ get_or (set (contents_of r.life) at value) index 0 =
                 ap (word_in g index) is ∙ live_word g index changed still (same ∙ life) ∙ ap (λ ws. get_or ws index 0) (write_words r.life at value alive)
                 in
                 elim (cases_eq at index) as (λ _. Goes place g index (event.Write actor handle at value) answer.Done (record_at s place) now) [
-                  | inl there ↦ inl (value, (record { place_is = sym here; life_is = life }, there, refl, refl), word ∙ get_or-set_at (words_of r.life) at index value 0 (sym there) below)
-                  | inr away ↦ inr (λ x t. away t.1, word ∙ get_or-set_other (words_of r.life) at index value 0 (λ k. away (sym k)) ∙ sym (live_word g index r alive (same ∙ life)) ∙ back)
+                  | inl there ↦ inl (value, (record { place_is = sym here; life_is = life }, there, refl, refl), word ∙ get_or-set_at (contents_of r.life) at index value 0 (sym there) below)
+                  | inr away ↦ inr (λ x t. away t.1, word ∙ get_or-set_other (contents_of r.life) at index value 0 (λ k. away (sym k)) ∙ sym (live_word g index r alive (same ∙ life)) ∙ back)
                 ]
           ]
     ]

@@ -1,6 +1,6 @@
 -- What the changes of a life leave.
 use Rattle.std.proofs.Common.{◌≡◌, ℕ, true, false, refl, set}
-use Rattle.hg_machine.specs.Life.{Life, home, live, parted, is_home, is_live, is_parted, words_of}
+use Rattle.hg_machine.specs.Life.{Life, home, live, parted, is_home, is_live, is_parted, contents_of}
 use Rattle.hg_machine.specs.Changes.{part, write}
 
 pub unlive : (l : Life) → is_home l ≡ true → is_live l ≡ false
@@ -23,7 +23,7 @@ write_live home index value = refl
 write_live (live owner words) index value = refl
 write_live (parted owner words) index value = refl
 
-pub write_words : (l : Life) (index value : ℕ) → is_live l ≡ true → words_of (write l index value) ≡ set (words_of l) index value
+pub write_words : (l : Life) (index value : ℕ) → is_live l ≡ true → contents_of (write l index value) ≡ set (contents_of l) index value
 write_words home index value e = absurd (cc)
 write_words (live owner words) index value e = refl
 write_words (parted owner words) index value e = absurd (cc)

@@ -24,7 +24,7 @@ use Rattle.hg_machine.specs.Steps.{Step}
 use Rattle.hg_machine.proofs.Cases.{Served, Refused, step_cases}
 use Rattle.hg_place.specs.declared.Right.TheVariants as right
 use Rattle.hg_place.specs.Places.{number_of}
-use Rattle.hg_machine.specs.Life.{words_of}
+use Rattle.hg_machine.specs.Life.{contents_of}
 use Rattle.hg_machine.specs.State.{record_at, hand_of}
 use Rattle.hg_machine.specs.Holders.{holds, next_of}
 use Rattle.hg_machine.specs.Denial.{denial}
@@ -60,7 +60,7 @@ no_block s w arena (alloc.Fits size) r e = no_room (has_room s w arena size) r e
 no_reach : (s : State) (w actor : ℕ) (right : Right) (handle : Handle) (index : ℕ) (r : Answer) → reach_refusal s w actor right handle index ≡ Some r → Refuses r
 no_reach s w actor right handle index r e =
     let away = not (holds s w handle.place.segment) in
-    let past = not (nat_lt index (length (words_of (record_at s (number_of handle.place)).life))) in
+    let past = not (nat_lt index (length (contents_of (record_at s (number_of handle.place)).life))) in
     denied (denial s actor right handle.place handle.generation) ((away, answer.Elsewhere) ∷ (past, answer.OutOfBlock) ∷ []) r e
     (λ z. two away past answer.Elsewhere answer.OutOfBlock r z refl refl)
 

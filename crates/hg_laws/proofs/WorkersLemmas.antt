@@ -45,7 +45,7 @@ use Rattle.hg_machine.proofs.Keeps.{set_cases}
 use Rattle.hg_machine.proofs.Preserves.{held_is, live_within}
 use Rattle.hg_machine.proofs.Takes.{settled_at, cleared_at}
 use Rattle.std.proofs.Common.{nat_lt}
-use Rattle.hg_machine.specs.Life.{words_of}
+use Rattle.hg_machine.specs.Life.{contents_of}
 use Rattle.hg_machine.specs.declared.Rule.{Rule}
 use Rattle.hg_laws.specs.Workers.{IsParting, LeavesOthers, WorkersKeepApart, NewPagesComeLast}
 use Rattle.hg_laws.proofs.MachineFacts.{segment_is}
@@ -226,7 +226,7 @@ served_leaves s w event.Collect a sound none is =
     })
 served_leaves s w (event.Read actor handle index) a sound none is = same_leaves s w (event.Read actor handle index) a _ (ap (successor s w (event.Read actor handle index)) is)
 served_leaves s w (event.Write actor handle index value) a sound none is =
-    let past = not (nat_lt index (length (words_of (record_at s (number_of handle.place)).life))) in
+    let past = not (nat_lt index (length (contents_of (record_at s (number_of handle.place)).life))) in
     let there : holds s w handle.place.segment ≡ true = reached (denial s actor.0 right.Write handle.place handle.generation) (holds s w handle.place.segment) past none in
     subst (λ z. LeavesOthers s w (event.Write actor handle index value) z (successor s w (event.Write actor handle index value) z)) (sym is)
     (life_leaves s w (event.Write actor handle index value) answer.Done handle.place (write (record_at s (number_of handle.place)).life index value) there)

@@ -5,7 +5,7 @@ ghost use Rattle.std.specs.List.{range_with_len};
 ghost use Rattle.hg_place.specs.Places.{page_of, segment_of};
 ghost use Rattle.hg_machine.specs.SoundPolicy.{IsSoundPolicy};
 ghost use Rattle.hg_machine.specs.State.{record_at, class_at, hand_of};
-ghost use Rattle.hg_machine.specs.Life.{words_of};
+ghost use Rattle.hg_machine.specs.Life.{contents_of};
 ghost use Rattle.hg_machine.specs.Holders.{holds, is_in_arena};
 ghost use Rattle.hg_core.specs.Slots.{Shows};
 ghost use Rattle.hg_core.specs.Rooms.{IsLiveAt, IsWordAt};
@@ -124,7 +124,7 @@ impl Store {
     /// How many words a live block has.
     pub fn block_len(&self, place: usize) -> u16
         requires { IsLiveAt self.now place }
-        ensures len { result ≡ length (words_of (record_at self.now place).life) }
+        ensures len { result ≡ length (contents_of (record_at self.now place).life) }
         ensures place { place < 2 ^ 19 }
     {
         self.slots[place].size
@@ -133,7 +133,7 @@ impl Store {
     /// A word of a live block.
     pub fn word_at(&self, place: usize, index: u32) -> u64
         requires { IsWordAt self.now place index }
-        ensures { result ≡ slice_index (words_of (record_at self.now place).life) index }
+        ensures { result ≡ slice_index (contents_of (record_at self.now place).life) index }
     {
         let start = first_word(place, self.block_len(place));
         self.words[start + index as usize]
