@@ -22,4 +22,5 @@ mod values;
 pub use document::read_policy;
 pub use fault::PolicyFault;
 pub use key::{Counted, Key};
+pub use name_form::is_name;
 pub use policy::Policy;

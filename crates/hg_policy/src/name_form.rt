@@ -11,12 +11,11 @@ use crate::key::Key;
 use crate::values::member;
 use toml::Table;
 
-/// Whether a text is 1 to 16 bytes of `a` to `z`, `0` to `9`, `_` and `-`, the first a letter.
-pub(crate) fn is_name(text: &str) -> bool
-    ensures { result ≡ is_name text.now }
+/// Whether a word is 1 to 16 bytes of `a` to `z`, `0` to `9`, `_` and `-`, the first a letter.
+pub fn is_name(word: &[u8]) -> bool
+    ensures { result ≡ is_name word.now }
 {
-    let bytes = text.as_bytes();
-    match bytes {
+    match word {
         [] => false,
         [first, rest @ ..] => {
             first.is_ascii_lowercase() && rest.len() < 16 && are_name_bytes(rest)
@@ -44,7 +43,7 @@ pub(crate) fn name<'a>(table: &'a Table, key: Key) -> Result<&'a str, PolicyFaul
     let value = member(table, key)?;
     match value.as_str() {
         Some(text) => {
-            if is_name(text) {
+            if is_name(text.as_bytes()) {
                 Ok(text)
             } else {
                 Err(PolicyFault::Kind(key))
