@@ -9,3 +9,4 @@ pub mod Commands
 pub mod Trace
 pub mod Reads
 pub mod Joined
+pub mod Printed
