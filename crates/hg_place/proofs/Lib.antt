@@ -1,1 +1,2 @@
+pub mod LifeOrders
 pub mod PlaceNumbers
