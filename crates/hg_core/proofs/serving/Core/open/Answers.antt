@@ -1,4 +1,4 @@
-use Rattle.std.proofs.Common.{sym, subst}
+use Rattle.std.proofs.Common.{[], sym, subst}
 use Rattle.hg_machine.specs.Soundness.{IsSound}
 use Rattle.hg_machine.proofs.Opening.{opening_is_sound}
 use Rattle.hg_machine.proofs.Plain.{each_has_lists}
@@ -10,4 +10,4 @@ invariant_of-result c = subst IsSound (sym c.in_ok-store.ensures.opening) (openi
 pub returns-clause-kept : goal.returns-clause-kept
 returns-clause-kept c =
     let sound : IsSound c.in_ok-store.store = subst IsSound (sym c.in_ok-store.ensures.opening) (opening_is_sound c.args.policy c.open.ensures.sound) in
-    (sound, each_has_lists c.in_ok-store.store sound)
+    (sound, each_has_lists c.in_ok-store.store [] sound)

@@ -1,4 +1,4 @@
-use Rattle.std.proofs.Common.{◌<◌, sym, subst}
+use Rattle.std.proofs.Common.{◌<◌, [], sym, subst}
 use Rattle.hg_machine.specs.Steps.{Step}
 use Rattle.hg_machine.specs.Soundness.{IsSound}
 use Rattle.hg_machine.proofs.Preserves.{steps_keep_sound}
@@ -15,7 +15,7 @@ invariant_of-self c = steps_keep_sound c.self.inside.store c.args.worker c.args.
 pub returns-clause-kept : goal.returns-clause-kept
 returns-clause-kept c =
     let sound : IsSound c.serve.new.store = steps_keep_sound c.self.inside.store c.args.worker c.args.event c.serve.result c.serve.new.store c.self.invariant (worker_is c) c.serve.ensures in
-    (sound, each_has_lists c.serve.new.store sound)
+    (sound, each_has_lists c.serve.new.store [] sound)
 
 pub returns-clause-step : goal.returns-clause-step
 returns-clause-step c = subst (λ k. Step k.state c.args.worker c.args.event c.serve.result c.serve.new.store) c.self.view_is c.serve.ensures
