@@ -11,6 +11,8 @@ pub mod Answered
 pub mod Opening
 pub mod Stands
 pub mod Enough
+pub mod Times
 pub mod Plain
+pub mod Listed
 pub mod Looks
 pub mod Serves
