@@ -1,4 +1,5 @@
 pub mod Names
+pub mod OneLine
 pub mod Unknown
 pub mod InTurn
 pub mod Tables

@@ -5,6 +5,8 @@ pub mod Keys
 pub mod Faults
 pub mod Values
 pub mod NameForm
+pub mod OneLine
+pub mod FaultLines
 pub mod Tenants
 pub mod Arenas
 pub mod Grants

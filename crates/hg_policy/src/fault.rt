@@ -1,38 +1,59 @@
 //! Why a document is no policy.
 
-ghost use Rattle.std.specs.Prelude.{◌≡◌};
+ghost use Rattle.std.specs.Prelude.{◌≡◌, Some};
 ghost use Rattle.hg_policy.specs.declared.fault.PolicyFault.TheVariants.{Memory};
+ghost use Rattle.hg_policy.specs.FaultLines.{fault_line};
 
 use crate::key::{Counted, Key};
+use crate::one_line::OneLine;
 use std::alloc::{AllocError, AllocFailed};
-use thiserror::Error;
+use std::error::Error;
+use std::fmt;
 
-/// Why a document is no policy: its first fault, with the key or name whole.
-#[derive(Debug, Drop, Error)]
+/// Why a document is no policy: its first fault, with the key or name whole, as it stands there.
+/// As text it is one line, in which control characters are written out.
+#[derive(Debug, Drop)]
 pub enum PolicyFault {
-    #[error("policy fault 1: not toml")]
     NotToml,
-    #[error("policy fault 2: missing {0}")]
     Missing(Key),
     /// The value is of another type, of another form or out of its range.
-    #[error("policy fault 3: kind {0}")]
     Kind(Key),
-    #[error("policy fault 4: unknown {0}")]
     Unknown(String),
     /// The name of an earlier tenant, or of an earlier arena.
-    #[error("policy fault 5: repeated {0}")]
     Repeated(String),
     /// A text that is no tenant's name.
-    #[error("policy fault 6: no such name {0}")]
     NoSuchName(String),
-    #[error("policy fault 7: too many {0}")]
     TooMany(Counted),
-    #[error("policy fault 8: version")]
     Version,
     /// Want of memory, which is no fault of the document.
-    #[error("no memory")]
     Memory,
 }
+
+impl fmt::Display for PolicyFault {
+    ghost output = { λ fault. Some (fault_line fault) };
+
+    fn fmt<W: fmt::Write>(&self, f: &mut fmt::Formatter<W>) -> fmt::Result {
+        match self {
+            PolicyFault::NotToml => write!(f, "policy fault 1: not toml"),
+            PolicyFault::Missing(key) => write!(f, "policy fault 2: missing {key}"),
+            PolicyFault::Kind(key) => write!(f, "policy fault 3: kind {key}"),
+            PolicyFault::Unknown(key) => {
+                write!(f, "policy fault 4: unknown {}", OneLine(key.as_str()))
+            }
+            PolicyFault::Repeated(name) => {
+                write!(f, "policy fault 5: repeated {}", OneLine(name.as_str()))
+            }
+            PolicyFault::NoSuchName(name) => {
+                write!(f, "policy fault 6: no such name {}", OneLine(name.as_str()))
+            }
+            PolicyFault::TooMany(counted) => write!(f, "policy fault 7: too many {counted}"),
+            PolicyFault::Version => write!(f, "policy fault 8: version"),
+            PolicyFault::Memory => write!(f, "no memory"),
+        }
+    }
+}
+
+impl Error for PolicyFault {}
 
 impl From<AllocError> for PolicyFault {
     ghost from_gives = { λ _ e. e ≡ Memory };

@@ -34,7 +34,7 @@ fn tells_the_version_before_other_keys(rt: HostRuntime) -> Result<(), Fail> {
             "version = 1\nzebra = 1\ncolour = 1\nworkers = 0",
             "4: unknown colour",
         ),
-        ("version = 1\n\"a\\nb\" = 1", "4: unknown a\nb"),
+        ("version = 1\n\"a\\nb\" = 1", "4: unknown a\\nb"),
         ("version = 1\n\"\" = 1", "4: unknown "),
         ("version = 1\ndeny = []", "4: unknown deny"),
     ];

@@ -12,6 +12,7 @@ mod granted;
 mod grants;
 mod key;
 mod name_form;
+mod one_line;
 mod policy;
 mod rights;
 mod tenants;
