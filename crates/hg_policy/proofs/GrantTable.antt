@@ -13,7 +13,7 @@ use Rattle.hg_policy.specs.declared.rights.Rights.{Rights}
 use Rattle.hg_policy.specs.declared.grants.Grant.{Grant}
 use Rattle.hg_policy.specs.Rights.{rights_of, is_same, and_right}
 use Rattle.hg_policy.specs.Kept.{granted_of}
-use Rattle.hg_policy.specs.Granted.{is_grant, may, rights_on, granted_on, granted_among, row_at, with_grant}
+use Rattle.hg_policy.specs.Granted.{is_grant, may, rights_on, granted_on, granted_among, by_actor, with_grant}
 
 or_true : (b : Bool) → (b || true) ≡ true
 or_true true = refl
@@ -70,8 +70,8 @@ module _ (grants : List Grant) (n : ℕ) (grant : Grant) (in_owner : grant.owner
       rw (may-here grants grant right.Read, may-here grants grant right.Write, may-here grants grant right.List, may-here grants grant right.Free)
       (with_one (may grants o t right.Read) (may grants o t right.Write) (may grants o t right.List) (may grants o t right.Free) grant.right)
 
-  row-here : set (granted_on grants n grant.owner) grant.to (and_right (rights_on grants grant.owner grant.to) grant.right) ≡ granted_on (grants ++ grant ∷ []) n grant.owner
-  row-here =
+  held-here : set (granted_on grants n grant.owner) grant.to (and_right (rights_on grants grant.owner grant.to) grant.right) ≡ granted_on (grants ++ grant ∷ []) n grant.owner
+  held-here =
       let old = granted_on grants n grant.owner in
       let rights = and_right (rights_on grants grant.owner grant.to) grant.right in
       let long : length old ≡ n = length-map-range_with_len (λ actor. rights_on grants grant.owner actor) 0 n in
@@ -84,46 +84,46 @@ module _ (grants : List Grant) (n : ℕ) (grant : Grant) (in_owner : grant.owner
             ∙ sym (rights-elsewhere grants grant grant.owner actor (inr (λ same. other (sym same))))
       ])
 
-  row-elsewhere : (owner : ℕ) → owner ≢ grant.owner → granted_on grants n owner ≡ granted_on (grants ++ grant ∷ []) n owner
-  row-elsewhere owner other =
+  held-elsewhere : (owner : ℕ) → owner ≢ grant.owner → granted_on grants n owner ≡ granted_on (grants ++ grant ∷ []) n owner
+  held-elsewhere owner other =
       let old = granted_on grants n owner in
       fill_by_all (λ actor. rights_on (grants ++ grant ∷ []) owner actor) old n no_rights (length-map-range_with_len (λ actor. rights_on grants owner actor) 0 n)
       (λ actor h.
       get_or-map-range_with_len (λ actor. rights_on grants owner actor) 0 n actor actor no_rights h (omega arith)
       ∙ sym (rights-elsewhere grants grant owner actor (inl (λ same. other (sym same)))))
 
-  row-old : (owner : ℕ) → owner < n → row_at (granted_among grants n) owner ≡ granted_on grants n owner
-  row-old owner h = get_or-map-range_with_len (λ owner. granted_on grants n owner) 0 n owner owner [] h (omega arith)
+  held-old : (owner : ℕ) → owner < n → by_actor (granted_among grants n) owner ≡ granted_on grants n owner
+  held-old owner h = get_or-map-range_with_len (λ owner. granted_on grants n owner) 0 n owner owner [] h (omega arith)
 
   -- the table of the grants, with one grant more
   pub granted_among-more : with_grant (granted_among grants n) grant ≡ granted_among (grants ++ grant ∷ []) n
   granted_among-more =
       let old = granted_among grants n in
       let right = get_or-map-range_with_len (λ actor. rights_on grants grant.owner actor) 0 n grant.to grant.to no_rights in_to (omega arith) in
-      let row = set (granted_on grants n grant.owner) grant.to (and_right (rights_on grants grant.owner grant.to) grant.right) in
+      let held = set (granted_on grants n grant.owner) grant.to (and_right (rights_on grants grant.owner grant.to) grant.right) in
       let long : length old ≡ n = length-map-range_with_len (λ owner. granted_on grants n owner) 0 n in
-      let is : with_grant old grant ≡ set old grant.owner row = rw (row-old grant.owner in_owner, right) refl in
-      is ∙ fill_by_all (λ owner. granted_on (grants ++ grant ∷ []) n owner) (set old grant.owner row) n [] (length-set old grant.owner row ∙ long)
+      let is : with_grant old grant ≡ set old grant.owner held = rw (held-old grant.owner in_owner, right) refl in
+      is ∙ fill_by_all (λ owner. granted_on (grants ++ grant ∷ []) n owner) (set old grant.owner held) n [] (length-set old grant.owner held ∙ long)
       (λ owner h. elim (cases_eq owner grant.owner) [
-        | inl same ↦ rw (same, get_or-set_same old grant.owner row [] (omega (arith, long, in_owner))) row-here
-        | inr other ↦ get_or-set_other old grant.owner owner row [] other ∙ row-old owner h ∙ row-elsewhere owner other
+        | inl same ↦ rw (same, get_or-set_same old grant.owner held [] (omega (arith, long, in_owner))) held-here
+        | inr other ↦ get_or-set_other old grant.owner owner held [] other ∙ held-old owner h ∙ held-elsewhere owner other
       ])
 
 -- what a write of one entry does to the table that is kept
-pub granted_of-set : (rows : List (Vec Rights Global)) (i j : ℕ) (row : Vec Rights Global) (rights next : Rights) (r : Right) → i < length rows → row ≡ get_or rows i row → j < length (row_at (granted_of rows) i) → rights ≡ get_or row.items j rights → rights_of next ≡ and_right (rights_of rights) r → granted_of (set rows i (with_item row j next)) ≡ with_grant (granted_of rows) record { owner = i; to = j; right = r }
-granted_of-set rows i j row rights next r in_rows is_row in_row is_rights is_next =
-    let at : row_at (granted_of rows) i ≡ map rights_of row.items = get_or-map (λ row. map rights_of row.items) rows i row [] in_rows ∙ ap (λ (row : Vec Rights Global). map rights_of row.items) (sym is_row) in
-    let long : j < length row.items = omega (arith, in_row, ap length at, length-map row.items rights_of) in
-    let old : get_or (map rights_of row.items) j no_rights ≡ rights_of rights = get_or-map rights_of row.items j rights no_rights long ∙ ap rights_of (sym is_rights) in
-    map-set (λ row. map rights_of row.items) rows i (with_item row j next)
-    ∙ rw (at, old, map-set rights_of row.items j next, is_next) refl
+pub granted_of-set : (granted : List (Vec Rights Global)) (i j : ℕ) (held : Vec Rights Global) (rights next : Rights) (r : Right) → i < length granted → held ≡ get_or granted i held → j < length (by_actor (granted_of granted) i) → rights ≡ get_or held.items j rights → rights_of next ≡ and_right (rights_of rights) r → granted_of (set granted i (with_item held j next)) ≡ with_grant (granted_of granted) record { owner = i; to = j; right = r }
+granted_of-set granted i j held rights next r in_granted is_held in_held is_rights is_next =
+    let at : by_actor (granted_of granted) i ≡ map rights_of held.items = get_or-map (λ held. map rights_of held.items) granted i held [] in_granted ∙ ap (λ (held : Vec Rights Global). map rights_of held.items) (sym is_held) in
+    let long : j < length held.items = omega (arith, in_held, ap length at, length-map held.items rights_of) in
+    let old : get_or (map rights_of held.items) j no_rights ≡ rights_of rights = get_or-map rights_of held.items j rights no_rights long ∙ ap rights_of (sym is_rights) in
+    map-set (λ held. map rights_of held.items) granted i (with_item held j next)
+    ∙ rw (at, old, map-set rights_of held.items j next, is_next) refl
 
 -- the shape of the table that is kept
-module _ (rows : List (Vec Rights Global)) (grants : List Grant) (n : ℕ) (is : granted_of rows ≡ granted_among grants n) where
-  pub granted_of-length : length rows ≡ n
-  granted_of-length = sym (length-map rows (λ row. map rights_of row.items)) ∙ ap length is ∙ length-map-range_with_len (λ owner. granted_on grants n owner) 0 n
+module _ (granted : List (Vec Rights Global)) (grants : List Grant) (n : ℕ) (is : granted_of granted ≡ granted_among grants n) where
+  pub granted_of-length : length granted ≡ n
+  granted_of-length = sym (length-map granted (λ held. map rights_of held.items)) ∙ ap length is ∙ length-map-range_with_len (λ owner. granted_on grants n owner) 0 n
 
-  pub granted_of-row : (owner : ℕ) → owner < n → length (row_at (granted_of rows) owner) ≡ n
-  granted_of-row owner h =
+  pub granted_of-by_actor : (owner : ℕ) → owner < n → length (by_actor (granted_of granted) owner) ≡ n
+  granted_of-by_actor owner h =
       rw (is, get_or-map-range_with_len (λ owner. granted_on grants n owner) 0 n owner owner [] h (omega arith))
       (length-map-range_with_len (λ actor. rights_on grants owner actor) 0 n)

@@ -5,8 +5,8 @@ pub mod InTurn
 pub mod Tables
 pub mod Chains
 pub mod Wholes
-pub mod TenantRows
-pub mod ArenaRows
+pub mod TenantEntries
+pub mod ArenaEntries
 pub mod Sound
-pub mod GrantRows
+pub mod GrantEntries
 pub mod GrantTable

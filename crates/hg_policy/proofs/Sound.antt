@@ -12,7 +12,7 @@ use Rattle.hg_policy.specs.Arenas.{Arenas}
 use Rattle.hg_policy.specs.Granted.{rights_on, granted_on, granted_among}
 use Rattle.hg_policy.specs.declared.grants.Grant.{Grant}
 use Rattle.hg_policy.specs.Document.{policy_from}
-use Rattle.hg_policy.proofs.ArenaRows.{IsArenas}
+use Rattle.hg_policy.proofs.ArenaEntries.{IsArenas}
 
 has_none : (r : Right) → has_right no_rights r ≡ false
 has_none right.Read = refl
@@ -31,21 +31,21 @@ within xs i d test plain some =
 module _ (n : ℕ) (arenas : Arenas) (holds : IsArenas n arenas) where
   admitted-within : (arena actor : ℕ) → get_or (get_or arenas.admitted arena []) actor false ≡ true → (arena < length arenas.names) × (actor < n)
   admitted-within arena actor held =
-      let a : arena < length arenas.admitted = within arenas.admitted arena [] (λ row. get_or row actor false) refl held in
+      let a : arena < length arenas.admitted = within arenas.admitted arena [] (λ by_tenant. get_or by_tenant actor false) refl held in
       let b : actor < length (get_or arenas.admitted arena []) = within (get_or arenas.admitted arena []) actor false (λ b. b) refl held in
-      let row : length (get_or arenas.admitted arena []) ≡ n = All-get_or (λ (row : List Bool). length row ≡ n) arenas.admitted arena [] a holds.rows in
-      (omega (arith, holds.each, a), omega (arith, b, row))
+      let by_tenant : length (get_or arenas.admitted arena []) ≡ n = All-get_or (λ (by_tenant : List Bool). length by_tenant ≡ n) arenas.admitted arena [] a holds.by_tenant in
+      (omega (arith, holds.each, a), omega (arith, b, by_tenant))
 
 module _ (grants : List Grant) (n : ℕ) where
-  granted-row : (owner : ℕ) → owner < n → get_or (granted_among grants n) owner [] ≡ granted_on grants n owner
-  granted-row owner h = get_or-map-range_with_len (λ owner. granted_on grants n owner) 0 n owner owner [] h (omega arith)
+  granted-by_actor : (owner : ℕ) → owner < n → get_or (granted_among grants n) owner [] ≡ granted_on grants n owner
+  granted-by_actor owner h = get_or-map-range_with_len (λ owner. granted_on grants n owner) 0 n owner owner [] h (omega arith)
 
   granted-within : (owner actor : ℕ) (r : Right) → has_right (get_or (get_or (granted_among grants n) owner []) actor no_rights) r ≡ true → (owner < n) × (actor < n)
   granted-within owner actor r held =
-      let a : owner < length (granted_among grants n) = within (granted_among grants n) owner [] (λ row. has_right (get_or row actor no_rights) r) (has_none r) held in
+      let a : owner < length (granted_among grants n) = within (granted_among grants n) owner [] (λ by_actor. has_right (get_or by_actor actor no_rights) r) (has_none r) held in
       let len : length (granted_among grants n) ≡ n = length-map-range_with_len (λ owner. granted_on grants n owner) 0 n in
       let below : owner < n = omega (arith, a, len) in
-      let b : actor < length (granted_on grants n owner) = within (granted_on grants n owner) actor no_rights (λ rights. has_right rights r) (has_none r) (rw (granted-row owner below) at held) in
+      let b : actor < length (granted_on grants n owner) = within (granted_on grants n owner) actor no_rights (λ rights. has_right rights r) (has_none r) (rw (granted-by_actor owner below) at held) in
       (below, omega (arith, b, length-map-range_with_len (λ actor. rights_on grants owner actor) 0 n))
 
   has_own : (tenant : ℕ) (r : Right) → has_right (rights_on grants tenant tenant) r ≡ true
@@ -56,7 +56,7 @@ module _ (grants : List Grant) (n : ℕ) where
 
   granted-own : (tenant : ℕ) (r : Right) → tenant < n → has_right (get_or (get_or (granted_among grants n) tenant []) tenant no_rights) r ≡ true
   granted-own tenant r h =
-      rw (granted-row tenant h, get_or-map-range_with_len (λ actor. rights_on grants tenant actor) 0 n tenant tenant no_rights h (omega arith)) (has_own tenant r)
+      rw (granted-by_actor tenant h, get_or-map-range_with_len (λ actor. rights_on grants tenant actor) 0 n tenant tenant no_rights h (omega arith)) (has_own tenant r)
 
 -- what is read is sound
 pub policy_from-sound : (workers greatest : ℕ) (tenants : List Tenant) (arenas : Arenas) (grants : List Grant) → 1 ≤ workers → workers ≤ 16 → 1 ≤ greatest → greatest < 2 ^ 32 → length tenants ≤ 64 → All (λ tenant. tenant.limit < 2 ^ 32) tenants → length arenas.names ≤ 16 → IsArenas (length tenants) arenas → IsSoundPolicy (policy_from workers greatest tenants arenas grants)

@@ -4,7 +4,7 @@ use Rattle.std.proofs.lemmas.Bool.{cases_Bool, and_parts}
 use Rattle.toml.specs.Data.{Data, Members, string, integer, float, boolean, datetime, array, table}
 use Rattle.hg_policy.specs.declared.key.Key.{Key}
 use Rattle.hg_policy.specs.Faults.{kind, too_many}
-use Rattle.hg_policy.specs.Values.{field_at, whole_at, whole_in, member_at, or_else}
+use Rattle.hg_policy.specs.Values.{field_at, whole_at, whole_in, value_at, or_else}
 use Rattle.hg_policy.specs.declared.key.Key.TheVariants as key
 use Rattle.hg_policy.specs.declared.key.Counted.TheVariants as counted
 use Rattle.hg_policy.specs.Document.{workers_at, workers_in, max_generation_at}
@@ -32,7 +32,7 @@ whole_in-range k low high (integer (pos m)) n e =
 pub whole_at-range : (k : Key) (low high : ℕ) (members : Members) (n : ℕ) → whole_at k low high members ≡ Ok n → (low ≤ n) × (n ≤ high)
 unfolding whole_at
 whole_at-range k low high members n e =
-    let (d, at, rest) = bind_at (member_at k members) (whole_in k low high) n e in
+    let (d, at, rest) = bind_at (value_at k members) (whole_in k low high) n e in
     whole_in-range k low high d n rest
 
 pub workers_at-range : (members : Members) (n : ℕ) → workers_at members ≡ Ok n → (1 ≤ n) × (n ≤ 16)

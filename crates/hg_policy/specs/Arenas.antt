@@ -1,4 +1,4 @@
--- The rows of arenas.
+-- The entries of arenas.
 use Rattle.std.specs.Prelude.{ℕ, ◌+◌, Bool, true, List, [], ◌∷◌, ◌++◌, length, replicate}
 use Rattle.std.specs.Prelude.{◌==◌, map, Ok, Err, nat_lt, if◌then◌else◌}
 use Rattle.std.specs.List.{list_any, range_with_len}
@@ -56,16 +56,16 @@ admitted_in tenants value =
 
 -- an arena is open to all tenants, or admits just those that are named
 unfoldable pub admitted_at : List Tenant → Members → Read (List Bool)
-admitted_at tenants row =
-    or_else (replicate (length tenants) true) (admitted_in tenants) (field_at key.Exclusive row)
+admitted_at tenants entry =
+    or_else (replicate (length tenants) true) (admitted_in tenants) (field_at key.Exclusive entry)
 
 unfoldable pub arena_at : List Tenant → Arenas → Members → Read Arenas
-arena_at tenants done row = do
-  known ← known_keys level.Arena row
-  name ← name_at key.Name row
-  segments ← whole_at key.Segments 0 9223372036854775807 row
-  admitted ← admitted_at tenants row
+arena_at tenants done entry = do
+  known ← known_keys level.Arena entry
+  name ← name_at key.Name entry
+  segments ← whole_at key.Segments 0 9223372036854775807 entry
+  admitted ← admitted_at tenants entry
   with_arena done name segments admitted
 
 unfoldable pub arenas_in : List Tenant → List Members → Read Arenas
-arenas_in tenants rows = in_turn (arena_at tenants) no_arenas rows
+arenas_in tenants entries = in_turn (arena_at tenants) no_arenas entries

@@ -9,8 +9,8 @@ use Rattle.hg_policy.specs.declared.key.Key.TheVariants as key
 use Rattle.hg_policy.specs.declared.key.Counted.TheVariants as counted
 use Rattle.hg_policy.specs.declared.key.Level.TheVariants as level
 use Rattle.hg_policy.specs.Faults.{Read, ◌>>=◌, or_fault, not_toml, kind, too_many, version}
-use Rattle.hg_policy.specs.Values.{field_at, member_at, whole_in, whole_at, known_keys}
-use Rattle.hg_policy.specs.Values.{rows_in, rows_at, or_else}
+use Rattle.hg_policy.specs.Values.{field_at, value_at, whole_in, whole_at, known_keys}
+use Rattle.hg_policy.specs.Values.{entries_in, entries_at, or_else}
 use Rattle.hg_policy.specs.Tenants.{tenants_in}
 use Rattle.hg_policy.specs.Arenas.{Arenas, arenas_in}
 use Rattle.hg_policy.specs.Grants.{grants_in}
@@ -24,7 +24,7 @@ version_in (integer (negsuc n)) = Err version
 version_in _ = Err (kind key.Version)
 
 unfoldable pub version_at : Members → Read Bool
-version_at members = member_at key.Version members >>= version_in
+version_at members = value_at key.Version members >>= version_in
 
 -- up to 16 workers
 abbrev pub workers_in : ℕ → Read ℕ
@@ -33,14 +33,14 @@ workers_in n = if nat_lt 16 n then Err (too_many counted.Workers) else Ok n
 unfoldable pub workers_at : Members → Read ℕ
 workers_at members = whole_at key.Workers 1 9223372036854775807 members >>= workers_in
 
--- the greatest generation, and the rows of grants, where they are given
+-- the greatest generation, and the entries of grants, where they are given
 unfoldable pub max_generation_at : Members → Read ℕ
 max_generation_at members =
     or_else 4294967295 (whole_in key.MaxGeneration 1 4294967295)
     (field_at key.MaxGeneration members)
 
-unfoldable pub grant_rows_at : Members → Read (List Members)
-grant_rows_at members = or_else [] (rows_in key.Grant) (field_at key.Grant members)
+unfoldable pub grant_entries_at : Members → Read (List Members)
+grant_entries_at members = or_else [] (entries_in key.Grant) (field_at key.Grant members)
 
 abbrev pub policy_from : ℕ → ℕ → List Tenant → Arenas → List Grant → Policy
 policy_from workers greatest tenants arenas grants = record {
@@ -59,12 +59,12 @@ policy_at members = do
   known ← known_keys level.Top members
   workers ← workers_at members
   greatest ← max_generation_at members
-  tenant_rows ← rows_at key.Tenant counted.Tenants 64 members
-  arena_rows ← rows_at key.Arena counted.Arenas 16 members
-  grant_rows ← grant_rows_at members
-  tenants ← tenants_in tenant_rows
-  arenas ← arenas_in tenants arena_rows
-  grants ← grants_in tenants grant_rows
+  tenant_entries ← entries_at key.Tenant counted.Tenants 64 members
+  arena_entries ← entries_at key.Arena counted.Arenas 16 members
+  grant_entries ← grant_entries_at members
+  tenants ← tenants_in tenant_entries
+  arenas ← arenas_in tenants arena_entries
+  grants ← grants_in tenants grant_entries
   Ok (policy_from workers greatest tenants arenas grants)
 
 -- the tree of the bytes

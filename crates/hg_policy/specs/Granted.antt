@@ -34,12 +34,12 @@ granted_among grants tenants =
     map (λ owner. granted_on grants tenants owner) (range_with_len 0 tenants)
 
 -- the rights on an owner's blocks, by actor
-abbrev pub row_at : List (List Rights) → ℕ → List Rights
-row_at granted owner = slice_index_or granted owner []
+abbrev pub by_actor : List (List Rights) → ℕ → List Rights
+by_actor granted owner = slice_index_or granted owner []
 
 -- the rights with one grant more
 abbrev pub with_grant : List (List Rights) → Grant → List (List Rights)
 with_grant granted grant =
-    let row = row_at granted grant.owner in
-    let rights = and_right (slice_index_or row grant.to no_rights) grant.right in
-    slice_set granted grant.owner (slice_set row grant.to rights)
+    let held = by_actor granted grant.owner in
+    let rights = and_right (slice_index_or held grant.to no_rights) grant.right in
+    slice_set granted grant.owner (slice_set held grant.to rights)

@@ -1,4 +1,4 @@
--- The rows of grants.
+-- The entries of grants.
 use Rattle.std.specs.Prelude.{ℕ, List, [], ◌∷◌, ◌++◌, Option, Some, None, Ok, Err, codes}
 use Rattle.std.specs.Prelude.{if◌then◌else◌}
 use Rattle.std.specs.Str.{bytes_eq}
@@ -10,7 +10,7 @@ use Rattle.hg_policy.specs.declared.grants.Grant.{Grant}
 use Rattle.hg_policy.specs.declared.key.Key.TheVariants as key
 use Rattle.hg_policy.specs.declared.key.Level.TheVariants as level
 use Rattle.hg_policy.specs.Faults.{Read, ◌>>=◌, in_turn, or_fault, kind}
-use Rattle.hg_policy.specs.Values.{member_at, known_keys, elements_in}
+use Rattle.hg_policy.specs.Values.{value_at, known_keys, elements_in}
 use Rattle.hg_policy.specs.Tenants.{number_at}
 
 -- the right of a word
@@ -31,13 +31,13 @@ with_right owner to done value =
     right_in value >>= λ right. Ok (done ++ record { owner = owner; to = to; right = right } ∷ [])
 
 unfoldable pub grant_at : List Tenant → List Grant → Members → Read (List Grant)
-grant_at tenants done row = do
-  known ← known_keys level.Grant row
-  owner ← number_at key.Owner tenants row
-  to ← number_at key.To tenants row
-  value ← member_at key.Rights row
+grant_at tenants done entry = do
+  known ← known_keys level.Grant entry
+  owner ← number_at key.Owner tenants entry
+  to ← number_at key.To tenants entry
+  value ← value_at key.Rights entry
   rights ← elements_in key.Rights value
   in_turn (with_right owner to) done rights
 
 unfoldable pub grants_in : List Tenant → List Members → Read (List Grant)
-grants_in tenants rows = in_turn (grant_at tenants) [] rows
+grants_in tenants entries = in_turn (grant_at tenants) [] entries

@@ -18,19 +18,19 @@ tenants_of named = map (λ one. record { name = string_bytes one.0; limit = one.
 abbrev pub names_of : {A : Type 0} → Named A → List (List ℕ)
 names_of named = map (λ one. string_bytes one.0) named
 
--- the row beside each name
-abbrev pub rows_of : Named (Vec Bool Global) → List (List Bool)
-rows_of named = map (λ one. one.1.items) named
+-- whom each arena admits, beside its name
+abbrev pub admitted_of : Named (Vec Bool Global) → List (List Bool)
+admitted_of named = map (λ one. one.1.items) named
 
 abbrev pub arenas_of : ArenaTables → Arenas
 arenas_of tables = record {
   names = names_of tables.named.entries;
-  admitted = rows_of tables.named.entries;
+  admitted = admitted_of tables.named.entries;
   segments = tables.segments.items;
 }
 
 abbrev pub granted_of : List (Vec Rights Global) → List (List meaning.Rights)
-granted_of rows = map (λ row. map rights_of row.items) rows
+granted_of granted = map (λ held. map rights_of held.items) granted
 
 abbrev pub policy_of : Inside → meaning.Policy
 policy_of p = record {
@@ -39,6 +39,6 @@ policy_of p = record {
   tenants = tenants_of p.tenants.entries;
   arenas = names_of p.arenas.entries;
   segments = p.segments.items;
-  admitted = rows_of p.arenas.entries;
+  admitted = admitted_of p.arenas.entries;
   granted = granted_of p.granted.items;
 }

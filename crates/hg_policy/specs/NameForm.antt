@@ -6,7 +6,7 @@ use Rattle.std.specs.Str.{bytes_eq}
 use Rattle.toml.specs.Data.{Data, Members, string}
 use Rattle.hg_policy.specs.declared.key.Key.{Key}
 use Rattle.hg_policy.specs.Faults.{Read, ◌>>=◌, kind}
-use Rattle.hg_policy.specs.Values.{member_at}
+use Rattle.hg_policy.specs.Values.{value_at}
 
 -- `a` to `z`
 abbrev pub is_lower : ℕ → Bool
@@ -26,7 +26,7 @@ name_in key (string text) = if is_name text then Ok text else Err (kind key)
 name_in key _ = Err (kind key)
 
 unfoldable pub name_at : Key → Members → Read (List ℕ)
-name_at key members = member_at key members >>= name_in key
+name_at key members = value_at key members >>= name_in key
 
 abbrev pub is_among : List ℕ → List (List ℕ) → Bool
 is_among name names = list_any (λ other. bytes_eq name other) names

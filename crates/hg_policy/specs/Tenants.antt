@@ -1,4 +1,4 @@
--- The rows of tenants.
+-- The entries of tenants.
 use Rattle.std.specs.Prelude.{ℕ, List, [], ◌∷◌, ◌++◌, map, Ok, Err, if◌then◌else◌}
 use Rattle.std.specs.Prelude.{position}
 use Rattle.std.specs.Str.{bytes_eq}
@@ -9,7 +9,7 @@ use Rattle.hg_policy.specs.declared.key.Key.TheVariants as key
 use Rattle.hg_policy.specs.declared.key.Level.TheVariants as level
 use Rattle.hg_policy.specs.Faults.{Read, ◌>>=◌, in_turn, or_fault, kind, repeated}
 use Rattle.hg_policy.specs.Faults.{no_such_name}
-use Rattle.hg_policy.specs.Values.{member_at, known_keys, whole_at}
+use Rattle.hg_policy.specs.Values.{value_at, known_keys, whole_at}
 use Rattle.hg_policy.specs.NameForm.{name_at, is_among}
 
 abbrev pub tenant_names : List Tenant → List (List ℕ)
@@ -22,14 +22,14 @@ with_tenant done name limit =
     else Ok (done ++ record { name = name; limit = limit } ∷ [])
 
 unfoldable pub tenant_at : List Tenant → Members → Read (List Tenant)
-tenant_at done row = do
-  known ← known_keys level.Tenant row
-  name ← name_at key.Name row
-  limit ← whole_at key.Limit 0 4294967295 row
+tenant_at done entry = do
+  known ← known_keys level.Tenant entry
+  name ← name_at key.Name entry
+  limit ← whole_at key.Limit 0 4294967295 entry
   with_tenant done name limit
 
 unfoldable pub tenants_in : List Members → Read (List Tenant)
-tenants_in rows = in_turn tenant_at [] rows
+tenants_in entries = in_turn tenant_at [] entries
 
 -- the number of the tenant that a text names
 abbrev pub number_in : Key → List Tenant → Data → Read ℕ
@@ -38,4 +38,4 @@ number_in key tenants (string text) =
 number_in key tenants _ = Err (kind key)
 
 unfoldable pub number_at : Key → List Tenant → Members → Read ℕ
-number_at key tenants row = member_at key row >>= number_in key tenants
+number_at key tenants entry = value_at key entry >>= number_in key tenants

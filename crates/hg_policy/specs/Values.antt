@@ -14,8 +14,8 @@ use Rattle.hg_policy.specs.Faults.{Read, ◌>>=◌, in_turn, or_fault, missing, 
 abbrev pub field_at : Key → Members → Option Data
 field_at key members = get_member (key_text key) members
 
-unfoldable pub member_at : Key → Members → Read Data
-member_at key members = or_fault (missing key) (field_at key members)
+unfoldable pub value_at : Key → Members → Read Data
+value_at key members = or_fault (missing key) (field_at key members)
 
 -- what stands at a key that may be left out
 abbrev pub or_else : {A : Type 0} → A → (Data → Read A) → Option Data → Read A
@@ -29,7 +29,7 @@ whole_in key low high (integer (pos n)) =
 whole_in key low high _ = Err (kind key)
 
 unfoldable pub whole_at : Key → ℕ → ℕ → Members → Read ℕ
-whole_at key low high members = member_at key members >>= whole_in key low high
+whole_at key low high members = value_at key members >>= whole_in key low high
 
 -- the keys that a table may have
 abbrev pub knows : Level → List ℕ → Bool
@@ -71,13 +71,14 @@ abbrev pub with_table : Key → List Members → Data → Read (List Members)
 with_table key done (table members) = Ok (done ++ members ∷ [])
 with_table key done _ = Err (kind key)
 
--- the rows of an array of tables
-unfoldable pub rows_in : Key → Data → Read (List Members)
-rows_in key value = elements_in key value >>= λ rows. in_turn (with_table key) [] rows
+-- the entries of an array of tables
+unfoldable pub entries_in : Key → Data → Read (List Members)
+entries_in key value = elements_in key value >>= λ entries. in_turn (with_table key) [] entries
 
 abbrev pub at_most : ℕ → Counted → List Members → Read (List Members)
-at_most most counted rows = if nat_lt most (length rows) then Err (too_many counted) else Ok rows
+at_most most counted entries =
+    if nat_lt most (length entries) then Err (too_many counted) else Ok entries
 
-unfoldable pub rows_at : Key → Counted → ℕ → Members → Read (List Members)
-rows_at key counted most members =
-    member_at key members >>= rows_in key >>= at_most most counted
+unfoldable pub entries_at : Key → Counted → ℕ → Members → Read (List Members)
+entries_at key counted most members =
+    value_at key members >>= entries_in key >>= at_most most counted

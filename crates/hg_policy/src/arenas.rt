@@ -1,4 +1,4 @@
-//! The rows of arenas.
+//! The entries of arenas.
 
 ghost use Rattle.std.specs.Prelude.{◌≡◌, ◌≤◌, ◌<◌, ◌^◌, length, map};
 ghost use Rattle.toml.specs.View.{table_view};
@@ -22,23 +22,24 @@ pub(crate) struct ArenaTables {
     pub(crate) segments: Vec<u8>,
 }
 
-/// The arenas in the order of their rows.
+/// The arenas in the order of their entries.
 pub(crate) fn arenas(
     alloc: Global,
     tenants: &IndexMap<String, u32>,
-    rows: &[&Table],
+    entries: &[&Table],
 ) -> Result<ArenaTables, PolicyFault>
     requires few_tenants { length tenants.now.entries ≤ 64 }
-    requires few_rows { length rows.now ≤ 16 }
+    requires few_entries { length entries.now ≤ 16 }
     ensures { Gives arenas_of result
-        (arenas_in (tenants_of tenants.now.entries) (map (λ row. table_view row.now) rows.now)) }
+        (arenas_in (tenants_of tenants.now.entries)
+        (map (λ entry. table_view entry.now) entries.now)) }
 {
     let mut arenas = ArenaTables {
-        named: IndexMap::with_capacity(alloc, rows.len())?,
+        named: IndexMap::with_capacity(alloc, entries.len())?,
         segments: Vec::with_capacity(alloc, 64)?,
     };
-    for row in rows {
-        arena(alloc, tenants, &mut arenas, *row)?;
+    for entry in entries {
+        arena(alloc, tenants, &mut arenas, *entry)?;
     }
     Ok(arenas)
 }
@@ -48,17 +49,17 @@ fn arena(
     alloc: Global,
     tenants: &IndexMap<String, u32>,
     arenas: &mut ArenaTables,
-    row: &Table,
+    entry: &Table,
 ) -> Result<(), PolicyFault>
     requires few_tenants { length tenants.now.entries ≤ 64 }
     requires few { length arenas.old.named.entries < 256 }
     ensures { Gives (λ _. arenas_of arenas.new) result
-        (arena_at (tenants_of tenants.now.entries) (arenas_of arenas.old) (table_view row.now)) }
+        (arena_at (tenants_of tenants.now.entries) (arenas_of arenas.old) (table_view entry.now)) }
 {
-    known(alloc, Level::Arena, row)?;
-    let name = name(row, Key::Name)?;
-    let segments = whole(row, Key::Segments, 0, 9_223_372_036_854_775_807)?;
-    let admitted = admitted(alloc, tenants, row)?;
+    known(alloc, Level::Arena, entry)?;
+    let name = name(entry, Key::Name)?;
+    let segments = whole(entry, Key::Segments, 0, 9_223_372_036_854_775_807)?;
+    let admitted = admitted(alloc, tenants, entry)?;
     add_arena(alloc, arenas, name, segments, admitted)
 }
 

@@ -4,7 +4,7 @@ ghost use Rattle.std.specs.Prelude.{◌≡◌, map, true};
 ghost use Rattle.toml.specs.View.{table_view};
 ghost use Rattle.hg_policy.specs.Faults.{Gives, or_fault, not_toml};
 ghost use Rattle.hg_policy.specs.Document.{version_at, workers_at, policy_at, tree_of, document_of};
-ghost use Rattle.hg_policy.specs.Document.{max_generation_at, grant_rows_at};
+ghost use Rattle.hg_policy.specs.Document.{max_generation_at, grant_entries_at};
 
 use crate::arenas::arenas;
 use crate::fault::PolicyFault;
@@ -13,7 +13,7 @@ use crate::grants::grants;
 use crate::key::{Counted, Key, Level};
 use crate::policy::Policy;
 use crate::tenants::tenants;
-use crate::values::{field, known, member, rows, tables, whole, whole_in};
+use crate::values::{entries, entries_in, field, known, value_at, whole, whole_in};
 use std::alloc::Global;
 use toml::Table;
 
@@ -49,12 +49,12 @@ fn policy(alloc: Global, table: &Table) -> Result<Policy, PolicyFault>
     known(alloc, Level::Top, table)?;
     let workers = workers(table)?;
     let max_generation = max_generation(table)?;
-    let tenant_rows = rows(alloc, table, Key::Tenant, Counted::Tenants, 64)?;
-    let arena_rows = rows(alloc, table, Key::Arena, Counted::Arenas, 16)?;
-    let grant_rows = grant_rows(alloc, table)?;
-    let tenants = tenants(alloc, tenant_rows.as_slice())?;
-    let arenas = arenas(alloc, &tenants, arena_rows.as_slice())?;
-    let grants = grants(alloc, &tenants, grant_rows.as_slice())?;
+    let tenant_entries = entries(alloc, table, Key::Tenant, Counted::Tenants, 64)?;
+    let arena_entries = entries(alloc, table, Key::Arena, Counted::Arenas, 16)?;
+    let grant_entries = grant_entries(alloc, table)?;
+    let tenants = tenants(alloc, tenant_entries.as_slice())?;
+    let arenas = arenas(alloc, &tenants, arena_entries.as_slice())?;
+    let grants = grants(alloc, &tenants, grant_entries.as_slice())?;
     let granted = granted(alloc, tenants.len(), grants.as_slice())?;
     Ok(Policy {
         workers,
@@ -70,7 +70,7 @@ fn policy(alloc: Global, table: &Table) -> Result<Policy, PolicyFault>
 fn version(table: &Table) -> Result<(), PolicyFault>
     ensures { Gives (λ _. true) result (version_at (table_view table.now)) }
 {
-    let value = member(table, Key::Version)?;
+    let value = value_at(table, Key::Version)?;
     match value.as_integer() {
         Some(1) => Ok(()),
         Some(_) => Err(PolicyFault::Version),
@@ -99,13 +99,13 @@ fn max_generation(table: &Table) -> Result<u32, PolicyFault>
     }
 }
 
-#[tactic(auto, unfolding(crate::specs::Document::grant_rows_at))]
-fn grant_rows<'a>(alloc: Global, table: &'a Table) -> Result<Vec<&'a Table>, PolicyFault>
-    ensures { Gives (λ rows. map (λ row. table_view row.now) rows.items) result
-        (grant_rows_at (table_view table.now)) }
+#[tactic(auto, unfolding(crate::specs::Document::grant_entries_at))]
+fn grant_entries<'a>(alloc: Global, table: &'a Table) -> Result<Vec<&'a Table>, PolicyFault>
+    ensures { Gives (λ entries. map (λ entry. table_view entry.now) entries.items) result
+        (grant_entries_at (table_view table.now)) }
 {
     match field(table, Key::Grant) {
-        Some(value) => tables(alloc, value, Key::Grant),
+        Some(value) => entries_in(alloc, value, Key::Grant),
         None => Ok(Vec::new(alloc)),
     }
 }

@@ -15,18 +15,18 @@ use indexmap::IndexMap;
 use std::alloc::{AllocError, Global};
 use toml::{Table, Value};
 
-/// By tenant whether the arena of a row admits it.
+/// By tenant whether the arena of an entry admits it.
 #[tactic(auto, unfolding(crate::specs::Arenas::admitted_at))]
 pub(crate) fn admitted(
     alloc: Global,
     tenants: &IndexMap<String, u32>,
-    row: &Table,
+    entry: &Table,
 ) -> Result<Vec<bool>, PolicyFault>
     requires { length tenants.now.entries ≤ 64 }
     ensures { Gives (λ admitted. admitted.items) result
-        (admitted_at (tenants_of tenants.now.entries) (table_view row.now)) }
+        (admitted_at (tenants_of tenants.now.entries) (table_view entry.now)) }
 {
-    match field(row, Key::Exclusive) {
+    match field(entry, Key::Exclusive) {
         Some(value) => exclusive(alloc, tenants, value),
         None => Ok(vec![in alloc; true; tenants.len()]?),
     }

@@ -4,7 +4,7 @@ ghost use Rattle.std.specs.Prelude.{◌≡◌, ◌<◌, [], length, map, All, If
 ghost use Rattle.hg_policy.specs.Kept.{granted_of};
 ghost use Rattle.hg_policy.specs.Rights.{rights_of};
 ghost use Rattle.hg_policy.specs.Granted.{rights_on, granted_on, granted_among};
-ghost use Rattle.hg_policy.specs.Granted.{row_at, with_grant};
+ghost use Rattle.hg_policy.specs.Granted.{by_actor, with_grant};
 
 use crate::grants::Grant;
 use crate::rights::Rights;
@@ -38,13 +38,13 @@ fn own(alloc: Global, tenants: usize) -> Result<Vec<Vec<Rights>>, AllocError>
 }
 
 fn own_on(alloc: Global, tenants: usize, owner: usize) -> Result<Vec<Rights>, AllocError>
-    ensures { IfOk result (λ row. map rights_of row.items ≡ granted_on [] tenants owner) }
+    ensures { IfOk result (λ held. map rights_of held.items ≡ granted_on [] tenants owner) }
 {
-    let mut row = Vec::with_capacity(alloc, tenants)?;
+    let mut held = Vec::with_capacity(alloc, tenants)?;
     for actor in 0..tenants {
-        row.push(own_rights(owner, actor))?;
+        held.push(own_rights(owner, actor))?;
     }
-    Ok(row)
+    Ok(held)
 }
 
 fn own_rights(owner: usize, actor: usize) -> Rights
@@ -60,10 +60,10 @@ fn own_rights(owner: usize, actor: usize) -> Rights
 /// One grant more.
 fn add(granted: &mut Vec<Vec<Rights>>, grant: Grant)
     requires owner { grant.owner < length granted.old.items }
-    requires to { grant.to < length (row_at (granted_of granted.old.items) grant.owner) }
+    requires to { grant.to < length (by_actor (granted_of granted.old.items) grant.owner) }
     ensures { granted_of granted.new.items ≡ with_grant (granted_of granted.old.items) grant }
 {
-    let row = &mut granted[usize::from(grant.owner)];
-    let rights = &mut row[usize::from(grant.to)];
+    let held = &mut granted[usize::from(grant.owner)];
+    let rights = &mut held[usize::from(grant.to)];
     *rights = rights.with(grant.right);
 }

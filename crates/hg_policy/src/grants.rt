@@ -1,4 +1,4 @@
-//! The rows of grants.
+//! The entries of grants.
 
 ghost use Rattle.std.specs.Prelude.{◌≡◌, ◌≤◌, length, map};
 ghost use Rattle.toml.specs.View.{view, table_view};
@@ -9,7 +9,7 @@ ghost use Rattle.hg_policy.specs.Grants.{right_in, with_right, grant_at, grants_
 use crate::fault::PolicyFault;
 use crate::key::{Key, Level};
 use crate::tenants::number;
-use crate::values::{elements, known, member};
+use crate::values::{elements, known, value_at};
 use hg_place::Right;
 use indexmap::IndexMap;
 use std::alloc::Global;
@@ -23,38 +23,39 @@ pub(crate) struct Grant {
     pub(crate) right: Right,
 }
 
-/// The grants in the order of their rows.
+/// The grants in the order of their entries.
 pub(crate) fn grants(
     alloc: Global,
     tenants: &IndexMap<String, u32>,
-    rows: &[&Table],
+    entries: &[&Table],
 ) -> Result<Vec<Grant>, PolicyFault>
     requires { length tenants.now.entries ≤ 64 }
     ensures { Gives (λ grants. grants.items) result
-        (grants_in (tenants_of tenants.now.entries) (map (λ row. table_view row.now) rows.now)) }
+        (grants_in (tenants_of tenants.now.entries)
+        (map (λ entry. table_view entry.now) entries.now)) }
 {
-    let mut grants = Vec::with_capacity(alloc, rows.len())?;
-    for row in rows {
-        add_row(alloc, tenants, &mut grants, *row)?;
+    let mut grants = Vec::with_capacity(alloc, entries.len())?;
+    for entry in entries {
+        add_entry(alloc, tenants, &mut grants, *entry)?;
     }
     Ok(grants)
 }
 
 #[tactic(auto, unfolding(crate::specs::Grants::grant_at))]
-fn add_row(
+fn add_entry(
     alloc: Global,
     tenants: &IndexMap<String, u32>,
     grants: &mut Vec<Grant>,
-    row: &Table,
+    entry: &Table,
 ) -> Result<(), PolicyFault>
     requires { length tenants.now.entries ≤ 64 }
     ensures { Gives (λ _. grants.new.items) result
-        (grant_at (tenants_of tenants.now.entries) grants.old.items (table_view row.now)) }
+        (grant_at (tenants_of tenants.now.entries) grants.old.items (table_view entry.now)) }
 {
-    known(alloc, Level::Grant, row)?;
-    let owner = number(alloc, tenants, row, Key::Owner)?;
-    let to = number(alloc, tenants, row, Key::To)?;
-    let value = member(row, Key::Rights)?;
+    known(alloc, Level::Grant, entry)?;
+    let owner = number(alloc, tenants, entry, Key::Owner)?;
+    let to = number(alloc, tenants, entry, Key::To)?;
+    let value = value_at(entry, Key::Rights)?;
     let rights = elements(value, Key::Rights)?;
     add_rights(grants, owner, to, rights)
 }

@@ -8,7 +8,7 @@ ghost use Rattle.hg_policy.specs.NameForm.{is_name, is_name_byte, name_at};
 
 use crate::fault::PolicyFault;
 use crate::key::Key;
-use crate::values::member;
+use crate::values::value_at;
 use toml::Table;
 
 /// Whether a word is 1 to 16 bytes of `a` to `z`, `0` to `9`, `_` and `-`, the first a letter.
@@ -40,7 +40,7 @@ fn is_name_byte(b: u8) -> bool
 pub(crate) fn name<'a>(table: &'a Table, key: Key) -> Result<&'a str, PolicyFault>
     ensures { Gives (λ name. name.now) result (name_at key (table_view table.now)) }
 {
-    let value = member(table, key)?;
+    let value = value_at(table, key)?;
     match value.as_str() {
         Some(text) => {
             if is_name(text.as_bytes()) {

@@ -1,4 +1,4 @@
-//! The rows of tenants.
+//! The entries of tenants.
 
 ghost use Rattle.std.specs.Prelude.{◌≡◌, ◌≤◌, length, map};
 ghost use Rattle.toml.specs.View.{view, table_view};
@@ -10,19 +10,22 @@ ghost use Rattle.hg_policy.specs.Tenants.{number_in, number_at};
 use crate::fault::PolicyFault;
 use crate::key::{Key, Level};
 use crate::name_form::name;
-use crate::values::{known, member, whole};
+use crate::values::{known, value_at, whole};
 use indexmap::IndexMap;
 use std::alloc::Global;
 use toml::{Table, Value};
 
-/// Names and limits of the tenants, in the order of their rows.
-pub(crate) fn tenants(alloc: Global, rows: &[&Table]) -> Result<IndexMap<String, u32>, PolicyFault>
+/// Names and limits of the tenants, in the order of their entries.
+pub(crate) fn tenants(
+    alloc: Global,
+    entries: &[&Table],
+) -> Result<IndexMap<String, u32>, PolicyFault>
     ensures { Gives (λ tenants. tenants_of tenants.entries) result
-        (tenants_in (map (λ row. table_view row.now) rows.now)) }
+        (tenants_in (map (λ entry. table_view entry.now) entries.now)) }
 {
-    let mut tenants = IndexMap::with_capacity(alloc, rows.len())?;
-    for row in rows {
-        tenant(alloc, &mut tenants, *row)?;
+    let mut tenants = IndexMap::with_capacity(alloc, entries.len())?;
+    for entry in entries {
+        tenant(alloc, &mut tenants, *entry)?;
     }
     Ok(tenants)
 }
@@ -31,14 +34,14 @@ pub(crate) fn tenants(alloc: Global, rows: &[&Table]) -> Result<IndexMap<String,
 fn tenant(
     alloc: Global,
     tenants: &mut IndexMap<String, u32>,
-    row: &Table,
+    entry: &Table,
 ) -> Result<(), PolicyFault>
     ensures { Gives (λ _. tenants_of tenants.new.entries) result
-        (tenant_at (tenants_of tenants.old.entries) (table_view row.now)) }
+        (tenant_at (tenants_of tenants.old.entries) (table_view entry.now)) }
 {
-    known(alloc, Level::Tenant, row)?;
-    let name = name(row, Key::Name)?;
-    let limit = whole(row, Key::Limit, 0, 4_294_967_295)? as u32;
+    known(alloc, Level::Tenant, entry)?;
+    let name = name(entry, Key::Name)?;
+    let limit = whole(entry, Key::Limit, 0, 4_294_967_295)? as u32;
     add_tenant(alloc, tenants, name, limit)
 }
 
@@ -71,7 +74,7 @@ pub(crate) fn number(
     ensures { Gives (λ n. n) result
         (number_at key (tenants_of tenants.now.entries) (table_view table.now)) }
 {
-    let value = member(table, key)?;
+    let value = value_at(table, key)?;
     number_in(alloc, tenants, value, key)
 }
 

@@ -3,8 +3,8 @@
 ghost use Rattle.std.specs.Prelude.{◌≡◌, ◌≤◌, true, [], length, map, option_map, IfOk};
 ghost use Rattle.toml.specs.View.{view, table_view};
 ghost use Rattle.hg_policy.specs.Faults.{Gives, in_turn};
-ghost use Rattle.hg_policy.specs.Values.{field_at, member_at, whole_in, whole_at, known_keys};
-ghost use Rattle.hg_policy.specs.Values.{elements_in, with_table, rows_in, rows_at};
+ghost use Rattle.hg_policy.specs.Values.{field_at, value_at, whole_in, whole_at, known_keys};
+ghost use Rattle.hg_policy.specs.Values.{elements_in, with_table, entries_in, entries_at};
 
 use crate::fault::PolicyFault;
 use crate::key::{Counted, Key, Level};
@@ -18,9 +18,9 @@ pub(crate) fn field<'a>(table: &'a Table, key: Key) -> Option<&'a Value>
     table.get(key.text())
 }
 
-#[tactic(auto, unfolding(crate::specs::Values::member_at))]
-pub(crate) fn member<'a>(table: &'a Table, key: Key) -> Result<&'a Value, PolicyFault>
-    ensures { Gives (λ value. view value.now) result (member_at key (table_view table.now)) }
+#[tactic(auto, unfolding(crate::specs::Values::value_at))]
+pub(crate) fn value_at<'a>(table: &'a Table, key: Key) -> Result<&'a Value, PolicyFault>
+    ensures { Gives (λ value. view value.now) result (value_at key (table_view table.now)) }
 {
     match field(table, key) {
         Some(value) => Ok(value),
@@ -34,7 +34,7 @@ pub(crate) fn whole(table: &Table, key: Key, low: u64, high: u64) -> Result<u64,
     ensures value { Gives (λ n. n) result (whole_at key low high (table_view table.now)) }
     ensures range { IfOk result (λ n. n ≤ high) }
 {
-    let value = member(table, key)?;
+    let value = value_at(table, key)?;
     whole_in(value, key, low, high)
 }
 
@@ -60,36 +60,36 @@ pub(crate) fn known(alloc: Global, level: Level, table: &Table) -> Result<(), Po
     Ok(())
 }
 
-/// The rows at a key, at most so many.
-#[tactic(auto, unfolding(crate::specs::Values::rows_at))]
-pub(crate) fn rows<'a>(
+/// The entries at a key, at most so many.
+#[tactic(auto, unfolding(crate::specs::Values::entries_at))]
+pub(crate) fn entries<'a>(
     alloc: Global,
     table: &'a Table,
     key: Key,
     counted: Counted,
     most: usize,
 ) -> Result<Vec<&'a Table>, PolicyFault>
-    ensures rows { Gives (λ rows. map (λ row. table_view row.now) rows.items) result
-        (rows_at key counted most (table_view table.now)) }
-    ensures few { IfOk result (λ rows. length rows.items ≤ most) }
+    ensures entries { Gives (λ entries. map (λ entry. table_view entry.now) entries.items) result
+        (entries_at key counted most (table_view table.now)) }
+    ensures few { IfOk result (λ entries. length entries.items ≤ most) }
 {
-    let value = member(table, key)?;
-    let rows = tables(alloc, value, key)?;
-    if most < rows.len() {
+    let value = value_at(table, key)?;
+    let entries = entries_in(alloc, value, key)?;
+    if most < entries.len() {
         return Err(PolicyFault::TooMany(counted));
     }
-    Ok(rows)
+    Ok(entries)
 }
 
 /// The tables of an array that has nothing else.
-#[tactic(auto, unfolding(crate::specs::Values::rows_in))]
-pub(crate) fn tables<'a>(
+#[tactic(auto, unfolding(crate::specs::Values::entries_in))]
+pub(crate) fn entries_in<'a>(
     alloc: Global,
     value: &'a Value,
     key: Key,
 ) -> Result<Vec<&'a Table>, PolicyFault>
-    ensures { Gives (λ rows. map (λ row. table_view row.now) rows.items) result
-        (rows_in key (view value.now)) }
+    ensures { Gives (λ entries. map (λ entry. table_view entry.now) entries.items) result
+        (entries_in key (view value.now)) }
 {
     let array = elements(value, key)?;
     tables_in(alloc, array, key)
@@ -110,7 +110,7 @@ fn tables_in<'a>(
     array: &'a Vec<Value>,
     key: Key,
 ) -> Result<Vec<&'a Table>, PolicyFault>
-    ensures { Gives (λ rows. map (λ row. table_view row.now) rows.items) result
+    ensures { Gives (λ entries. map (λ entry. table_view entry.now) entries.items) result
         (in_turn (with_table key) [] (map view array.now.items)) }
 {
     let mut tables = Vec::with_capacity(alloc, array.len())?;

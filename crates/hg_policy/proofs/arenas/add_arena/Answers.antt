@@ -4,7 +4,7 @@ use Rattle.std.proofs.lemmas.List.{map_push, length-map}
 use Rattle.indexmap.proofs.CallerLemmas.{insert_entry-new}
 use Rattle.hg_policy.specs.Kept.{names_of}
 use Rattle.hg_policy.specs.NameForm.{is_among}
-use Rattle.hg_policy.proofs.ArenaRows.{items-resize}
+use Rattle.hg_policy.proofs.ArenaEntries.{items-resize}
 use Rattle.hg_policy.proofs.Names.{among-names, none_from}
 use Rattle.hg_policy.proofs.arenas.add_arena.Goals as goal
 

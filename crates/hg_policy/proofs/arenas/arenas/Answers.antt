@@ -6,27 +6,27 @@ use Rattle.hg_policy.specs.Faults.{fault_of}
 use Rattle.hg_policy.specs.Kept.{tenants_of, arenas_of}
 use Rattle.hg_policy.specs.Arenas.{arena_at, arenas_in}
 use Rattle.hg_policy.proofs.InTurn.{in_turn-more, in_turn-stop, in_turn-end}
-use Rattle.hg_policy.proofs.ArenaRows.{arena_at-one}
+use Rattle.hg_policy.proofs.ArenaEntries.{arena_at-one}
 use Rattle.hg_policy.proofs.arenas.arenas.Goals as goal
 
-pub loop-row-init : goal.loop-row-init
+pub loop-entry-init : goal.loop-entry-init
 unfolding arenas_in
-loop-row-init c = rw (c.in_ok-with_capacity.ensures.empty, c.in_ok-with_capacity-2.ensures.items) record { so_far = refl; few = omega arith }
+loop-entry-init c = rw (c.in_ok-with_capacity.ensures.empty, c.in_ok-with_capacity-2.ensures.items) record { so_far = refl; few = omega arith }
 
 pub returns-in_err-arena : goal.returns-in_err-arena
 returns-in_err-arena c =
     let p = err_from_is_err_and c.from_residual-in_err-arena.result c.from_residual-in_err-arena.ensures.1 in
-    rw (p.1, p.2) (in_turn-stop (arena_at (tenants_of c.args.tenants.now.entries)) (λ row. table_view row.now) (arenas_of c.loop-row.arenas) c.args.rows.now c.loop-row.row-index (arenas_in (tenants_of c.args.tenants.now.entries) (map (λ row. table_view row.now) c.args.rows.now)) c.loop-row.invariant.so_far c.row-item.result (omega arith)
-    (fault_of c.in_err-arena.field-0.0) (rw c.row-item.is at c.in_err-arena.ensures))
+    rw (p.1, p.2) (in_turn-stop (arena_at (tenants_of c.args.tenants.now.entries)) (λ entry. table_view entry.now) (arenas_of c.loop-entry.arenas) c.args.entries.now c.loop-entry.entry-index (arenas_in (tenants_of c.args.tenants.now.entries) (map (λ entry. table_view entry.now) c.args.entries.now)) c.loop-entry.invariant.so_far c.entry-item.result (omega arith)
+    (fault_of c.in_err-arena.field-0.0) (rw c.entry-item.is at c.in_err-arena.ensures))
 
-pub loop-row-preserved : goal.loop-row-preserved
-loop-row-preserved c =
-    let one = arena_at-one (tenants_of c.args.tenants.now.entries) (arenas_of c.loop-row.arenas) (table_view c.row-item.result.now) (arenas_of c.arena.new.arenas) c.in_ok-arena.ensures in
+pub loop-entry-preserved : goal.loop-entry-preserved
+loop-entry-preserved c =
+    let one = arena_at-one (tenants_of c.args.tenants.now.entries) (arenas_of c.loop-entry.arenas) (table_view c.entry-item.result.now) (arenas_of c.arena.new.arenas) c.in_ok-arena.ensures in
     record {
-      so_far = in_turn-more (arena_at (tenants_of c.args.tenants.now.entries)) (λ row. table_view row.now) (arenas_of c.loop-row.arenas) c.args.rows.now c.loop-row.row-index (arenas_in (tenants_of c.args.tenants.now.entries) (map (λ row. table_view row.now) c.args.rows.now)) c.loop-row.invariant.so_far c.row-item.result (omega arith)
-          (arenas_of c.arena.new.arenas) (rw c.row-item.is at c.in_ok-arena.ensures);
-      few = omega (arith, one, length-map c.loop-row.arenas.named.entries (λ one. string_bytes one.0), length-map c.arena.new.arenas.named.entries (λ one. string_bytes one.0), c.loop-row.invariant.few);
+      so_far = in_turn-more (arena_at (tenants_of c.args.tenants.now.entries)) (λ entry. table_view entry.now) (arenas_of c.loop-entry.arenas) c.args.entries.now c.loop-entry.entry-index (arenas_in (tenants_of c.args.tenants.now.entries) (map (λ entry. table_view entry.now) c.args.entries.now)) c.loop-entry.invariant.so_far c.entry-item.result (omega arith)
+          (arenas_of c.arena.new.arenas) (rw c.entry-item.is at c.in_ok-arena.ensures);
+      few = omega (arith, one, length-map c.loop-entry.arenas.named.entries (λ one. string_bytes one.0), length-map c.arena.new.arenas.named.entries (λ one. string_bytes one.0), c.loop-entry.invariant.few);
     }
 
 pub returns : goal.returns
-returns c = in_turn-end (arena_at (tenants_of c.args.tenants.now.entries)) (λ row. table_view row.now) (arenas_of c.loop-row.arenas) c.args.rows.now c.loop-row.row-index (arenas_in (tenants_of c.args.tenants.now.entries) (map (λ row. table_view row.now) c.args.rows.now)) c.loop-row.invariant.so_far (omega arith)
+returns c = in_turn-end (arena_at (tenants_of c.args.tenants.now.entries)) (λ entry. table_view entry.now) (arenas_of c.loop-entry.arenas) c.args.entries.now c.loop-entry.entry-index (arenas_in (tenants_of c.args.tenants.now.entries) (map (λ entry. table_view entry.now) c.args.entries.now)) c.loop-entry.invariant.so_far (omega arith)

@@ -5,8 +5,8 @@ use Rattle.hg_policy.specs.Kept.{tenants_of, arenas_of}
 use Rattle.hg_policy.specs.Arenas.{arena_at, arenas_in}
 use Rattle.hg_policy.proofs.arenas.arenas.Given as goal
 
-abbrev pub invariant-loop-row : goal.invariant-loop-row
-invariant-loop-row l = record {
-  so_far : in_turn (arena_at (tenants_of l.tenants.entries)) (arenas_of l.arenas) (map (λ row. table_view row.now) (drop l.row-index l.rows)) ≡ arenas_in (tenants_of l.tenants.entries) (map (λ row. table_view row.now) l.rows);
-  few : length l.arenas.named.entries ≤ l.row-index;
+abbrev pub invariant-loop-entry : goal.invariant-loop-entry
+invariant-loop-entry l = record {
+  so_far : in_turn (arena_at (tenants_of l.tenants.entries)) (arenas_of l.arenas) (map (λ entry. table_view entry.now) (drop l.entry-index l.entries)) ≡ arenas_in (tenants_of l.tenants.entries) (map (λ entry. table_view entry.now) l.entries);
+  few : length l.arenas.named.entries ≤ l.entry-index;
 }

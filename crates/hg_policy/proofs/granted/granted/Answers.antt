@@ -3,7 +3,7 @@ use Rattle.std.proofs.lemmas.List.{take_more}
 use Rattle.hg_place.specs.declared.Right.TheVariants as right
 use Rattle.hg_policy.specs.declared.grants.Grant.{Grant}
 use Rattle.hg_policy.specs.Granted.{granted_among, with_grant}
-use Rattle.hg_policy.proofs.GrantTable.{granted_among-more, granted_of-length, granted_of-row}
+use Rattle.hg_policy.proofs.GrantTable.{granted_among-more, granted_of-length, granted_of-by_actor}
 use Rattle.hg_policy.proofs.granted.granted.Goals as goal
 
 pub add-requires-clause-owner : goal.add-requires-clause-owner
@@ -18,7 +18,7 @@ add-requires-clause-to c =
     let i = c.loop-grant.grant-index in
     let grant : Grant = get_or c.args.grants.now i record { owner = 0; to = 0; right = right.Read } in
     let within = c.requires i (record { owner = 0; to = 0; right = right.Read }) c.loop-grant-test.true in
-    let long = granted_of-row c.loop-grant.granted.items (take i c.args.grants.now) c.args.tenants c.loop-grant.invariant grant.owner within.0 in
+    let long = granted_of-by_actor c.loop-grant.granted.items (take i c.args.grants.now) c.args.tenants c.loop-grant.invariant grant.owner within.0 in
     omega (arith, within.1, long)
 
 pub loop-grant-preserved : goal.loop-grant-preserved

@@ -10,4 +10,4 @@ loop-actor-preserved c =
     let actor = c.loop-actor.actor in
     let owner = c.args.owner in
     let more : granted_on [] (actor + 1) owner ≡ granted_on [] actor owner ++ rights_on [] owner actor ∷ [] = map-range_with_len_more (λ actor. rights_on [] owner actor) 0 actor actor (omega arith) in
-    rw (more, c.in_ok-push.ensures.items, map_push rights_of c.loop-actor.row.items c.own_rights.result, c.loop-actor.invariant, c.own_rights.ensures) refl
+    rw (more, c.in_ok-push.ensures.items, map_push rights_of c.loop-actor.held.items c.own_rights.result, c.loop-actor.invariant, c.own_rights.ensures) refl

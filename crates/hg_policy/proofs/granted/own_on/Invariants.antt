@@ -4,4 +4,4 @@ use Rattle.hg_policy.specs.Granted.{granted_on}
 use Rattle.hg_policy.proofs.granted.own_on.Given as goal
 
 abbrev pub invariant-loop-actor : goal.invariant-loop-actor
-invariant-loop-actor l = map rights_of l.row.items ≡ granted_on [] l.actor l.owner
+invariant-loop-actor l = map rights_of l.held.items ≡ granted_on [] l.actor l.owner

@@ -7,20 +7,20 @@ use Rattle.hg_policy.specs.Tenants.{tenant_at, tenants_in}
 use Rattle.hg_policy.proofs.InTurn.{in_turn-more, in_turn-stop, in_turn-end}
 use Rattle.hg_policy.proofs.tenants.tenants.Goals as goal
 
-pub loop-row-init : goal.loop-row-init
+pub loop-entry-init : goal.loop-entry-init
 unfolding tenants_in
-loop-row-init c = rw c.in_ok-tenants.ensures.empty refl
+loop-entry-init c = rw c.in_ok-tenants.ensures.empty refl
 
 pub returns-in_err-tenant : goal.returns-in_err-tenant
 returns-in_err-tenant c =
     let p = err_from_is_err_and c.from_residual-in_err-tenant.result c.from_residual-in_err-tenant.ensures.1 in
-    rw (p.1, p.2) (in_turn-stop tenant_at (λ row. table_view row.now) (tenants_of c.loop-row.tenants.entries) c.args.rows.now c.loop-row.row-index (tenants_in (map (λ row. table_view row.now) c.args.rows.now)) c.loop-row.invariant c.row-item.result (omega arith)
-    (fault_of c.in_err-tenant.field-0.0) (rw c.row-item.is at c.in_err-tenant.ensures))
+    rw (p.1, p.2) (in_turn-stop tenant_at (λ entry. table_view entry.now) (tenants_of c.loop-entry.tenants.entries) c.args.entries.now c.loop-entry.entry-index (tenants_in (map (λ entry. table_view entry.now) c.args.entries.now)) c.loop-entry.invariant c.entry-item.result (omega arith)
+    (fault_of c.in_err-tenant.field-0.0) (rw c.entry-item.is at c.in_err-tenant.ensures))
 
-pub loop-row-preserved : goal.loop-row-preserved
-loop-row-preserved c =
-    in_turn-more tenant_at (λ row. table_view row.now) (tenants_of c.loop-row.tenants.entries) c.args.rows.now c.loop-row.row-index (tenants_in (map (λ row. table_view row.now) c.args.rows.now)) c.loop-row.invariant c.row-item.result (omega arith)
-    (tenants_of c.tenant.new.tenants.entries) (rw c.row-item.is at c.in_ok-tenant.ensures)
+pub loop-entry-preserved : goal.loop-entry-preserved
+loop-entry-preserved c =
+    in_turn-more tenant_at (λ entry. table_view entry.now) (tenants_of c.loop-entry.tenants.entries) c.args.entries.now c.loop-entry.entry-index (tenants_in (map (λ entry. table_view entry.now) c.args.entries.now)) c.loop-entry.invariant c.entry-item.result (omega arith)
+    (tenants_of c.tenant.new.tenants.entries) (rw c.entry-item.is at c.in_ok-tenant.ensures)
 
 pub returns : goal.returns
-returns c = in_turn-end tenant_at (λ row. table_view row.now) (tenants_of c.loop-row.tenants.entries) c.args.rows.now c.loop-row.row-index (tenants_in (map (λ row. table_view row.now) c.args.rows.now)) c.loop-row.invariant (omega arith)
+returns c = in_turn-end tenant_at (λ entry. table_view entry.now) (tenants_of c.loop-entry.tenants.entries) c.args.entries.now c.loop-entry.entry-index (tenants_in (map (λ entry. table_view entry.now) c.args.entries.now)) c.loop-entry.invariant (omega arith)

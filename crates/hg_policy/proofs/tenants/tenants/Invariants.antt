@@ -5,5 +5,5 @@ use Rattle.hg_policy.specs.Kept.{tenants_of}
 use Rattle.hg_policy.specs.Tenants.{tenant_at, tenants_in}
 use Rattle.hg_policy.proofs.tenants.tenants.Given as goal
 
-abbrev pub invariant-loop-row : goal.invariant-loop-row
-invariant-loop-row l = in_turn tenant_at (tenants_of l.tenants.entries) (map (λ row. table_view row.now) (drop l.row-index l.rows)) ≡ tenants_in (map (λ row. table_view row.now) l.rows)
+abbrev pub invariant-loop-entry : goal.invariant-loop-entry
+invariant-loop-entry l = in_turn tenant_at (tenants_of l.tenants.entries) (map (λ entry. table_view entry.now) (drop l.entry-index l.entries)) ≡ tenants_in (map (λ entry. table_view entry.now) l.entries)

@@ -13,15 +13,15 @@ loop-element-init c = rw (c.in_ok-tables.ensures.items, c.deref-element-items.en
 
 pub returns-in-None : goal.returns-in-None
 returns-in-None c =
-    in_turn-stop (with_table c.args.key) view (map (λ row. table_view row.now) c.loop-element.tables.items) c.deref-element-items.result.now c.loop-element.element-index (in_turn (with_table c.args.key) [] (map view c.args.array.now.items)) c.loop-element.invariant c.element-item.result (omega arith)
+    in_turn-stop (with_table c.args.key) view (map (λ entry. table_view entry.now) c.loop-element.tables.items) c.deref-element-items.result.now c.loop-element.element-index (in_turn (with_table c.args.key) [] (map view c.args.array.now.items)) c.loop-element.invariant c.element-item.result (omega arith)
     (Some (kind c.args.key)) (with_table-None c.args.key _ _ (c.in-None.ensures ∙ ap (λ v. as_table (view v)) c.element-item.is))
 
 pub loop-element-preserved : goal.loop-element-preserved
 loop-element-preserved c =
-    let pushed : map (λ row. table_view row.now) c.push.new.self.items ≡ map (λ row. table_view row.now) c.loop-element.tables.items ++ table_view c.in-Some.table.now ∷ [] = rw c.in_ok-push-in-Some.ensures.items (map_push (λ row. table_view row.now) c.loop-element.tables.items c.in-Some.table) in
+    let pushed : map (λ entry. table_view entry.now) c.push.new.self.items ≡ map (λ entry. table_view entry.now) c.loop-element.tables.items ++ table_view c.in-Some.table.now ∷ [] = rw c.in_ok-push-in-Some.ensures.items (map_push (λ entry. table_view entry.now) c.loop-element.tables.items c.in-Some.table) in
     rw pushed
-    (in_turn-more (with_table c.args.key) view (map (λ row. table_view row.now) c.loop-element.tables.items) c.deref-element-items.result.now c.loop-element.element-index (in_turn (with_table c.args.key) [] (map view c.args.array.now.items)) c.loop-element.invariant c.element-item.result (omega arith)
-    (map (λ row. table_view row.now) c.loop-element.tables.items ++ table_view c.in-Some.table.now ∷ []) (with_table-Some c.args.key _ _ _ (c.in-Some.ensures ∙ ap (λ v. as_table (view v)) c.element-item.is)))
+    (in_turn-more (with_table c.args.key) view (map (λ entry. table_view entry.now) c.loop-element.tables.items) c.deref-element-items.result.now c.loop-element.element-index (in_turn (with_table c.args.key) [] (map view c.args.array.now.items)) c.loop-element.invariant c.element-item.result (omega arith)
+    (map (λ entry. table_view entry.now) c.loop-element.tables.items ++ table_view c.in-Some.table.now ∷ []) (with_table-Some c.args.key _ _ _ (c.in-Some.ensures ∙ ap (λ v. as_table (view v)) c.element-item.is)))
 
 pub returns : goal.returns
-returns c = in_turn-end (with_table c.args.key) view (map (λ row. table_view row.now) c.loop-element.tables.items) c.deref-element-items.result.now c.loop-element.element-index (in_turn (with_table c.args.key) [] (map view c.args.array.now.items)) c.loop-element.invariant (omega arith)
+returns c = in_turn-end (with_table c.args.key) view (map (λ entry. table_view entry.now) c.loop-element.tables.items) c.deref-element-items.result.now c.loop-element.element-index (in_turn (with_table c.args.key) [] (map view c.args.array.now.items)) c.loop-element.invariant (omega arith)

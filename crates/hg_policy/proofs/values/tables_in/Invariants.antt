@@ -5,4 +5,4 @@ use Rattle.hg_policy.specs.Values.{with_table}
 use Rattle.hg_policy.proofs.values.tables_in.Given as goal
 
 abbrev pub invariant-loop-element : goal.invariant-loop-element
-invariant-loop-element l = in_turn (with_table l.key) (map (λ row. table_view row.now) l.tables.items) (map view (drop l.element-index l.element-items)) ≡ in_turn (with_table l.key) [] (map view l.array.items)
+invariant-loop-element l = in_turn (with_table l.key) (map (λ entry. table_view entry.now) l.tables.items) (map view (drop l.element-index l.element-items)) ≡ in_turn (with_table l.key) [] (map view l.array.items)

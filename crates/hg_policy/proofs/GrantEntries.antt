@@ -10,7 +10,7 @@ use Rattle.hg_policy.specs.declared.key.Key.{Key}
 use Rattle.hg_policy.specs.declared.key.Key.TheVariants as key
 use Rattle.hg_policy.specs.declared.key.Level.TheVariants as level
 use Rattle.hg_policy.specs.Faults.{Fault, in_turn, or_fault, no_such_name}
-use Rattle.hg_policy.specs.Values.{known_keys, member_at, elements_in}
+use Rattle.hg_policy.specs.Values.{known_keys, value_at, elements_in}
 use Rattle.hg_policy.specs.Tenants.{number_in, number_at}
 use Rattle.hg_policy.specs.Grants.{right_in, with_right, grant_at, grants_in}
 use Rattle.hg_policy.proofs.Chains.{bind_at, in_turn-keeps}
@@ -29,10 +29,10 @@ number_in-below k tenants (datetime t) n e = cc
 number_in-below k tenants (array a) n e = cc
 number_in-below k tenants (table m) n e = cc
 
-number_at-below : (k : Key) (tenants : List Tenant) (row : Members) (n : ℕ) → number_at k tenants row ≡ Ok n → n < length tenants
+number_at-below : (k : Key) (tenants : List Tenant) (entry : Members) (n : ℕ) → number_at k tenants entry ≡ Ok n → n < length tenants
 unfolding number_at
-number_at-below k tenants row n e =
-    let (d, at, rest) = bind_at (member_at k row) (number_in k tenants) n e in
+number_at-below k tenants entry n e =
+    let (d, at, rest) = bind_at (value_at k entry) (number_in k tenants) n e in
     number_in-below k tenants d n rest
 
 -- a grant is of and to tenants
@@ -46,18 +46,18 @@ module _ (tenants : List Tenant) where
       let f : done ++ record { owner = owner; to = to; right = right } ∷ [] ≡ next = cc in
       rw (← f) (All-push (IsAmong (length tenants)) done (record { owner = owner; to = to; right = right }) kept (o, t))
 
-  grant_at-keeps : (done : List Grant) (row : Members) (out : List Grant) → grant_at tenants done row ≡ Ok out → All (IsAmong (length tenants)) done → All (IsAmong (length tenants)) out
+  grant_at-keeps : (done : List Grant) (entry : Members) (out : List Grant) → grant_at tenants done entry ≡ Ok out → All (IsAmong (length tenants)) done → All (IsAmong (length tenants)) out
   unfolding grant_at
-  grant_at-keeps done row out e kept =
-      let (known, at1, e1) = bind_at (known_keys level.Grant row) _ out e in
-      let (owner, at2, e2) = bind_at (number_at key.Owner tenants row) _ out e1 in
-      let (to, at3, e3) = bind_at (number_at key.To tenants row) _ out e2 in
-      let (value, at4, e4) = bind_at (member_at key.Rights row) _ out e3 in
+  grant_at-keeps done entry out e kept =
+      let (known, at1, e1) = bind_at (known_keys level.Grant entry) _ out e in
+      let (owner, at2, e2) = bind_at (number_at key.Owner tenants entry) _ out e1 in
+      let (to, at3, e3) = bind_at (number_at key.To tenants entry) _ out e2 in
+      let (value, at4, e4) = bind_at (value_at key.Rights entry) _ out e3 in
       let (rights, at5, e5) = bind_at (elements_in key.Rights value) (λ rights. in_turn (with_right owner to) done rights) out e4 in
       in_turn-keeps (with_right owner to) (λ grants. All (IsAmong (length tenants)) grants)
-      (with_right-keeps owner to (number_at-below key.Owner tenants row owner at2) (number_at-below key.To tenants row to at3))
+      (with_right-keeps owner to (number_at-below key.Owner tenants entry owner at2) (number_at-below key.To tenants entry to at3))
       done rights out e5 kept
 
-  pub grants_in-among : (rows : List Members) (out : List Grant) → grants_in tenants rows ≡ Ok out → All (IsAmong (length tenants)) out
+  pub grants_in-among : (entries : List Members) (out : List Grant) → grants_in tenants entries ≡ Ok out → All (IsAmong (length tenants)) out
   unfolding grants_in
-  grants_in-among rows out e = in_turn-keeps (grant_at tenants) (λ grants. All (IsAmong (length tenants)) grants) grant_at-keeps [] rows out e (All-nil (IsAmong (length tenants)))
+  grants_in-among entries out e = in_turn-keeps (grant_at tenants) (λ grants. All (IsAmong (length tenants)) grants) grant_at-keeps [] entries out e (All-nil (IsAmong (length tenants)))

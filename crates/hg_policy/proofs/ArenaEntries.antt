@@ -22,10 +22,10 @@ items-resize xs len more v n is e =
     let left : n - len ≡ more = omega (arith, e) in
     rw (take_all n xs (omega (arith, e, is)), left) refl
 
--- what holds of the arenas: a row of tenants for each, and an arena for each segment
+-- what holds of the arenas: whom each admits, by tenant, and an arena for each segment
 pub record IsArenas (tenants : ℕ) (a : Arenas) : Type 0 where
   pub each : length a.admitted ≡ length a.names
-  pub rows : All (λ row. length row ≡ tenants) a.admitted
+  pub by_tenant : All (λ admitted. length admitted ≡ tenants) a.admitted
   pub in_arenas : All (λ arena. arena < length a.names) a.segments
   pub few : length a.segments ≤ 64
 
@@ -39,19 +39,19 @@ with_arena-is done out name segments admitted e =
       ]
     ]
 
-admitted_else-row : (tenants : List Tenant) (value : Option Data) (admitted : List Bool) → or_else (replicate (length tenants) true) (admitted_in tenants) value ≡ Ok admitted → length admitted ≡ length tenants
-admitted_else-row tenants None admitted e =
+length-admitted_else : (tenants : List Tenant) (value : Option Data) (admitted : List Bool) → or_else (replicate (length tenants) true) (admitted_in tenants) value ≡ Ok admitted → length admitted ≡ length tenants
+length-admitted_else tenants None admitted e =
     let f : replicate (length tenants) true ≡ admitted = cc in
     rw (← f) (length-replicate (length tenants) true)
-admitted_else-row tenants (Some value) admitted e =
+length-admitted_else tenants (Some value) admitted e =
     let (members, at, rest) = bind_at (members_in tenants value) (λ members. Ok (just (length tenants) members)) admitted e in
     let f : just (length tenants) members ≡ admitted = cc in
     rw (← f) (length-map-range_with_len (λ tenant. list_any (λ member. member == tenant) members) 0 (length tenants))
 
--- a row of whom an arena admits has an entry for each tenant
-admitted_at-row : (tenants : List Tenant) (row : Members) (admitted : List Bool) → admitted_at tenants row ≡ Ok admitted → length admitted ≡ length tenants
+-- of each tenant it is said whether an arena admits it
+length-admitted_at : (tenants : List Tenant) (entry : Members) (admitted : List Bool) → admitted_at tenants entry ≡ Ok admitted → length admitted ≡ length tenants
 unfolding admitted_at
-admitted_at-row tenants row admitted e = admitted_else-row tenants (field_at key.Exclusive row) admitted e
+length-admitted_at tenants entry admitted e = length-admitted_else tenants (field_at key.Exclusive entry) admitted e
 
 -- one more arena, after those before
 record IsNext (tenants : List Tenant) (done out : Arenas) : Type 0 where
@@ -60,46 +60,46 @@ record IsNext (tenants : List Tenant) (done out : Arenas) : Type 0 where
   admitted : List Bool
   is : out ≡ and_arena done name segments admitted
   fits : length done.segments + segments ≤ 64
-  row : length admitted ≡ length tenants
+  by_tenant : length admitted ≡ length tenants
 
-arena_at-is : (tenants : List Tenant) (done : Arenas) (row : Members) (out : Arenas) → arena_at tenants done row ≡ Ok out → IsNext tenants done out
+arena_at-is : (tenants : List Tenant) (done : Arenas) (entry : Members) (out : Arenas) → arena_at tenants done entry ≡ Ok out → IsNext tenants done out
 unfolding arena_at
-arena_at-is tenants done row out e =
-    let (known, at1, e1) = bind_at (known_keys level.Arena row) _ out e in
-    let (name, at2, e2) = bind_at (name_at key.Name row) _ out e1 in
-    let (segments, at3, e3) = bind_at (whole_at key.Segments 0 9223372036854775807 row) _ out e2 in
-    let (admitted, at4, e4) = bind_at (admitted_at tenants row) (λ admitted. with_arena done name segments admitted) out e3 in
+arena_at-is tenants done entry out e =
+    let (known, at1, e1) = bind_at (known_keys level.Arena entry) _ out e in
+    let (name, at2, e2) = bind_at (name_at key.Name entry) _ out e1 in
+    let (segments, at3, e3) = bind_at (whole_at key.Segments 0 9223372036854775807 entry) _ out e2 in
+    let (admitted, at4, e4) = bind_at (admitted_at tenants entry) (λ admitted. with_arena done name segments admitted) out e3 in
     let w = with_arena-is done out name segments admitted e4 in
-    record { name = name; segments = segments; admitted = admitted; is = w.0; fits = w.1; row = admitted_at-row tenants row admitted at4 }
+    record { name = name; segments = segments; admitted = admitted; is = w.0; fits = w.1; by_tenant = length-admitted_at tenants entry admitted at4 }
 
-pub arena_at-one : (tenants : List Tenant) (done : Arenas) (row : Members) (out : Arenas) → arena_at tenants done row ≡ Ok out → length out.names ≡ length done.names + 1
-arena_at-one tenants done row out e =
-    let n = arena_at-is tenants done row out e in
+pub arena_at-one : (tenants : List Tenant) (done : Arenas) (entry : Members) (out : Arenas) → arena_at tenants done entry ≡ Ok out → length out.names ≡ length done.names + 1
+arena_at-one tenants done entry out e =
+    let n = arena_at-is tenants done entry out e in
     rw n.is (length_push done.names n.name)
 
-arena_at-keeps : (tenants : List Tenant) (done : Arenas) (row : Members) (out : Arenas) → arena_at tenants done row ≡ Ok out → IsArenas (length tenants) done → IsArenas (length tenants) out
-arena_at-keeps tenants done row out e kept =
-    let n = arena_at-is tenants done row out e in
+arena_at-keeps : (tenants : List Tenant) (done : Arenas) (entry : Members) (out : Arenas) → arena_at tenants done entry ≡ Ok out → IsArenas (length tenants) done → IsArenas (length tenants) out
+arena_at-keeps tenants done entry out e kept =
+    let n = arena_at-is tenants done entry out e in
     let more : length (done.names ++ n.name ∷ []) ≡ length done.names + 1 = length_push done.names n.name in
     rw n.is record {
       each = omega (arith, more, length_push done.admitted n.admitted, kept.each);
-      rows = All-push (λ (row : List Bool). length row ≡ length tenants) done.admitted n.admitted kept.rows n.row;
+      by_tenant = All-push (λ (admitted : List Bool). length admitted ≡ length tenants) done.admitted n.admitted kept.by_tenant n.by_tenant;
       in_arenas = All-append (λ arena. arena < length (done.names ++ n.name ∷ [])) done.segments (replicate n.segments (length done.names))
           (All-weaker (λ arena. arena < length done.names) (λ arena. arena < length (done.names ++ n.name ∷ [])) (λ arena h. omega (arith, more, h)) done.segments kept.in_arenas)
           (All-replicate (λ arena. arena < length (done.names ++ n.name ∷ [])) n.segments (length done.names) (omega (arith, more)));
       few = omega (arith, length-append done.segments (replicate n.segments (length done.names)), length-replicate n.segments (length done.names), n.fits);
     }
 
-pub arenas_in-length : (tenants : List Tenant) (rows : List Members) (out : Arenas) → arenas_in tenants rows ≡ Ok out → length out.names ≡ length rows
+pub arenas_in-length : (tenants : List Tenant) (entries : List Members) (out : Arenas) → arenas_in tenants entries ≡ Ok out → length out.names ≡ length entries
 unfolding arenas_in
-arenas_in-length tenants rows out e = in_turn-counts (arena_at tenants) (λ arenas. length arenas.names) (arena_at-one tenants) no_arenas rows out e ∙ zero-add (length rows)
+arenas_in-length tenants entries out e = in_turn-counts (arena_at tenants) (λ arenas. length arenas.names) (arena_at-one tenants) no_arenas entries out e ∙ zero-add (length entries)
 
-pub arenas_in-holds : (tenants : List Tenant) (rows : List Members) (out : Arenas) → arenas_in tenants rows ≡ Ok out → IsArenas (length tenants) out
+pub arenas_in-holds : (tenants : List Tenant) (entries : List Members) (out : Arenas) → arenas_in tenants entries ≡ Ok out → IsArenas (length tenants) out
 unfolding arenas_in
-arenas_in-holds tenants rows out e =
-    in_turn-keeps (arena_at tenants) (IsArenas (length tenants)) (arena_at-keeps tenants) no_arenas rows out e record {
+arenas_in-holds tenants entries out e =
+    in_turn-keeps (arena_at tenants) (IsArenas (length tenants)) (arena_at-keeps tenants) no_arenas entries out e record {
       each = refl;
-      rows = All-nil (λ (row : List Bool). length row ≡ length tenants);
+      by_tenant = All-nil (λ (admitted : List Bool). length admitted ≡ length tenants);
       in_arenas = All-nil (λ arena. arena < 0);
       few = omega arith;
     }

@@ -22,23 +22,23 @@ with_tenant-is done out name limit e =
       | inr new ↦ let f : Ok (done ++ record { name = name; limit = limit } ∷ []) ≡ Ok out = rw new at e in cc
     ]
 
-tenant_at-is : (done : List Tenant) (row : Members) (out : List Tenant) → tenant_at done row ≡ Ok out → (tenant : Tenant) × (out ≡ done ++ tenant ∷ []) × (tenant.limit < 2 ^ 32)
+tenant_at-is : (done : List Tenant) (entry : Members) (out : List Tenant) → tenant_at done entry ≡ Ok out → (tenant : Tenant) × (out ≡ done ++ tenant ∷ []) × (tenant.limit < 2 ^ 32)
 unfolding tenant_at
-tenant_at-is done row out e =
-    let (known, at1, e1) = bind_at (known_keys level.Tenant row) _ out e in
-    let (name, at2, e2) = bind_at (name_at key.Name row) _ out e1 in
-    let (limit, at3, e3) = bind_at (whole_at key.Limit 0 4294967295 row) _ out e2 in
-    let range = whole_at-range key.Limit 0 4294967295 row limit at3 in
+tenant_at-is done entry out e =
+    let (known, at1, e1) = bind_at (known_keys level.Tenant entry) _ out e in
+    let (name, at2, e2) = bind_at (name_at key.Name entry) _ out e1 in
+    let (limit, at3, e3) = bind_at (whole_at key.Limit 0 4294967295 entry) _ out e2 in
+    let range = whole_at-range key.Limit 0 4294967295 entry limit at3 in
     (record { name = name; limit = limit }, with_tenant-is done out name limit e3, omega (arith, range))
 
-pub tenants_in-length : (rows : List Members) (out : List Tenant) → tenants_in rows ≡ Ok out → length out ≡ length rows
+pub tenants_in-length : (entries : List Members) (out : List Tenant) → tenants_in entries ≡ Ok out → length out ≡ length entries
 unfolding tenants_in
-tenants_in-length rows out e =
-    in_turn-counts tenant_at length (λ done row next at. let (tenant, is, range) = tenant_at-is done row next at in rw is (length_push done tenant)) [] rows out e ∙ zero-add (length rows)
+tenants_in-length entries out e =
+    in_turn-counts tenant_at length (λ done entry next at. let (tenant, is, range) = tenant_at-is done entry next at in rw is (length_push done tenant)) [] entries out e ∙ zero-add (length entries)
 
-pub tenants_in-limits : (rows : List Members) (out : List Tenant) → tenants_in rows ≡ Ok out → All (λ tenant. tenant.limit < 2 ^ 32) out
+pub tenants_in-limits : (entries : List Members) (out : List Tenant) → tenants_in entries ≡ Ok out → All (λ tenant. tenant.limit < 2 ^ 32) out
 unfolding tenants_in
-tenants_in-limits rows out e =
+tenants_in-limits entries out e =
     in_turn-keeps tenant_at (λ (tenants : List Tenant). All (λ tenant. tenant.limit < 2 ^ 32) tenants)
-    (λ done row next at kept. let (tenant, is, range) = tenant_at-is done row next at in rw is (All-push (λ (tenant : Tenant). tenant.limit < 2 ^ 32) done tenant kept range))
-    [] rows out e (All-nil (λ (tenant : Tenant). tenant.limit < 2 ^ 32))
+    (λ done entry next at kept. let (tenant, is, range) = tenant_at-is done entry next at in rw is (All-push (λ (tenant : Tenant). tenant.limit < 2 ^ 32) done tenant kept range))
+    [] entries out e (All-nil (λ (tenant : Tenant). tenant.limit < 2 ^ 32))
