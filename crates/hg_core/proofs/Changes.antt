@@ -27,18 +27,18 @@ places_kept greatest classes slots place slot all one below k =
 
 -- the state after another slot at one place
 pub state_changed : (a : Inside) (s : State) (place : ℕ) (slot : Slot) → state_of a ≡ s → place < length s.records
-    → record (state_of a) { records = records_from (set a.slots.items place slot) a.words.items } ≡ with_record s place (record_from a.words.items place slot)
+    → record (state_of a) { records = records_from (set a.slots.items.items place slot) a.words.items.items } ≡ with_record s place (record_from a.words.items.items place slot)
 state_changed a s place slot e h =
     ap (λ r. record (state_of a) { records = r })
-    (records_after a.slots.items a.words.items a.words.items place slot (slot_within a s place e h) (λ k below ne. refl))
-    ∙ ap (λ t. with_record t place (record_from a.words.items place slot)) e
+    (records_after a.slots.items.items a.words.items.items a.words.items.items place slot (slot_within a s place e h) (λ k below ne. refl))
+    ∙ ap (λ t. with_record t place (record_from a.words.items.items place slot)) e
 
 -- the state after a worker took a segment
 pub state_adopted : (a : Inside) (s : State) (worker segment at : ℕ) (orphans : List ℕ) → state_of a ≡ s → at ≡ segment
     → orphans ≡ filter (λ other. not (other == segment)) a.orphans.items
-    → record (state_of a) { holders = map holder_of (set a.holders.items at (holder.Held worker)); orphans = orphans } ≡ adopted s worker segment
+    → record (state_of a) { holders = map holder_of (set a.holders.items.items at (holder.Held worker)); orphans = orphans } ≡ adopted s worker segment
 state_adopted a s worker segment at orphans e f o =
-    ap (λ n. record (state_of a) { holders = map holder_of (set a.holders.items n (holder.Held worker)); orphans = orphans }) f
-    ∙ ap (λ hs. record (state_of a) { holders = hs; orphans = orphans }) (map-set holder_of a.holders.items segment (holder.Held worker))
-    ∙ ap (λ os. record (state_of a) { holders = set (map holder_of a.holders.items) segment (held worker); orphans = os }) o
+    ap (λ n. record (state_of a) { holders = map holder_of (set a.holders.items.items n (holder.Held worker)); orphans = orphans }) f
+    ∙ ap (λ hs. record (state_of a) { holders = hs; orphans = orphans }) (map-set holder_of a.holders.items.items segment (holder.Held worker))
+    ∙ ap (λ os. record (state_of a) { holders = set (map holder_of a.holders.items.items) segment (held worker); orphans = os }) o
     ∙ ap (λ t. adopted t worker segment) e

@@ -85,22 +85,22 @@ places_after greatest classes slots place size slot all is one given most owner 
     ]
 
 -- the records after a place was given out as a block of zero words
-records_given : (a : Inside) (words' : List ℕ) (place generation owner size : ℕ) → IsStored a → place < length a.slots.items → 1 ≤ size → index_of place < places_of size
-    → ((class : ℕ) → slice_index_or a.classes.items (page_of place) None ≡ Some class → class ≡ size)
-    → Clears a.words.items words' (first_word place size) size
-    → records_from (set a.slots.items place (record { generation = generation; standing = standing.Live; owner = owner; size = size })) words'
-    ≡ set (records_from a.slots.items a.words.items) place (record { generation = generation; life = live owner (replicate size 0) })
+records_given : (a : Inside) (words' : List ℕ) (place generation owner size : ℕ) → IsStored a → place < length a.slots.items.items → 1 ≤ size → index_of place < places_of size
+    → ((class : ℕ) → slice_index_or a.classes.items.items (page_of place) None ≡ Some class → class ≡ size)
+    → Clears a.words.items.items words' (first_word place size) size
+    → records_from (set a.slots.items.items place (record { generation = generation; standing = standing.Live; owner = owner; size = size })) words'
+    ≡ set (records_from a.slots.items.items a.words.items.items) place (record { generation = generation; life = live owner (replicate size 0) })
 records_given a words' place generation owner size stored below one within class clears =
     let segments = length a.policy.segments in
     let slot : Slot = record { generation = generation; standing = standing.Live; owner = owner; size = size } in
     let fits : first_word place size + size ≤ segments * 8192 = block_within place size segments one (omega (arith, stored.slots)) within in
-    records_after a.slots.items a.words.items words' place slot below
-    (λ k h ne. kept_record a.words.items words' a.classes.items a.slots.items segments place size k (record { len = clears.len; below = clears.below; above = clears.above }) stored.words stored.slots ((stored.places k).block) one within class h ne)
-    ∙ ap (λ words. set (records_from a.slots.items a.words.items) place (record { generation = generation; life = live owner words }))
+    records_after a.slots.items.items a.words.items.items words' place slot below
+    (λ k h ne. kept_record a.words.items.items words' a.classes.items.items a.slots.items.items segments place size k (record { len = clears.len; below = clears.below; above = clears.above }) stored.words stored.slots ((stored.places k).block) one within class h ne)
+    ∙ ap (λ words. set (records_from a.slots.items.items a.words.items.items) place (record { generation = generation; life = live owner words }))
     (zero_part words' (first_word place size) size (omega (arith, clears.len, stored.words)) clears.inside)
 
 -- a place with room has not reached the greatest generation
-pub next_generation : (a : Inside) (s : State) (size place : ℕ) (slot : Slot) → state_of a ≡ s → IsStored a → IsUsableAt s size place → slot ≡ slice_index_or a.slots.items place unused
+pub next_generation : (a : Inside) (s : State) (size place : ℕ) (slot : Slot) → state_of a ≡ s → IsStored a → IsUsableAt s size place → slot ≡ slice_index_or a.slots.items.items place unused
     → slot.generation + 1 ≤ a.policy.max_generation
 next_generation a s size place slot e stored room read =
     let same : (record_at s place).generation ≡ slot.generation = ap (λ r. r.generation) (record_is a s place slot e read) in
@@ -114,24 +114,24 @@ next_generation a s size place slot e stored room read =
 
 -- the class of a place's page is the wanted one, if it has one
 pub class_known : (a : Inside) (s : State) (size place : ℕ) → state_of a ≡ s → IsUsableAt s size place
-    → (class : ℕ) → slice_index_or a.classes.items (page_of place) None ≡ Some class → class ≡ size
+    → (class : ℕ) → slice_index_or a.classes.items.items (page_of place) None ≡ Some class → class ≡ size
 class_known a s size place e room class h = room.page class (ap (λ t. class_at t (page_of place)) (sym e) ∙ h)
 
 -- the state after a place was given out
 pub state_given : (a : Inside) (s : State) (actor size size' place generation : ℕ) (words' : List ℕ) (handle : Handle)
     → state_of a ≡ s → size' ≡ size → IsStored a → IsUsableAt s size place → 1 ≤ size
-    → Clears a.words.items words' (first_word place size) size
+    → Clears a.words.items.items words' (first_word place size) size
     → number_of handle.place ≡ place → page_number handle.place ≡ page_of place → handle.generation ≡ generation
     → record (state_of a) {
-      records = records_from (set a.slots.items place (record { generation = generation; standing = standing.Live; owner = actor; size = size' })) words';
-      classes = set a.classes.items (page_of place) (Some size);
+      records = records_from (set a.slots.items.items place (record { generation = generation; standing = standing.Live; owner = actor; size = size' })) words';
+      classes = set a.classes.items.items (page_of place) (Some size);
     }
     ≡ given_out s actor handle size
 state_given a s actor size size' place generation words' handle e f stored room one clears n q g =
     let slot : ℕ → Slot = λ z. record { generation = generation; standing = standing.Live; owner = actor; size = z } in
     let put : State → ℕ → ℕ → ℕ → State = λ t at page life.
     record t { records = set t.records at (record { generation = life; life = live actor (replicate size 0) }); classes = set t.classes page (Some size) } in
-    let sized : State → ℕ → State = λ t z. record t { records = records_from (set a.slots.items place (slot z)) words'; classes = set t.classes (page_of place) (Some size) } in
+    let sized : State → ℕ → State = λ t z. record t { records = records_from (set a.slots.items.items place (slot z)) words'; classes = set t.classes (page_of place) (Some size) } in
     let kept : State → List Record → State = λ t r. record t { records = r; classes = set t.classes (page_of place) (Some size) } in
     ap (sized (state_of a)) f
     ∙ ap (kept (state_of a))

@@ -36,15 +36,15 @@ home_standing standing.Live owner words e = absurd (cc)
 home_standing standing.Parted owner words e = absurd (cc)
 
 -- the slots of an idle page are home
-idle_slot : (a : Inside) (s : State) (page place : ℕ) → state_of a ≡ s → is_idle s page ≡ true → page_of place ≡ page → (slice_index_or a.slots.items place unused).standing ≡ standing.Home
+idle_slot : (a : Inside) (s : State) (page place : ℕ) → state_of a ≡ s → is_idle s page ≡ true → page_of place ≡ page → (slice_index_or a.slots.items.items place unused).standing ≡ standing.Home
 idle_slot a s page place e idle same =
-    let slot = slice_index_or a.slots.items place unused in
+    let slot = slice_index_or a.slots.items.items place unused in
     let here : is_home (record_at s place).life ≡ true = all_at (λ p. is_home (record_at s p).life) (page * 512) 512 place idle (omega arith) (omega arith) in
-    home_standing slot.standing slot.owner (block_in a.words.items place slot.size) (ap (λ r. is_home r.life) (sym (record_is a s place slot e refl)) ∙ here)
+    home_standing slot.standing slot.owner (block_in a.words.items.items place slot.size) (ap (λ r. is_home r.life) (sym (record_is a s place slot e refl)) ∙ here)
 
 -- each slot is one of its place where an idle page loses its class
 pub places_cleared : (a : Inside) (s : State) (page : ℕ) → state_of a ≡ s → IsStored a → is_idle s page ≡ true
-    → (place : ℕ) → IsSlotOf a.policy.max_generation (set a.classes.items page None) place (slice_index_or a.slots.items place unused)
+    → (place : ℕ) → IsSlotOf a.policy.max_generation (set a.classes.items.items page None) place (slice_index_or a.slots.items.items place unused)
 places_cleared a s page e stored idle place =
     let was = stored.places place in
     record {
@@ -53,7 +53,7 @@ places_cleared a s page e stored idle place =
           let differ : page_of place ≢ page = λ same. used (idle_slot a s page place e idle same) in
           let b = was.block used in
           record {
-            class = get_or-set_other a.classes.items page (page_of place) None None differ ∙ b.class;
+            class = get_or-set_other a.classes.items.items page (page_of place) None None differ ∙ b.class;
             within = b.within;
             given_out = b.given_out;
             sized = b.sized;

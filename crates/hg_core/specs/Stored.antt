@@ -1,5 +1,5 @@
 -- What the plain store means, and what holds of it.
-use Rattle.std.specs.Prelude.{◌≡◌, ◌≢◌, ℕ, ◌*◌, ◌<◌, ◌≤◌, Option, Some, None, vec_capacity}
+use Rattle.std.specs.Prelude.{◌≡◌, ◌≢◌, ℕ, ◌*◌, ◌<◌, ◌≤◌, Option, Some, None}
 use Rattle.std.specs.Prelude.{List, length, map, slice_index_or}
 use Rattle.hg_size.specs.Sizes.{places_of}
 use Rattle.hg_place.specs.Places.{page_of, index_of}
@@ -15,11 +15,11 @@ use Rattle.hg_core.specs.declared.store.Store.TheInside.{Inside}
 abbrev pub state_of : Inside → State
 state_of a = record {
   policy = a.policy;
-  records = records_from a.slots.items a.words.items;
-  classes = a.classes.items;
-  holders = map holder_of a.holders.items;
+  records = records_from a.slots.items.items a.words.items.items;
+  classes = a.classes.items.items;
+  holders = map holder_of a.holders.items.items;
   orphans = a.orphans.items;
-  hands = a.hands.items;
+  hands = a.hands.items.items;
 }
 
 -- a slot that is live or parted stands in a page of its size, and its block within the page
@@ -36,17 +36,15 @@ pub record IsSlotOf (greatest : ℕ) (classes : List (Option ℕ)) (place : ℕ)
   pub generation : slot.generation ≤ greatest
   pub block : slot.standing ≢ standing.Home → IsBlock classes place slot
 
--- there is an entry for each number, each slot is one of its place, and the list of orphans has
--- room for all segments
+-- there is an entry for each number, and each slot is one of its place
 pub record IsStored (a : Inside) : Type 0 where
   pub policy : IsSoundPolicy a.policy
-  pub slots : length a.slots.items ≡ length a.policy.segments * 8192
-  pub words : length a.words.items ≡ length a.policy.segments * 8192
-  pub classes : length a.classes.items ≡ length a.policy.segments * 16
-  pub holders : length a.holders.items ≡ length a.policy.segments
-  pub hands : length a.hands.items ≡ a.policy.workers
-  pub orphans : length a.policy.segments ≤ vec_capacity a.orphans
+  pub slots : length a.slots.items.items ≡ length a.policy.segments * 8192
+  pub words : length a.words.items.items ≡ length a.policy.segments * 8192
+  pub classes : length a.classes.items.items ≡ length a.policy.segments * 16
+  pub holders : length a.holders.items.items ≡ length a.policy.segments
+  pub hands : length a.hands.items.items ≡ a.policy.workers
   pub places :
       (place : ℕ)
-      → IsSlotOf a.policy.max_generation a.classes.items place
-      (slice_index_or a.slots.items place unused)
+      → IsSlotOf a.policy.max_generation a.classes.items.items place
+      (slice_index_or a.slots.items.items place unused)

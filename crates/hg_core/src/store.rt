@@ -10,9 +10,11 @@ ghost use Rattle.hg_machine.specs.State.{opening};
 
 use crate::holder::Holder;
 use crate::slot::{Slot, Standing};
+use arrayvec::ArrayVec;
 use hg_policy::Policy;
 use hg_size::Class;
 use std::alloc::{AllocError, Global};
+use std::boxed::BoxedSlice;
 use std::marker::Model;
 
 /// What is kept of all places, pages, segments and workers, seen as a state of the machine.
@@ -20,17 +22,17 @@ use std::marker::Model;
 pub struct Store {
     policy: Policy,
     /// By place.
-    slots: Vec<Slot>,
+    slots: BoxedSlice<Slot>,
     /// 512 for each page. A block's words begin at its index times its size.
-    words: Vec<u64>,
+    words: BoxedSlice<u64>,
     /// By page.
-    classes: Vec<Option<Class>>,
+    classes: BoxedSlice<Option<Class>>,
     /// By segment.
-    holders: Vec<Holder>,
-    /// Oldest first, with room for all segments.
-    orphans: Vec<u8>,
+    holders: BoxedSlice<Holder>,
+    /// Oldest first, with room for as many segments as a policy may have.
+    orphans: ArrayVec<u8, 64>,
     /// By worker, the number of a place.
-    hands: Vec<Option<u32>>,
+    hands: BoxedSlice<Option<u32>>,
 }
 
 impl Model for Store {
@@ -63,16 +65,15 @@ impl Store {
         let words = vec![in alloc; 0u64; segments * 8192]?;
         let classes = vec![in alloc; None; segments * 16]?;
         let holders = vec![in alloc; Holder::Fresh; segments]?;
-        let orphans = Vec::with_capacity(alloc, segments)?;
         let hands = vec![in alloc; None; workers]?;
         Ok(Store {
             policy,
-            slots,
-            words,
-            classes,
-            holders,
-            orphans,
-            hands,
+            slots: slots.into_boxed_slice(),
+            words: words.into_boxed_slice(),
+            classes: classes.into_boxed_slice(),
+            holders: holders.into_boxed_slice(),
+            orphans: ArrayVec::new(),
+            hands: hands.into_boxed_slice(),
         })
     }
 }

@@ -34,7 +34,7 @@ impl Store {
         ensures { self.new ≡ abandoned self.old segment }
     {
         self.holders[usize::from(segment)] = Holder::Orphan;
-        self.orphans.push_reserved(segment);
+        self.orphans.push(segment);
     }
 
     /// Gives out the place as a block of the class, with zero words.

@@ -8,9 +8,8 @@ invariant_of-self c = record {
   policy = c.self.invariant.policy;
   slots = c.self.invariant.slots;
   words = c.self.invariant.words;
-  classes = length-set c.self.inside.classes.items c.args.page _ ∙ c.self.invariant.classes;
+  classes = length-set c.self.inside.classes.items.items c.args.page _ ∙ c.self.invariant.classes;
   holders = c.self.invariant.holders;
   hands = c.self.invariant.hands;
-  orphans = c.self.invariant.orphans;
   places = places_cleared c.self.inside c.args.self.now c.args.page c.self.view_is c.self.invariant c.requires.idle;
 }

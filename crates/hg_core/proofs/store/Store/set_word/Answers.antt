@@ -7,7 +7,7 @@ index_mut-requires c =
     let word =
     word_is c.self.inside c.args.self.now c.args.place c.block_len.result c.first_word-start.result c.args.index c.self.view_is c.self.invariant c.requires
     c.block_len.ensures.len c.first_word-start.ensures in
-    omega (arith, word.within, c.self.inside.words.ok.0)
+    omega (arith, word.within, c.self.inside.words.items.ok.0)
 
 pub returns : goal.returns
 returns c =
