@@ -3,6 +3,8 @@ use Rattle.std.specs.Prelude.{◌≡◌, ◌≢◌, ℕ, ◌*◌, ◌<◌, ◌�
 use Rattle.std.specs.Prelude.{List, length, map, slice_index_or}
 use Rattle.hg_size.specs.Sizes.{places_of}
 use Rattle.hg_place.specs.Places.{page_of, index_of}
+use Rattle.hg_place.specs.declared.geometry.TheConstants.{SEGMENT_PAGES, SEGMENT_PLACES}
+use Rattle.hg_place.specs.declared.geometry.TheConstants.{SEGMENT_WORDS}
 use Rattle.hg_machine.specs.SoundPolicy.{IsSoundPolicy}
 use Rattle.hg_machine.specs.State.{State}
 use Rattle.hg_core.specs.Slots.{unused, records_from}
@@ -39,9 +41,9 @@ pub record IsSlotOf (greatest : ℕ) (classes : List (Option ℕ)) (place : ℕ)
 -- there is an entry for each number, and each slot is one of its place
 pub record IsStored (a : Inside) : Type 0 where
   pub policy : IsSoundPolicy a.policy
-  pub slots : length a.slots.items.items ≡ length a.policy.segments * 8192
-  pub words : length a.words.items.items ≡ length a.policy.segments * 8192
-  pub classes : length a.classes.items.items ≡ length a.policy.segments * 16
+  pub slots : length a.slots.items.items ≡ length a.policy.segments * SEGMENT_PLACES
+  pub words : length a.words.items.items ≡ length a.policy.segments * SEGMENT_WORDS
+  pub classes : length a.classes.items.items ≡ length a.policy.segments * SEGMENT_PAGES
   pub holders : length a.holders.items.items ≡ length a.policy.segments
   pub hands : length a.hands.items.items ≡ a.policy.workers
   pub places :

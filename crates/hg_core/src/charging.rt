@@ -3,7 +3,7 @@ ghost use Rattle.hg_machine.specs.Charge.{share, charge};
 
 use crate::slot::Standing;
 use crate::store::Store;
-use hg_place::Actor;
+use hg_place::{Actor, WORD_BYTES};
 
 impl Store {
     /// What a place adds to a tenant's charge with the worker, in bytes.
@@ -17,7 +17,7 @@ impl Store {
             return 0;
         }
         if self.holds(worker, self.segment_of(place)) {
-            8 * u64::from(slot.size)
+            WORD_BYTES as u64 * u64::from(slot.size)
         } else {
             0
         }

@@ -9,6 +9,7 @@ ghost use Rattle.hg_machine.specs.Steps.{Step};
 use crate::slot::Standing;
 use crate::store::Store;
 use hg_machine::{Answer, Event};
+use hg_place::PAGE_PLACES;
 
 impl Store {
     /// Whether the place is home.
@@ -25,7 +26,7 @@ impl Store {
         ensures { result ≡ is_idle self.now page }
     {
         let start = self.first_place(page);
-        for place in start..start + 512 {
+        for place in start..start + PAGE_PLACES {
             let home = self.is_home(place);
             if !home {
                 return false;

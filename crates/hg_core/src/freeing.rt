@@ -1,7 +1,6 @@
 ghost use Rattle.std.specs.Prelude.{◌<◌};
 ghost use Rattle.hg_machine.specs.Steps.{Step};
 
-use crate::numbers::place_number;
 use crate::store::Store;
 use hg_machine::{Answer, Event};
 use hg_place::{Actor, Handle, Right};
@@ -15,7 +14,7 @@ impl Store {
         if let Some(rule) = self.denial(actor, Right::Free, handle) {
             return Answer::Denied(rule);
         }
-        let place = place_number(handle.place);
+        let place = handle.place.number();
         if self.holds(worker, handle.place.segment) {
             self.make_home(place);
             return Answer::Done;

@@ -4,7 +4,6 @@ ghost use Rattle.hg_place.specs.Slots.{slot_in};
 ghost use Rattle.hg_machine.specs.Denial.{slot_at, denial};
 ghost use Rattle.hg_core.specs.Rooms.{IsLiveAt};
 
-use crate::numbers::place_number;
 use crate::store::Store;
 use hg_decision::{Rule, Verdict, judge};
 use hg_place::{Actor, Handle, Place, Right};
@@ -14,7 +13,7 @@ impl Store {
     fn observed_word(&self, place: Place) -> u64
         ensures { slot_in result ≡ slot_at self.now (number_of place) }
     {
-        let number = place_number(place);
+        let number = place.number();
         if number < self.count_places() {
             self.slot_at(number).word()
         } else {

@@ -5,17 +5,16 @@ ghost use Rattle.hg_machine.specs.Served.{IsRow};
 ghost use Rattle.hg_machine.specs.Steps.{Step};
 ghost use Rattle.hg_core.specs.Rooms.{IsLiveAt};
 
-use crate::numbers::place_number;
 use crate::store::Store;
 use hg_machine::{Answer, Event, Row};
-use hg_place::{Actor, Handle, Place, Right};
+use hg_place::{Actor, Handle, Place, Right, WORD_BYTES};
 
 impl Store {
     /// The generation of a place, 0 where there is no such segment.
     fn generation_of(&self, place: Place) -> u32
         ensures { result ≡ (record_at self.now (number_of place)).generation }
     {
-        let number = place_number(place);
+        let number = place.number();
         if number < self.count_places() {
             self.slot_at(number).generation
         } else {
@@ -28,14 +27,14 @@ impl Store {
         requires { IsLiveAt self.now (number_of place) }
         ensures { IsRow self.now place result }
     {
-        let slot = self.slot_at(place_number(place));
+        let slot = self.slot_at(place.number());
         Row {
             handle: Handle {
                 place,
                 generation: slot.generation,
             },
             owner: slot.owner,
-            bytes: 8 * u32::from(slot.size),
+            bytes: WORD_BYTES as u32 * u32::from(slot.size),
         }
     }
 

@@ -1,37 +1,29 @@
-//! Places and their numbers, counted over all segments.
+//! Handles of places by their numbers, and where a block's words begin.
 
-ghost use Rattle.std.specs.Prelude.{◌≡◌, ◌<◌, ◌≤◌, ◌^◌};
+ghost use Rattle.std.specs.Prelude.{◌≡◌, ◌*◌, ◌<◌, ◌≤◌};
 ghost use Rattle.hg_place.specs.Places.{number_of, page_number, page_of, first_word};
+ghost use Rattle.hg_place.specs.declared.geometry.TheConstants.{MAX_SEGMENTS, SEGMENT_PLACES};
 
-use hg_place::{Handle, Place};
+use hg_place::{Handle, PAGE_PLACES, PAGE_WORDS, place_at};
 
 /// A life of the place with this number.
 pub fn handle_at(place: usize, generation: u32) -> Handle
-    requires below { place < 2 ^ 19 }
+    requires below { place < MAX_SEGMENTS * SEGMENT_PLACES }
     requires given_out { 1 ≤ generation }
     ensures place { number_of result.place ≡ place }
     ensures page { page_number result.place ≡ page_of place }
     ensures generation { result.generation ≡ generation }
 {
-    let place = Place {
-        segment: (place / 8192) as u8,
-        page: (place / 512 % 16) as u8,
-        index: (place % 512) as u16,
-    };
-    Handle { place, generation }
-}
-
-/// The number of a place.
-pub fn place_number(place: Place) -> usize
-    ensures number { result ≡ number_of place }
-{
-    (usize::from(place.segment) * 16 + usize::from(place.page)) * 512 + usize::from(place.index)
+    Handle {
+        place: place_at(place),
+        generation,
+    }
 }
 
 /// The word at which a block of so many words begins.
 pub fn first_word(place: usize, size: u16) -> usize
-    requires { place < 2 ^ 19 }
+    requires { place < MAX_SEGMENTS * SEGMENT_PLACES }
     ensures { result ≡ first_word place size }
 {
-    place / 512 * 512 + place % 512 * usize::from(size)
+    place / PAGE_PLACES * PAGE_WORDS + place % PAGE_PLACES * usize::from(size)
 }

@@ -4,7 +4,6 @@ ghost use Rattle.hg_machine.specs.Refusal.{reach_refusal};
 ghost use Rattle.hg_machine.specs.Steps.{Step};
 ghost use Rattle.hg_core.specs.Rooms.{IsWordAt};
 
-use crate::numbers::place_number;
 use crate::store::Store;
 use hg_machine::{Answer, Event};
 use hg_place::{Actor, Handle, Right};
@@ -28,7 +27,7 @@ impl Store {
         if !self.holds(worker, handle.place.segment) {
             return Some(Answer::Elsewhere);
         }
-        if index >= u32::from(self.block_len(place_number(handle.place))) {
+        if index >= u32::from(self.block_len(handle.place.number())) {
             return Some(Answer::OutOfBlock);
         }
         None
@@ -40,7 +39,7 @@ impl Store {
     {
         match self.reach_refusal(worker, actor, Right::Read, handle, index) {
             Some(refused) => refused,
-            None => Answer::Value(self.word_at(place_number(handle.place), index)),
+            None => Answer::Value(self.word_at(handle.place.number(), index)),
         }
     }
 
@@ -58,7 +57,7 @@ impl Store {
         match self.reach_refusal(worker, actor, Right::Write, handle, index) {
             Some(refused) => refused,
             None => {
-                self.set_word(place_number(handle.place), index, value);
+                self.set_word(handle.place.number(), index, value);
                 Answer::Done
             }
         }

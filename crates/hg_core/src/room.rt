@@ -6,6 +6,7 @@ ghost use Rattle.hg_core.specs.Rooms.{HasRoomAt};
 
 use crate::slot::Standing;
 use crate::store::Store;
+use hg_place::PAGE_PLACES;
 use hg_size::{Class, block_words, per_page};
 
 /// Whether both are the same class, or neither is one.
@@ -49,7 +50,7 @@ impl Store {
         self.holds(worker, segment)
             && self.is_in_arena(segment, arena)
             && same_class(self.class_of(place), *wanted)
-            && place % 512 < usize::from(per_page(class))
+            && place % PAGE_PLACES < usize::from(per_page(class))
             && self.is_free(place)
     }
 

@@ -11,6 +11,7 @@ ghost use Rattle.hg_machine.specs.State.{opening};
 use crate::holder::Holder;
 use crate::slot::{Slot, Standing};
 use arrayvec::ArrayVec;
+use hg_place::{MAX_SEGMENTS, SEGMENT_PAGES, SEGMENT_PLACES, SEGMENT_WORDS};
 use hg_policy::Policy;
 use hg_size::Class;
 use std::alloc::{AllocError, Global};
@@ -23,14 +24,14 @@ pub struct Store {
     policy: Policy,
     /// By place.
     slots: BoxedSlice<Slot>,
-    /// 512 for each page. A block's words begin at its index times its size.
+    /// `PAGE_WORDS` for each page. A block's words begin at its index times its size.
     words: BoxedSlice<u64>,
     /// By page.
     classes: BoxedSlice<Option<Class>>,
     /// By segment.
     holders: BoxedSlice<Holder>,
     /// Oldest first, with room for as many segments as a policy may have.
-    orphans: ArrayVec<u8, 64>,
+    orphans: ArrayVec<u8, MAX_SEGMENTS>,
     /// By worker, the number of a place.
     hands: BoxedSlice<Option<u32>>,
 }
@@ -61,9 +62,9 @@ impl Store {
             owner: 0,
             size: 0,
         };
-        let slots = vec![in alloc; unused; segments * 8192]?;
-        let words = vec![in alloc; 0u64; segments * 8192]?;
-        let classes = vec![in alloc; None; segments * 16]?;
+        let slots = vec![in alloc; unused; segments * SEGMENT_PLACES]?;
+        let words = vec![in alloc; 0u64; segments * SEGMENT_WORDS]?;
+        let classes = vec![in alloc; None; segments * SEGMENT_PAGES]?;
         let holders = vec![in alloc; Holder::Fresh; segments]?;
         let hands = vec![in alloc; None; workers]?;
         Ok(Store {

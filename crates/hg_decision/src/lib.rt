@@ -8,7 +8,7 @@ ghost use Rattle.hg_machine.specs.Denial.{denial_on, verdict_of};
 ghost use Rattle.hg_machine.specs.Request.{alloc_verdict};
 
 pub use hg_machine::{AllocVerdict, Rule, Verdict};
-use hg_place::{Actor, Handle, Right, SlotState, unpack};
+use hg_place::{Actor, Handle, Right, SlotState, WORD_BYTES, unpack};
 use hg_policy::Policy;
 use hg_size::{block_words, class_of};
 
@@ -90,7 +90,7 @@ pub fn judge_alloc(
     let Some(class) = class_of(words) else {
         return AllocVerdict::TooLarge;
     };
-    let bytes = 8 * u64::from(block_words(class));
+    let bytes = WORD_BYTES as u64 * u64::from(block_words(class));
     if bytes <= limit && charge <= limit - bytes {
         AllocVerdict::Fits(class)
     } else {

@@ -14,7 +14,7 @@ use crate::numbers::{first_word, handle_at};
 use crate::slot::{Slot, Standing};
 use crate::store::Store;
 use crate::words::clear_words;
-use hg_place::{Actor, Handle};
+use hg_place::{Actor, Handle, PAGE_PLACES};
 use hg_size::{Class, block_words};
 
 impl Store {
@@ -54,7 +54,7 @@ impl Store {
             size,
         };
         clear_words(&mut self.words, first_word(place, size), usize::from(size));
-        self.classes[place / 512] = Some(class);
+        self.classes[place / PAGE_PLACES] = Some(class);
         handle_at(place, generation)
     }
 

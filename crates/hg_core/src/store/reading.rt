@@ -1,8 +1,9 @@
 //! What a store tells of its state.
 
-ghost use Rattle.std.specs.Prelude.{◌≡◌, ◌≤◌, ◌<◌, ◌^◌, length, find, slice_index};
+ghost use Rattle.std.specs.Prelude.{◌≡◌, ◌*◌, ◌≤◌, ◌<◌, length, find, slice_index};
 ghost use Rattle.std.specs.List.{range_with_len};
 ghost use Rattle.hg_place.specs.Places.{page_of, segment_of};
+ghost use Rattle.hg_place.specs.declared.geometry.TheConstants.{MAX_SEGMENTS, SEGMENT_PLACES};
 ghost use Rattle.hg_machine.specs.SoundPolicy.{IsSoundPolicy};
 ghost use Rattle.hg_machine.specs.State.{record_at, class_at, hand_of};
 ghost use Rattle.hg_machine.specs.Life.{contents_of};
@@ -15,6 +16,7 @@ use crate::holder::Holder;
 use crate::numbers::first_word;
 use crate::slot::Slot;
 use crate::store::Store;
+use hg_place::{PAGE_PLACES, SEGMENT_PLACES};
 use hg_policy::Policy;
 use hg_size::Class;
 
@@ -30,7 +32,7 @@ impl Store {
     /// How many places there are.
     pub fn count_places(&self) -> usize
         ensures count { result ≡ length self.now.records }
-        ensures few { result ≤ 2 ^ 19 }
+        ensures few { result ≤ MAX_SEGMENTS * SEGMENT_PLACES }
     {
         self.slots.len()
     }
@@ -49,7 +51,7 @@ impl Store {
         ensures { result ≡ segment_of place }
     {
         let _slots = &self.slots;
-        (place / 8192) as u8
+        (place / SEGMENT_PLACES) as u8
     }
 
     /// The class of the page of a place.
@@ -57,7 +59,7 @@ impl Store {
         requires { place < length self.now.records }
         ensures { result ≡ class_at self.now (page_of place) }
     {
-        self.classes[place / 512]
+        self.classes[place / PAGE_PLACES]
     }
 
     /// Whether the worker holds the segment, if there is such a one.
@@ -102,7 +104,7 @@ impl Store {
     /// How many segments there are.
     fn count_segments(&self) -> u8
         ensures count { result ≡ length self.now.holders }
-        ensures few { result ≤ 64 }
+        ensures few { result ≤ MAX_SEGMENTS }
     {
         self.holders.len() as u8
     }
@@ -125,7 +127,7 @@ impl Store {
     pub fn block_len(&self, place: usize) -> u16
         requires { IsLiveAt self.now place }
         ensures len { result ≡ length (contents_of (record_at self.now place).life) }
-        ensures place { place < 2 ^ 19 }
+        ensures place { place < MAX_SEGMENTS * SEGMENT_PLACES }
     {
         self.slots[place].size
     }

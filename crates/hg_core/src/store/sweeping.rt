@@ -1,14 +1,17 @@
 //! Pages, and the places that stand in no hand.
 
-ghost use Rattle.std.specs.Prelude.{◌≡◌, ◌+◌, ◌*◌, ◌≤◌, ◌<◌, ◌^◌, true, None, length, is_some};
+ghost use Rattle.std.specs.Prelude.{◌≡◌, ◌+◌, ◌*◌, ◌≤◌, ◌<◌, true, None, length, is_some};
 ghost use Rattle.std.specs.Prelude.{slice_set};
 ghost use Rattle.std.specs.List.{list_any};
 ghost use Rattle.hg_place.specs.Places.{segment_of_page};
+ghost use Rattle.hg_place.specs.declared.geometry.TheConstants.{MAX_SEGMENTS, SEGMENT_PAGES};
+ghost use Rattle.hg_place.specs.declared.geometry.TheConstants.{PAGE_PLACES, SEGMENT_PLACES};
 ghost use Rattle.hg_machine.specs.State.{class_at};
 ghost use Rattle.hg_machine.specs.Holders.{is_number};
 ghost use Rattle.hg_machine.specs.Sweeps.{is_idle};
 
 use crate::store::Store;
+use hg_place::{PAGE_PLACES, SEGMENT_PAGES};
 
 impl Store {
     /// Whether some worker has the place in hand.
@@ -24,7 +27,7 @@ impl Store {
     /// How many pages there are.
     pub fn count_pages(&self) -> usize
         ensures count { result ≡ length self.now.classes }
-        ensures few { result ≤ 1024 }
+        ensures few { result ≤ MAX_SEGMENTS * SEGMENT_PAGES }
     {
         self.classes.len()
     }
@@ -32,12 +35,12 @@ impl Store {
     /// The first place of a page.
     pub fn first_place(&self, page: usize) -> usize
         requires { page < length self.now.classes }
-        ensures first { result ≡ page * 512 }
-        ensures last { result + 512 ≤ length self.now.records }
-        ensures few { result < 2 ^ 19 }
+        ensures first { result ≡ page * PAGE_PLACES }
+        ensures last { result + PAGE_PLACES ≤ length self.now.records }
+        ensures few { result < MAX_SEGMENTS * SEGMENT_PLACES }
     {
         let _slots = &self.slots;
-        page * 512
+        page * PAGE_PLACES
     }
 
     /// The segment of a page.
@@ -46,7 +49,7 @@ impl Store {
         ensures { result ≡ segment_of_page page }
     {
         let _classes = &self.classes;
-        (page / 16) as u8
+        (page / SEGMENT_PAGES) as u8
     }
 
     /// Whether the page has a class.
