@@ -1,8 +1,10 @@
 /* A library to preload that refuses the Nth request for memory, where REFUSE=N, and ends the
-   process with status 99 where there were fewer requests. */
+   process with status 99 where there were fewer requests. Where COUNT=FILE, it writes into that
+   file how many there were. */
 #define _GNU_SOURCE
 #include <dlfcn.h>
 #include <stddef.h>
+#include <stdio.h>
 #include <stdlib.h>
 #include <unistd.h>
 
@@ -51,7 +53,18 @@ int posix_memalign(void **out, size_t align, size_t size)
     return is_refused() ? 12 : real(out, align, size);
 }
 
-__attribute__((destructor)) static void not_reached(void)
+static void write_count(const char *path, long count)
 {
-    if (refused > 0 && requests < refused) _exit(99);
+    FILE *file = fopen(path, "w");
+    if (!file) _exit(98);
+    fprintf(file, "%ld\n", count);
+    if (fclose(file)) _exit(98);
+}
+
+__attribute__((destructor)) static void at_the_end(void)
+{
+    const long count = requests;
+    const char *path = getenv("COUNT");
+    if (path) write_count(path, count);
+    if (refused > 0 && count < refused) _exit(99);
 }
