@@ -5,12 +5,12 @@ use Rattle.std.proofs.lemmas.Bool.{cases_Bool, ltb-true, true≢false}
 use Rattle.std.proofs.lemmas.Bool.Decides.{nat_tests}
 use Rattle.std.proofs.lemmas.Str.Parse.{IsNumeralModel, numerals_by_fold}
 use Rattle.std.proofs.lemmas.Fmt.{decimal_by_steps, decimal-digits_value}
-use Rattle.hg_trace.specs.Numbers.{is_digit, is_numeral, number_on, number_of, number_below}
+use Rattle.hg_trace.specs.Numbers.{is_digit, is_numeral, value_on, decimal_value, number_below}
 use Rattle.hg_trace.proofs.Numerals.{number_below-some}
 use Rattle.hg_trace.specs.NumberLaws.{NumbersAreDecimals}
 
-own : IsNumeralModel (λ digits. list_all is_digit digits ≡ true) (number_on 0)
-own = numerals_by_fold _ (search rules) number_on (search rules)
+own : IsNumeralModel (λ digits. list_all is_digit digits ≡ true) (value_on 0)
+own = numerals_by_fold _ (search rules) value_on (search rules)
 
 both : (a b : Bool) → a && b ≡ true → (a ≡ true) × (b ≡ true)
 both true b h = (refl, h)
@@ -58,14 +58,14 @@ parts_numeral (digit ∷ digits) p =
 -- how a number is written
 record Written (n : ℕ) (word : List ℕ) : Type 0 where
   digits : list_all is_digit word ≡ true
-  value : number_of word ≡ n
+  value : decimal_value word ≡ n
   some : 0 < length word
   first : get_or word 0 0 ≡ 48 → n ≡ 0
   alone : n ≡ 0 → length word ≡ 1
 
-number_on-push : (m d : ℕ) (digits : List ℕ) → number_on m (digits ++ d ∷ []) ≡ 10 * number_on m digits + (d - 48)
-number_on-push m d [] = refl
-number_on-push m d (x ∷ xs) = number_on-push (10 * m + (x - 48)) d xs
+value_on-push : (m d : ℕ) (digits : List ℕ) → value_on m (digits ++ d ∷ []) ≡ 10 * value_on m digits + (d - 48)
+value_on-push m d [] = refl
+value_on-push m d (x ∷ xs) = value_on-push (10 * m + (x - 48)) d xs
 
 all-push : (d : ℕ) (digits : List ℕ) → list_all is_digit digits ≡ true → is_digit d ≡ true → list_all is_digit (digits ++ d ∷ []) ≡ true
 all-push d [] all one = rw one refl
@@ -92,7 +92,7 @@ more_digits : (n : ℕ) (digits : List ℕ) → 10 ≤ n → Written (n / 10) di
 more_digits n digits great w =
     record {
       digits = all-push (48 + n % 10) digits w.digits (is_digit-written (n % 10) (omega arith));
-      value = number_on-push 0 (48 + n % 10) digits ∙ omega (arith, w.value);
+      value = value_on-push 0 (48 + n % 10) digits ∙ omega (arith, w.value);
       some = omega (arith, length-append digits ((48 + n % 10) ∷ []));
       first = first digits w.some w.first;
       alone = λ zero. absurd (omega arith);
@@ -111,12 +111,12 @@ written_parts n word w = record { digits = w.digits; some = w.some; zero_alone =
 reads : (limit n : ℕ) (word : List ℕ) → limit ≤ 2 ^ 64 → number_below limit word ≡ Some n → (word ≡ decimal n) × (n < limit)
 reads limit n word fits h =
     elim (cases_Bool (is_numeral word)) [
-      | inl numeral ↦ elim (cases_Bool (ltb (number_of word) limit)) [
+      | inl numeral ↦ elim (cases_Bool (ltb (decimal_value word) limit)) [
         | inl below ↦
             let p = numeral_parts word numeral in
-            let small : number_of word < limit = ltb-true (number_of word) limit below in
-            let found : Some (number_of word) ≡ Some n = rw (numeral, below) at h in
-            let value : number_of word ≡ n = cc in
+            let small : decimal_value word < limit = ltb-true (decimal_value word) limit below in
+            let found : Some (decimal_value word) ≡ Some n = rw (numeral, below) at h in
+            let value : decimal_value word ≡ n = cc in
             (sym (decimal-digits_value own word p.digits p.some p.zero_alone (omega arith)) ∙ ap decimal value, omega (arith, value))
         | inr past ↦ let none = rw (numeral, past) at h in absurd (cc)
       ]

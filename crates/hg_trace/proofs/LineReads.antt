@@ -8,9 +8,9 @@ use Rattle.hg_trace.specs.declared.fault.LineFault.TheVariants as line_fault
 use Rattle.hg_trace.specs.declared.fault.TraceFault.{TraceFault}
 use Rattle.hg_trace.specs.declared.fault.TraceFault.TheVariants as trace_fault
 use Rattle.hg_trace.specs.Faults.{fault_in}
-use Rattle.hg_trace.specs.Lines.{is_allowed, text_of, words_of}
+use Rattle.hg_trace.specs.Lines.{is_allowed, before_comment, split_words}
 use Rattle.hg_trace.specs.Labels.{repeats, with_label}
-use Rattle.hg_trace.specs.Commands.{worker_at, command_at, words_at}
+use Rattle.hg_trace.specs.Commands.{worker_of, command_at, words_at}
 use Rattle.hg_trace.specs.Trace.{line_at, numbered}
 use Rattle.hg_trace.specs.Reads.{Reads}
 
@@ -20,11 +20,11 @@ module _ (n : ℕ) (labels : List (List ℕ)) where
   no_words = refl
 
   module _ (word : List ℕ) (words : List (List ℕ)) where
-    pub no_worker : (fault : LineFault) → worker_at word ≡ Err fault → numbered n (words_at labels (word ∷ words)) ≡ Err (fault_in n fault)
+    pub no_worker : (fault : LineFault) → worker_of word ≡ Err fault → numbered n (words_at labels (word ∷ words)) ≡ Err (fault_in n fault)
     unfolding words_at
     no_worker fault e = rw e refl
 
-    module _ (worker : ℕ) (works : worker_at word ≡ Ok worker) where
+    module _ (worker : ℕ) (works : worker_of word ≡ Ok worker) where
       pub no_command : (fault : LineFault) → command_at labels words ≡ Err fault → numbered n (words_at labels (word ∷ words)) ≡ Err (fault_in n fault)
       unfolding words_at
       no_command fault e = rw (works, e) refl
@@ -52,10 +52,10 @@ module _ (n : ℕ) (labels : List (List ℕ)) where
             rw p.1 (repeated p.0)
 
   module _ (line : List ℕ) where
-    pub line_words : (text : List ℕ) → list_all is_allowed text ≡ true → text ≡ text_of line → line_at labels line ≡ words_at labels (words_of text)
+    pub line_words : (text : List ℕ) → list_all is_allowed text ≡ true → text ≡ before_comment line → line_at labels line ≡ words_at labels (split_words text)
     unfolding line_at
     line_words text allowed is = rw (sym is, allowed) refl
 
-    pub no_text : list_all is_allowed (text_of line) ≡ false → numbered n (line_at labels line) ≡ Err (fault_in n line_fault.Byte)
+    pub no_text : list_all is_allowed (before_comment line) ≡ false → numbered n (line_at labels line) ≡ Err (fault_in n line_fault.Byte)
     unfolding line_at
     no_text e = rw e refl

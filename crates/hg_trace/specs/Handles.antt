@@ -14,7 +14,7 @@ use Rattle.hg_trace.specs.declared.line.BlockName.TheVariants as block_name
 use Rattle.hg_trace.specs.declared.fault.LineFault.{LineFault}
 use Rattle.hg_trace.specs.declared.fault.LineFault.TheVariants as fault
 use Rattle.hg_trace.specs.Faults.{◌>>=◌}
-use Rattle.hg_trace.specs.Operands.{number_at, end_at}
+use Rattle.hg_trace.specs.Operands.{number_operand, no_operand}
 
 abbrev pub is_dot : ℕ → Bool
 is_dot b = b == 46
@@ -45,22 +45,22 @@ handle_from place generation = record {
 -- segment, page and index
 unfoldable pub place_in : List (List ℕ) → Result (Place × List (List ℕ)) LineFault
 place_in parts = do
-  segment ← number_at 64 parts
-  page ← number_at 16 segment.1
-  index ← number_at 512 page.1
+  segment ← number_operand 64 parts
+  page ← number_operand 16 segment.1
+  index ← number_operand 512 page.1
   Ok (place_from segment.0 page.0 index.0, index.1)
 
 -- a generation is at least 1
 unfoldable pub generation_in : List (List ℕ) → Result (ℕ × List (List ℕ)) LineFault
 generation_in parts = do
-  generation ← number_at (2 ^ 32) parts
+  generation ← number_operand (2 ^ 32) parts
   if generation.0 == 0 then Err fault.Operand else Ok generation
 
 -- the place that a text is
 unfoldable pub place_of : List ℕ → Result Place LineFault
 place_of text = do
   place ← place_in (parts_of text)
-  end ← end_at place.1
+  end ← no_operand place.1
   Ok place.0
 
 -- the handle that the text behind an `@` is
@@ -68,7 +68,7 @@ unfoldable pub handle_of : List ℕ → Result Handle LineFault
 handle_of text = do
   place ← place_in (parts_of text)
   generation ← generation_in place.1
-  end ← end_at generation.1
+  end ← no_operand generation.1
   Ok (handle_from place.0 generation.0)
 
 -- the number of the label that a word is, among these, which stand as lines gave them
@@ -85,11 +85,11 @@ block_of labels (b ∷ bs) =
     else (label_of labels (b ∷ bs) >>= λ label. Ok (option_map (λ n. block_name.Label n) label))
 
 -- as operands
-unfoldable pub place_at : List (List ℕ) → Result (Place × List (List ℕ)) LineFault
-place_at [] = Err fault.Operand
-place_at (word ∷ words) = place_of word >>= λ place. Ok (place, words)
+unfoldable pub place_operand : List (List ℕ) → Result (Place × List (List ℕ)) LineFault
+place_operand [] = Err fault.Operand
+place_operand (word ∷ words) = place_of word >>= λ place. Ok (place, words)
 
-unfoldable pub block_at
+unfoldable pub block_operand
     : List (List ℕ) → List (List ℕ) → Result (Option BlockName × List (List ℕ)) LineFault
-block_at labels [] = Err fault.Operand
-block_at labels (word ∷ words) = block_of labels word >>= λ block. Ok (block, words)
+block_operand labels [] = Err fault.Operand
+block_operand labels (word ∷ words) = block_of labels word >>= λ block. Ok (block, words)

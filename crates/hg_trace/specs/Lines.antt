@@ -16,8 +16,8 @@ abbrev pub ends_text : ℕ → Bool
 ends_text b = ends_line b || b == 35
 
 -- what is read of a line
-abbrev pub text_of : List ℕ → List ℕ
-text_of line = before_first ends_text line
+abbrev pub before_comment : List ℕ → List ℕ
+before_comment line = before_first ends_text line
 
 -- space, tab and the byte 0D
 abbrev pub is_blank : ℕ → Bool
@@ -32,5 +32,5 @@ is_some_word [] = false
 is_some_word (b ∷ bs) = true
 
 -- what stands between the blanks
-abbrev pub words_of : List ℕ → List (List ℕ)
-words_of text = filter is_some_word (slice_split is_blank text)
+abbrev pub split_words : List ℕ → List (List ℕ)
+split_words text = filter is_some_word (slice_split is_blank text)

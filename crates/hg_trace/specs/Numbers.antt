@@ -13,14 +13,14 @@ is_numeral (digit ∷ digits) =
     if digit == 48 then length digits == 0 else list_all is_digit (digit ∷ digits)
 
 -- the number whose digits are those of n and then these
-abbrev pub number_on : ℕ → List ℕ → ℕ
-number_on n [] = n
-number_on n (digit ∷ digits) = number_on (10 * n + (digit - 48)) digits
+abbrev pub value_on : ℕ → List ℕ → ℕ
+value_on n [] = n
+value_on n (digit ∷ digits) = value_on (10 * n + (digit - 48)) digits
 
-abbrev pub number_of : List ℕ → ℕ
-number_of digits = number_on 0 digits
+abbrev pub decimal_value : List ℕ → ℕ
+decimal_value digits = value_on 0 digits
 
 -- the number that a word is, where it is one below the limit
 abbrev pub number_below : ℕ → List ℕ → Option ℕ
 number_below limit word =
-    if is_numeral word && nat_lt (number_of word) limit then Some (number_of word) else None
+    if is_numeral word && nat_lt (decimal_value word) limit then Some (decimal_value word) else None

@@ -7,27 +7,27 @@ use Rattle.hg_trace.specs.declared.fault.LineFault.TheVariants as fault
 use Rattle.hg_trace.specs.Faults.{◌>>=◌}
 use Rattle.hg_trace.specs.Numbers.{number_below}
 
-abbrev pub name_at : List (List ℕ) → Result (List ℕ × List (List ℕ)) LineFault
-name_at [] = Err fault.Operand
-name_at (word ∷ words) = if is_name word then Ok (word, words) else Err fault.Operand
+abbrev pub name_operand : List (List ℕ) → Result (List ℕ × List (List ℕ)) LineFault
+name_operand [] = Err fault.Operand
+name_operand (word ∷ words) = if is_name word then Ok (word, words) else Err fault.Operand
 
-abbrev pub number_at : ℕ → List (List ℕ) → Result (ℕ × List (List ℕ)) LineFault
-number_at limit [] = Err fault.Operand
-number_at limit (word ∷ words) =
+abbrev pub number_operand : ℕ → List (List ℕ) → Result (ℕ × List (List ℕ)) LineFault
+number_operand limit [] = Err fault.Operand
+number_operand limit (word ∷ words) =
     ok_or (number_below limit word) fault.Operand >>= λ n. Ok (n, words)
 
 -- there is no further operand
-abbrev pub end_at : List (List ℕ) → Result (Unit {0}) LineFault
-end_at [] = Ok tt
-end_at (word ∷ words) = Err fault.Operand
+abbrev pub no_operand : List (List ℕ) → Result (Unit {0}) LineFault
+no_operand [] = Ok tt
+no_operand (word ∷ words) = Err fault.Operand
 
 -- no further operand, or `as` and the label that the line gives
-unfoldable pub label_at : List (List ℕ) → Result (Option (List ℕ)) LineFault
-label_at [] = Ok None
-label_at (word ∷ words) =
+unfoldable pub label_operand : List (List ℕ) → Result (Option (List ℕ)) LineFault
+label_operand [] = Ok None
+label_operand (word ∷ words) =
     if bytes_eq word (codes "as")
     then (do
-      label ← name_at words
-      end ← end_at label.1
+      label ← name_operand words
+      end ← no_operand label.1
       Ok (Some label.0))
     else Err fault.Operand

@@ -8,14 +8,14 @@ use Rattle.hg_trace.specs.declared.fault.LineFault.{LineFault}
 use Rattle.hg_trace.specs.declared.fault.LineFault.TheVariants as fault
 use Rattle.hg_trace.specs.declared.fault.TraceFault.{TraceFault}
 use Rattle.hg_trace.specs.Faults.{◌>>=◌, fault_in}
-use Rattle.hg_trace.specs.Lines.{lines_of, text_of, words_of, is_allowed}
+use Rattle.hg_trace.specs.Lines.{lines_of, before_comment, split_words, is_allowed}
 use Rattle.hg_trace.specs.Labels.{labels_after}
 use Rattle.hg_trace.specs.Commands.{words_at}
 
 -- what a line means, if anything, where earlier lines gave these labels
 unfoldable pub line_at : List (List ℕ) → List ℕ → Result (Option (ℕ × Command)) LineFault
 line_at labels line =
-    if list_all is_allowed (text_of line) then words_at labels (words_of (text_of line))
+    if list_all is_allowed (before_comment line) then words_at labels (split_words (before_comment line))
     else Err fault.Byte
 
 -- a line with its number, if it means something

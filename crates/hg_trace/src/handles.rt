@@ -5,7 +5,7 @@ ghost use Rattle.std.specs.Prelude.{position, Ok, Err, IfOk, IfSome, length};
 ghost use Rattle.std.specs.Prelude.{MatchOption, MatchResult};
 ghost use Rattle.hg_trace.specs.Handles.{is_dot, parts_of, place_in, generation_in};
 ghost use Rattle.hg_trace.specs.Handles.{place_of, handle_of, label_of, block_of};
-ghost use Rattle.hg_trace.specs.Operands.{number_at, end_at};
+ghost use Rattle.hg_trace.specs.Operands.{number_operand, no_operand};
 
 use crate::fault::LineFault;
 use crate::labels::Labels;
@@ -61,8 +61,8 @@ impl<'a> Parts<'a> {
     /// The next part, as a number below the limit.
     fn next_number(&mut self, limit: u64) -> Result<u64, LineFault>
         ensures number { MatchResult result
-            (λ n. number_at limit self.old ≡ Ok (n, self.new))
-            (λ fault. number_at limit self.old ≡ Err fault) }
+            (λ n. number_operand limit self.old ≡ Ok (n, self.new))
+            (λ fault. number_operand limit self.old ≡ Err fault) }
         ensures below { IfOk result (λ n. n < limit) }
     {
         let part = self.next_part().ok_or(LineFault::Operand)?;
@@ -99,7 +99,7 @@ impl<'a> Parts<'a> {
     }
 
     fn ends(&mut self) -> Result<(), LineFault>
-        ensures { result ≡ end_at self.old }
+        ensures { result ≡ no_operand self.old }
     {
         match self.next_part() {
             None => Ok(()),
@@ -143,7 +143,7 @@ fn label_of(labels: &Labels, word: &[u8]) -> Result<Option<usize>, LineFault>
     ensures { result ≡ label_of labels.now word.now }
 {
     let name = Name::of(word).ok_or(LineFault::Operand)?;
-    Ok(labels.number_of(name.as_str()))
+    Ok(labels.position_of(name.as_str()))
 }
 
 /// The block that a word means, or none where the word is a label that no earlier line gave.

@@ -35,7 +35,7 @@ impl<'a> Labels<'a> {
     }
 
     /// The number of a label, from 0.
-    pub(crate) fn number_of(&self, name: &str) -> Option<usize>
+    pub(crate) fn position_of(&self, name: &str) -> Option<usize>
         ensures { result ≡ position (λ label. bytes_eq name.now label) self.now }
     {
         self.names.get_index_of(name)

@@ -3,7 +3,7 @@
 ghost use Rattle.std.specs.Prelude.{◌≡◌, ◌≤◌, ◌<◌, ◌∷◌, ◌&&◌, [], length, take, drop};
 ghost use Rattle.std.specs.Prelude.{MatchOption, position, not, true, false};
 ghost use Rattle.std.specs.List.{list_all, concat, before_first};
-ghost use Rattle.hg_trace.specs.Lines.{lines_of, text_of, ends_line, ends_text, is_blank};
+ghost use Rattle.hg_trace.specs.Lines.{lines_of, before_comment, ends_line, ends_text, is_blank};
 ghost use Rattle.hg_trace.specs.Lines.{is_allowed};
 
 use memchr::memchr;
@@ -121,8 +121,8 @@ fn read_end(line: &[u8]) -> Option<usize>
 /// What is read of a line, unless it has a byte that can't stand there.
 pub(crate) fn clean_text(line: &[u8]) -> Option<&[u8]>
     ensures { MatchOption result
-        (list_all is_allowed (text_of line.now) ≡ false)
-        (λ text. (list_all is_allowed text.now ≡ true) × (text.now ≡ text_of line.now)) }
+        (list_all is_allowed (before_comment line.now) ≡ false)
+        (λ text. (list_all is_allowed text.now ≡ true) × (text.now ≡ before_comment line.now)) }
 {
     match read_end(line) {
         None => Some(line),

@@ -27,7 +27,7 @@ fn are_digits(word: &[u8]) -> bool
 }
 
 /// The number that a word is, unless it has more than 64 bits.
-pub(crate) fn number_of(word: &[u8]) -> Option<u64>
+pub(crate) fn parse_number(word: &[u8]) -> Option<u64>
     ensures { result ≡ number_below (2 ^ 64) word.now }
 {
     if !is_numeral(word) {
@@ -46,7 +46,7 @@ pub(crate) fn number_of(word: &[u8]) -> Option<u64>
 pub(crate) fn number_below(word: &[u8], limit: u64) -> Option<u64>
     ensures { result ≡ number_below limit word.now }
 {
-    match number_of(word) {
+    match parse_number(word) {
         Some(number) if number < limit => Some(number),
         _ => None,
     }

@@ -4,9 +4,9 @@ ghost use Rattle.std.specs.Prelude.{◌≡◌, ◌≢◌, ◌^◌, ◌++◌, ◌
 ghost use Rattle.std.specs.Prelude.{MatchResult, Ok, Err, ok_or, bytes_eq, true, false};
 ghost use Rattle.hg_trace.specs.Numbers.{number_below};
 ghost use Rattle.hg_trace.specs.Faults.{fault_in};
-ghost use Rattle.hg_trace.specs.Commands.{worker_at, command_at, words_at};
-ghost use Rattle.hg_trace.specs.Commands.{alloc_at, free_at, deliver_at, take_at, collect_at};
-ghost use Rattle.hg_trace.specs.Commands.{read_at, write_at, look_at, list_at, abandon_at, refill_at};
+ghost use Rattle.hg_trace.specs.Commands.{worker_of, command_at, words_at};
+ghost use Rattle.hg_trace.specs.Commands.{alloc_command, free_command, deliver_command, take_command, collect_command};
+ghost use Rattle.hg_trace.specs.Commands.{read_command, write_command, look_command, list_command, abandon_command, refill_command};
 ghost use Rattle.hg_trace.specs.Labels.{repeats, with_label};
 ghost use Rattle.hg_trace.specs.Trace.{line_at, numbered, trace_of};
 ghost use Rattle.hg_trace.specs.Reads.{Reads};
@@ -15,7 +15,7 @@ use crate::fault::{LineFault, TraceFault};
 use crate::labels::Labels;
 use crate::line::{Command, Line, Trace};
 use crate::lines::{Lines, clean_text};
-use crate::numbers::number_of;
+use crate::numbers::parse_number;
 use crate::words::Words;
 use std::alloc::Global;
 
@@ -23,10 +23,10 @@ use std::alloc::Global;
 const WORKERS: u64 = 16;
 
 fn worker_of(word: &[u8]) -> Result<u8, LineFault>
-    ensures { result ≡ worker_at word.now }
+    ensures { result ≡ worker_of word.now }
 {
     match word {
-        [b'w', digits @ ..] => match number_of(digits) {
+        [b'w', digits @ ..] => match parse_number(digits) {
             Some(number) if number < WORKERS => Ok(number as u8),
             _ => Err(LineFault::Command),
         },
@@ -34,9 +34,9 @@ fn worker_of(word: &[u8]) -> Result<u8, LineFault>
     }
 }
 
-#[tactic(auto, unfolding(crate::specs::Commands::alloc_at))]
+#[tactic(auto, unfolding(crate::specs::Commands::alloc_command))]
 fn alloc_of<'a>(words: &mut Words<'a>) -> Result<Command<'a>, LineFault>
-    ensures { result ≡ alloc_at words.old }
+    ensures { result ≡ alloc_command words.old }
 {
     let actor = words.next_name()?;
     let arena = words.next_name()?;
@@ -50,9 +50,9 @@ fn alloc_of<'a>(words: &mut Words<'a>) -> Result<Command<'a>, LineFault>
     })
 }
 
-#[tactic(auto, unfolding(crate::specs::Commands::free_at))]
+#[tactic(auto, unfolding(crate::specs::Commands::free_command))]
 fn free_of<'a>(labels: &Labels, words: &mut Words<'a>) -> Result<Command<'a>, LineFault>
-    ensures { result ≡ free_at labels.now words.old }
+    ensures { result ≡ free_command labels.now words.old }
 {
     let actor = words.next_name()?;
     let block = words.next_block(labels)?;
@@ -61,34 +61,34 @@ fn free_of<'a>(labels: &Labels, words: &mut Words<'a>) -> Result<Command<'a>, Li
     Ok(Command::Free { actor, block })
 }
 
-#[tactic(auto, unfolding(crate::specs::Commands::deliver_at))]
+#[tactic(auto, unfolding(crate::specs::Commands::deliver_command))]
 fn deliver_of<'a>(words: &mut Words<'a>) -> Result<Command<'a>, LineFault>
-    ensures { result ≡ deliver_at words.old }
+    ensures { result ≡ deliver_command words.old }
 {
     words.ends()?;
     Ok(Command::Deliver)
 }
 
-#[tactic(auto, unfolding(crate::specs::Commands::take_at))]
+#[tactic(auto, unfolding(crate::specs::Commands::take_command))]
 fn take_of<'a>(words: &mut Words<'a>) -> Result<Command<'a>, LineFault>
-    ensures { result ≡ take_at words.old }
+    ensures { result ≡ take_command words.old }
 {
     let segment = words.next_segment()?;
     words.ends()?;
     Ok(Command::Take { segment })
 }
 
-#[tactic(auto, unfolding(crate::specs::Commands::collect_at))]
+#[tactic(auto, unfolding(crate::specs::Commands::collect_command))]
 fn collect_of<'a>(words: &mut Words<'a>) -> Result<Command<'a>, LineFault>
-    ensures { result ≡ collect_at words.old }
+    ensures { result ≡ collect_command words.old }
 {
     words.ends()?;
     Ok(Command::Collect)
 }
 
-#[tactic(auto, unfolding(crate::specs::Commands::read_at))]
+#[tactic(auto, unfolding(crate::specs::Commands::read_command))]
 fn read_of<'a>(labels: &Labels, words: &mut Words<'a>) -> Result<Command<'a>, LineFault>
-    ensures { result ≡ read_at labels.now words.old }
+    ensures { result ≡ read_command labels.now words.old }
 {
     let actor = words.next_name()?;
     let block = words.next_block(labels)?;
@@ -102,9 +102,9 @@ fn read_of<'a>(labels: &Labels, words: &mut Words<'a>) -> Result<Command<'a>, Li
     })
 }
 
-#[tactic(auto, unfolding(crate::specs::Commands::write_at))]
+#[tactic(auto, unfolding(crate::specs::Commands::write_command))]
 fn write_of<'a>(labels: &Labels, words: &mut Words<'a>) -> Result<Command<'a>, LineFault>
-    ensures { result ≡ write_at labels.now words.old }
+    ensures { result ≡ write_command labels.now words.old }
 {
     let actor = words.next_name()?;
     let block = words.next_block(labels)?;
@@ -120,9 +120,9 @@ fn write_of<'a>(labels: &Labels, words: &mut Words<'a>) -> Result<Command<'a>, L
     })
 }
 
-#[tactic(auto, unfolding(crate::specs::Commands::look_at))]
+#[tactic(auto, unfolding(crate::specs::Commands::look_command))]
 fn look_of<'a>(words: &mut Words<'a>) -> Result<Command<'a>, LineFault>
-    ensures { result ≡ look_at words.old }
+    ensures { result ≡ look_command words.old }
 {
     let actor = words.next_name()?;
     let place = words.next_place()?;
@@ -130,27 +130,27 @@ fn look_of<'a>(words: &mut Words<'a>) -> Result<Command<'a>, LineFault>
     Ok(Command::Look { actor, place })
 }
 
-#[tactic(auto, unfolding(crate::specs::Commands::list_at))]
+#[tactic(auto, unfolding(crate::specs::Commands::list_command))]
 fn list_of<'a>(words: &mut Words<'a>) -> Result<Command<'a>, LineFault>
-    ensures { result ≡ list_at words.old }
+    ensures { result ≡ list_command words.old }
 {
     let actor = words.next_name()?;
     words.ends()?;
     Ok(Command::List { actor })
 }
 
-#[tactic(auto, unfolding(crate::specs::Commands::abandon_at))]
+#[tactic(auto, unfolding(crate::specs::Commands::abandon_command))]
 fn abandon_of<'a>(words: &mut Words<'a>) -> Result<Command<'a>, LineFault>
-    ensures { result ≡ abandon_at words.old }
+    ensures { result ≡ abandon_command words.old }
 {
     let segment = words.next_segment()?;
     words.ends()?;
     Ok(Command::Abandon { segment })
 }
 
-#[tactic(auto, unfolding(crate::specs::Commands::refill_at))]
+#[tactic(auto, unfolding(crate::specs::Commands::refill_command))]
 fn refill_of<'a>(words: &mut Words<'a>) -> Result<Command<'a>, LineFault>
-    ensures { result ≡ refill_at words.old }
+    ensures { result ≡ refill_command words.old }
 {
     let arena = words.next_name()?;
     words.ends()?;

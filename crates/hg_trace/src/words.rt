@@ -2,9 +2,9 @@
 
 ghost use Rattle.std.specs.Prelude.{◌≡◌, ◌<◌, ◌^◌, ◌∷◌, [], not, position, Ok, Err, IfOk};
 ghost use Rattle.std.specs.Prelude.{MatchOption, MatchResult};
-ghost use Rattle.hg_trace.specs.Lines.{is_blank, words_of};
-ghost use Rattle.hg_trace.specs.Operands.{name_at, number_at, label_at, end_at};
-ghost use Rattle.hg_trace.specs.Handles.{place_at, block_at};
+ghost use Rattle.hg_trace.specs.Lines.{is_blank, split_words};
+ghost use Rattle.hg_trace.specs.Operands.{name_operand, number_operand, label_operand, no_operand};
+ghost use Rattle.hg_trace.specs.Handles.{place_operand, block_operand};
 
 use crate::fault::LineFault;
 use crate::handles::{block_of, place_of};
@@ -12,7 +12,7 @@ use crate::labels::Labels;
 use crate::line::BlockName;
 use crate::lines::is_blank;
 use crate::name::Name;
-use crate::numbers::{number_below, number_of};
+use crate::numbers::{number_below, parse_number};
 use hg_place::Place;
 use std::marker::Model;
 
@@ -24,16 +24,16 @@ pub(crate) struct Words<'a> {
 
 impl<'a> Model for Words<'a> {
     ghost use Rattle.std.specs.Prelude.{ℕ, List};
-    ghost use Rattle.hg_trace.specs.Lines.{words_of};
+    ghost use Rattle.hg_trace.specs.Lines.{split_words};
 
     ghost Value = { List (List ℕ) };
 
-    ghost view = { λ words. words_of words.rest.now };
+    ghost view = { λ words. split_words words.rest.now };
 }
 
 impl<'a> Words<'a> {
     pub(crate) fn new(text: &'a [u8]) -> Words<'a>
-        ensures { result ≡ words_of text.now }
+        ensures { result ≡ split_words text.now }
     {
         Words { rest: text }
     }
@@ -60,8 +60,8 @@ impl<'a> Words<'a> {
     /// The next word, as a name.
     pub(crate) fn next_name(&mut self) -> Result<Name<'a>, LineFault>
         ensures { MatchResult result
-            (λ name. name_at self.old ≡ Ok (name, self.new))
-            (λ fault. name_at self.old ≡ Err fault) }
+            (λ name. name_operand self.old ≡ Ok (name, self.new))
+            (λ fault. name_operand self.old ≡ Err fault) }
     {
         let word = self.next_word().ok_or(LineFault::Operand)?;
         Name::of(word).ok_or(LineFault::Operand)
@@ -70,18 +70,18 @@ impl<'a> Words<'a> {
     /// The next word, as a number of at most 64 bits.
     pub(crate) fn next_number(&mut self) -> Result<u64, LineFault>
         ensures { MatchResult result
-            (λ n. number_at (2 ^ 64) self.old ≡ Ok (n, self.new))
-            (λ fault. number_at (2 ^ 64) self.old ≡ Err fault) }
+            (λ n. number_operand (2 ^ 64) self.old ≡ Ok (n, self.new))
+            (λ fault. number_operand (2 ^ 64) self.old ≡ Err fault) }
     {
         let word = self.next_word().ok_or(LineFault::Operand)?;
-        number_of(word).ok_or(LineFault::Operand)
+        parse_number(word).ok_or(LineFault::Operand)
     }
 
     /// The next word, as a number below the limit.
     pub(crate) fn next_below(&mut self, limit: u64) -> Result<u64, LineFault>
         ensures number { MatchResult result
-            (λ n. number_at limit self.old ≡ Ok (n, self.new))
-            (λ fault. number_at limit self.old ≡ Err fault) }
+            (λ n. number_operand limit self.old ≡ Ok (n, self.new))
+            (λ fault. number_operand limit self.old ≡ Err fault) }
         ensures below { IfOk result (λ n. n < limit) }
     {
         let word = self.next_word().ok_or(LineFault::Operand)?;
@@ -91,8 +91,8 @@ impl<'a> Words<'a> {
     /// The next word, as a segment.
     pub(crate) fn next_segment(&mut self) -> Result<u8, LineFault>
         ensures { MatchResult result
-            (λ segment. number_at 64 self.old ≡ Ok (segment, self.new))
-            (λ fault. number_at 64 self.old ≡ Err fault) }
+            (λ segment. number_operand 64 self.old ≡ Ok (segment, self.new))
+            (λ fault. number_operand 64 self.old ≡ Err fault) }
     {
         let segment = self.next_below(64)?;
         Ok(segment as u8)
@@ -101,38 +101,38 @@ impl<'a> Words<'a> {
     /// The next word, as the index of a word in a block.
     pub(crate) fn next_index(&mut self) -> Result<u32, LineFault>
         ensures { MatchResult result
-            (λ index. number_at (2 ^ 32) self.old ≡ Ok (index, self.new))
-            (λ fault. number_at (2 ^ 32) self.old ≡ Err fault) }
+            (λ index. number_operand (2 ^ 32) self.old ≡ Ok (index, self.new))
+            (λ fault. number_operand (2 ^ 32) self.old ≡ Err fault) }
     {
         let index = self.next_below(1 << 32)?;
         Ok(index as u32)
     }
 
-    #[tactic(auto, unfolding(crate::specs::Handles::place_at))]
+    #[tactic(auto, unfolding(crate::specs::Handles::place_operand))]
     pub(crate) fn next_place(&mut self) -> Result<Place, LineFault>
         ensures { MatchResult result
-            (λ place. place_at self.old ≡ Ok (place, self.new))
-            (λ fault. place_at self.old ≡ Err fault) }
+            (λ place. place_operand self.old ≡ Ok (place, self.new))
+            (λ fault. place_operand self.old ≡ Err fault) }
     {
         let word = self.next_word().ok_or(LineFault::Operand)?;
         place_of(word)
     }
 
     /// The next word, as a block, or none where it is a label that no earlier line gave.
-    #[tactic(auto, unfolding(crate::specs::Handles::block_at))]
+    #[tactic(auto, unfolding(crate::specs::Handles::block_operand))]
     pub(crate) fn next_block(&mut self, labels: &Labels) -> Result<Option<BlockName>, LineFault>
         ensures { MatchResult result
-            (λ block. block_at labels.now self.old ≡ Ok (block, self.new))
-            (λ fault. block_at labels.now self.old ≡ Err fault) }
+            (λ block. block_operand labels.now self.old ≡ Ok (block, self.new))
+            (λ fault. block_operand labels.now self.old ≡ Err fault) }
     {
         let word = self.next_word().ok_or(LineFault::Operand)?;
         block_of(labels, word)
     }
 
     /// The words that are left, as nothing or the label that a line gives.
-    #[tactic(auto, unfolding(crate::specs::Operands::label_at))]
+    #[tactic(auto, unfolding(crate::specs::Operands::label_operand))]
     pub(crate) fn last_label(&mut self) -> Result<Option<Name<'a>>, LineFault>
-        ensures { result ≡ label_at self.old }
+        ensures { result ≡ label_operand self.old }
     {
         match self.next_word() {
             None => Ok(None),
@@ -147,7 +147,7 @@ impl<'a> Words<'a> {
 
     /// No word is left.
     pub(crate) fn ends(&mut self) -> Result<(), LineFault>
-        ensures { result ≡ end_at self.old }
+        ensures { result ≡ no_operand self.old }
     {
         match self.next_word() {
             None => Ok(()),

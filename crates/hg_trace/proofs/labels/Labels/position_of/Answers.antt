@@ -2,7 +2,7 @@ use Rattle.std.proofs.Common.{ap, ◌∙◌}
 use Rattle.std.specs.List.{position}
 use Rattle.std.specs.Str.{bytes_eq}
 use Rattle.hg_trace.proofs.LabelNames.{position-labels}
-use Rattle.hg_trace.proofs.labels.Labels.number_of.Goals as goal
+use Rattle.hg_trace.proofs.labels.Labels.position_of.Goals as goal
 
 pub returns : goal.returns
 returns c =
