@@ -9,7 +9,8 @@ use Rattle.hg_trace.specs.declared.fault.LineFault.TheVariants as fault
 use Rattle.hg_trace.specs.Faults.{◌>>=◌}
 use Rattle.hg_trace.specs.Numbers.{number_below}
 use Rattle.hg_trace.specs.Operands.{name_operand, number_operand, label_operand, no_operand}
-use Rattle.hg_trace.specs.Handles.{place_operand, block_operand}
+use Rattle.hg_trace.specs.Handles.{place_operand}
+use Rattle.hg_trace.specs.Blocks.{block_operand}
 use Rattle.hg_trace.specs.Labels.{repeats}
 
 -- a `w` and a number from 0 to 15

@@ -1,16 +1,12 @@
--- Places and handles: their numbers, with a dot between one and the next. Blocks, by handle or label.
+-- Places and handles: their numbers, with a dot between one and the next.
 use Rattle.std.proofs.Common.{lit<}
 use Rattle.std.proofs.Math.Nat.{le-max_left}
 use Rattle.std.proofs.lemmas.Nat.{mod_below}
-use Rattle.std.specs.Prelude.{ℕ, ◌^◌, ◌==◌, ◌%◌, max, Bool, List}
-use Rattle.std.specs.Prelude.{[], ◌∷◌, Option, Some, Result, Ok}
-use Rattle.std.specs.Prelude.{Err, if◌then◌else◌, option_map, position, bytes_eq}
+use Rattle.std.specs.Prelude.{ℕ, ◌^◌, ◌==◌, ◌%◌, max, Bool, List, [], ◌∷◌}
+use Rattle.std.specs.Prelude.{Result, Ok, Err, if◌then◌else◌}
 use Rattle.std.specs.List.{slice_split}
 use Rattle.hg_place.specs.declared.Place.{Place}
 use Rattle.hg_place.specs.declared.Handle.{Handle}
-use Rattle.hg_policy.specs.NameForm.{is_name}
-use Rattle.hg_trace.specs.declared.line.BlockName.{BlockName}
-use Rattle.hg_trace.specs.declared.line.BlockName.TheVariants as block_name
 use Rattle.hg_trace.specs.declared.fault.LineFault.{LineFault}
 use Rattle.hg_trace.specs.declared.fault.LineFault.TheVariants as fault
 use Rattle.hg_trace.specs.Faults.{◌>>=◌}
@@ -71,25 +67,7 @@ handle_of text = do
   end ← no_operand generation.1
   Ok (handle_from place.0 generation.0)
 
--- the number of the label that a word is, among these, which stand as lines gave them
-abbrev pub label_of : List (List ℕ) → List ℕ → Result (Option ℕ) LineFault
-label_of labels word =
-    if is_name word then Ok (position (λ label. bytes_eq word label) labels)
-    else Err fault.Operand
-
--- the block that a word means: an `@` and a handle, or a label; None for one that no line gave before
-unfoldable pub block_of : List (List ℕ) → List ℕ → Result (Option BlockName) LineFault
-block_of labels [] = Err fault.Operand
-block_of labels (b ∷ bs) =
-    if b == 64 then (handle_of bs >>= λ handle. Ok (Some (block_name.Handle handle)))
-    else (label_of labels (b ∷ bs) >>= λ label. Ok (option_map (λ n. block_name.Label n) label))
-
--- as operands
+-- as an operand
 unfoldable pub place_operand : List (List ℕ) → Result (Place × List (List ℕ)) LineFault
 place_operand [] = Err fault.Operand
 place_operand (word ∷ words) = place_of word >>= λ place. Ok (place, words)
-
-unfoldable pub block_operand
-    : List (List ℕ) → List (List ℕ) → Result (Option BlockName × List (List ℕ)) LineFault
-block_operand labels [] = Err fault.Operand
-block_operand labels (word ∷ words) = block_of labels word >>= λ block. Ok (block, words)

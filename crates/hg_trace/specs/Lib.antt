@@ -4,6 +4,7 @@ pub mod NumberLaws
 pub mod Faults
 pub mod Operands
 pub mod Handles
+pub mod Blocks
 pub mod Labels
 pub mod Commands
 pub mod Trace

@@ -4,13 +4,10 @@ ghost use Rattle.std.specs.Prelude.{◌≡◌, ◌≤◌, ◌<◌, ◌∷◌, []
 ghost use Rattle.std.specs.Prelude.{position, Ok, Err, IfOk, IfSome, length};
 ghost use Rattle.std.specs.Prelude.{MatchOption, MatchResult};
 ghost use Rattle.hg_trace.specs.Handles.{is_dot, parts_of, place_in, generation_in};
-ghost use Rattle.hg_trace.specs.Handles.{place_of, handle_of, label_of, block_of};
+ghost use Rattle.hg_trace.specs.Handles.{place_of, handle_of};
 ghost use Rattle.hg_trace.specs.Operands.{number_operand, no_operand};
 
 use crate::fault::LineFault;
-use crate::labels::Labels;
-use crate::line::BlockName;
-use crate::name::Name;
 use crate::numbers::number_below;
 use hg_place::{Handle, Place};
 use std::marker::Model;
@@ -127,8 +124,9 @@ pub(crate) fn place_of(text: &[u8]) -> Result<Place, LineFault>
     Ok(place)
 }
 
+/// The handle that the text behind an `@` is.
 #[tactic(auto, unfolding(crate::specs::Handles::handle_of))]
-fn handle_of(text: &[u8]) -> Result<Handle, LineFault>
+pub(crate) fn handle_of(text: &[u8]) -> Result<Handle, LineFault>
     ensures { result ≡ handle_of text.now }
 {
     let mut parts = Parts::new(text);
@@ -136,29 +134,4 @@ fn handle_of(text: &[u8]) -> Result<Handle, LineFault>
     let generation = parts.next_generation()?;
     parts.ends()?;
     Ok(Handle { place, generation })
-}
-
-/// The number of the label that a word is, if an earlier line gave it.
-fn label_of(labels: &Labels, word: &[u8]) -> Result<Option<usize>, LineFault>
-    ensures { result ≡ label_of labels.now word.now }
-{
-    let name = Name::of(word).ok_or(LineFault::Operand)?;
-    Ok(labels.position_of(name.as_str()))
-}
-
-/// The block that a word means, or none where the word is a label that no earlier line gave.
-#[tactic(auto, unfolding(crate::specs::Handles::block_of))]
-pub(crate) fn block_of(labels: &Labels, word: &[u8]) -> Result<Option<BlockName>, LineFault>
-    ensures { result ≡ block_of labels.now word.now }
-{
-    match word {
-        [b'@', text @ ..] => {
-            let handle = handle_of(text)?;
-            Ok(Some(BlockName::Handle(handle)))
-        }
-        _ => match label_of(labels, word)? {
-            Some(label) => Ok(Some(BlockName::Label(label))),
-            None => Ok(None),
-        },
-    }
 }

@@ -1,6 +1,8 @@
 //! Traces: what their bytes mean.
 #![tactic(auto)]
 
+mod blocks;
+mod commands;
 mod fault;
 mod handles;
 mod joined;

@@ -1,9 +1,9 @@
 //! Names of tenants and arenas.
 
 ghost use Rattle.std.specs.Prelude.{◌≡◌, IfSome, is_some};
-ghost use Rattle.std.specs.List.{list_all};
-ghost use Rattle.hg_policy.specs.NameForm.{is_lower, is_name, is_name_byte};
+ghost use Rattle.hg_policy.specs.NameForm.{is_name};
 
+use hg_policy::is_name;
 use std::marker::Model;
 
 /// A name of 1 to 16 bytes, where it stands in the bytes of a trace.
@@ -39,31 +39,4 @@ impl<'a> Name<'a> {
     {
         self.text
     }
-}
-
-fn is_lower(b: u8) -> bool
-    ensures { result ≡ is_lower b }
-{
-    b.is_ascii_lowercase()
-}
-
-fn is_name_byte(b: u8) -> bool
-    ensures { result ≡ is_name_byte b }
-{
-    is_lower(b) || b.is_ascii_digit() || b == b'_' || b == b'-'
-}
-
-fn is_name(word: &[u8]) -> bool
-    ensures { result ≡ is_name word.now }
-{
-    match word {
-        [] => false,
-        [first, rest @ ..] => { is_lower(*first) && rest.len() < 16 && are_name_bytes(rest) }
-    }
-}
-
-fn are_name_bytes(bytes: &[u8]) -> bool
-    ensures { result ≡ list_all is_name_byte bytes.now }
-{
-    bytes.iter().all(|b| is_name_byte(*b))
 }

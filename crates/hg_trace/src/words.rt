@@ -4,10 +4,12 @@ ghost use Rattle.std.specs.Prelude.{◌≡◌, ◌<◌, ◌^◌, ◌∷◌, [], 
 ghost use Rattle.std.specs.Prelude.{MatchOption, MatchResult};
 ghost use Rattle.hg_trace.specs.Lines.{is_blank, split_words};
 ghost use Rattle.hg_trace.specs.Operands.{name_operand, number_operand, label_operand, no_operand};
-ghost use Rattle.hg_trace.specs.Handles.{place_operand, block_operand};
+ghost use Rattle.hg_trace.specs.Handles.{place_operand};
+ghost use Rattle.hg_trace.specs.Blocks.{block_operand};
 
+use crate::blocks::block_of;
 use crate::fault::LineFault;
-use crate::handles::{block_of, place_of};
+use crate::handles::place_of;
 use crate::labels::Labels;
 use crate::line::BlockName;
 use crate::lines::is_blank;
@@ -119,7 +121,7 @@ impl<'a> Words<'a> {
     }
 
     /// The next word, as a block, or none where it is a label that no earlier line gave.
-    #[tactic(auto, unfolding(crate::specs::Handles::block_operand))]
+    #[tactic(auto, unfolding(crate::specs::Blocks::block_operand))]
     pub(crate) fn next_block(&mut self, labels: &Labels) -> Result<Option<BlockName>, LineFault>
         ensures { MatchResult result
             (λ block. block_operand labels.now self.old ≡ Ok (block, self.new))
