@@ -7,7 +7,6 @@ use Rattle.hg_trace.specs.declared.fault.LineFault.{LineFault}
 use Rattle.hg_trace.specs.declared.fault.LineFault.TheVariants as line_fault
 use Rattle.hg_trace.specs.declared.fault.TraceFault.{TraceFault}
 use Rattle.hg_trace.specs.declared.fault.TraceFault.TheVariants as trace_fault
-use Rattle.hg_trace.specs.Faults.{fault_in}
 use Rattle.hg_trace.specs.Lines.{is_allowed, before_comment, split_words}
 use Rattle.hg_trace.specs.Labels.{repeats, with_label}
 use Rattle.hg_trace.specs.Commands.{worker_of, command_at, words_at}
@@ -20,17 +19,17 @@ module _ (n : ℕ) (labels : List (List ℕ)) where
   no_words = refl
 
   module _ (word : List ℕ) (words : List (List ℕ)) where
-    pub no_worker : (fault : LineFault) → worker_of word ≡ Err fault → numbered n (words_at labels (word ∷ words)) ≡ Err (fault_in n fault)
+    pub no_worker : (fault : LineFault) → worker_of word ≡ Err fault → numbered n (words_at labels (word ∷ words)) ≡ Err (trace_fault.Line n fault)
     unfolding words_at
     no_worker fault e = rw e refl
 
     module _ (worker : ℕ) (works : worker_of word ≡ Ok worker) where
-      pub no_command : (fault : LineFault) → command_at labels words ≡ Err fault → numbered n (words_at labels (word ∷ words)) ≡ Err (fault_in n fault)
+      pub no_command : (fault : LineFault) → command_at labels words ≡ Err fault → numbered n (words_at labels (word ∷ words)) ≡ Err (trace_fault.Line n fault)
       unfolding words_at
       no_command fault e = rw (works, e) refl
 
       module _ (command : Command) (means : command_at labels words ≡ Ok command) where
-        repeated : repeats labels command ≡ true → numbered n (words_at labels (word ∷ words)) ≡ Err (fault_in n line_fault.RepeatedLabel)
+        repeated : repeats labels command ≡ true → numbered n (words_at labels (word ∷ words)) ≡ Err (trace_fault.Line n line_fault.RepeatedLabel)
         unfolding words_at
         repeated e = rw (works, means, e) refl
 
@@ -43,7 +42,7 @@ module _ (n : ℕ) (labels : List (List ℕ)) where
             → OnOk result (repeats labels command ≡ false)
             → OnOk result (new ≡ old ++ record { number = n; worker = worker; command = command } ∷ [])
             → OnOk result (labels' ≡ with_label labels command)
-            → IfErr result (λ fault. fault ≢ trace_fault.Memory → (repeats labels command ≡ true) × (fault ≡ fault_in n line_fault.RepeatedLabel))
+            → IfErr result (λ fault. fault ≢ trace_fault.Memory → (repeats labels command ≡ true) × (fault ≡ trace_fault.Line n line_fault.RepeatedLabel))
             → Reads (numbered n (words_at labels (word ∷ words))) old new labels labels' result
         reads_kept old new labels' (Ok done) is_fresh kept labelled fails =
             (record { number = n; worker = worker; command = command } ∷ [], fresh is_fresh, kept, labelled)
@@ -56,6 +55,6 @@ module _ (n : ℕ) (labels : List (List ℕ)) where
     unfolding line_at
     line_words text allowed is = rw (sym is, allowed) refl
 
-    pub no_text : list_all is_allowed (before_comment line) ≡ false → numbered n (line_at labels line) ≡ Err (fault_in n line_fault.Byte)
+    pub no_text : list_all is_allowed (before_comment line) ≡ false → numbered n (line_at labels line) ≡ Err (trace_fault.Line n line_fault.Byte)
     unfolding line_at
     no_text e = rw e refl

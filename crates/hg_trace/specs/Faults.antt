@@ -2,16 +2,14 @@
 use Rattle.std.specs.Prelude.{ℕ, Result, Ok, Err}
 use Rattle.hg_trace.specs.declared.fault.LineFault.{LineFault}
 use Rattle.hg_trace.specs.declared.fault.LineFault.TheVariants as line_fault
-use Rattle.hg_trace.specs.declared.fault.TraceFault.{TraceFault}
-use Rattle.hg_trace.specs.declared.fault.TraceFault.TheVariants as trace_fault
 
--- the fault of the line with this number
-abbrev pub fault_in : ℕ → LineFault → TraceFault
-fault_in line line_fault.Byte = trace_fault.Byte line
-fault_in line line_fault.Command = trace_fault.Command line
-fault_in line line_fault.Operand = trace_fault.Operand line
-fault_in line line_fault.UnknownLabel = trace_fault.UnknownLabel line
-fault_in line line_fault.RepeatedLabel = trace_fault.RepeatedLabel line
+-- by its number a fault is told
+abbrev pub fault_number : LineFault → ℕ
+fault_number line_fault.Byte = 1
+fault_number line_fault.Command = 2
+fault_number line_fault.Operand = 3
+fault_number line_fault.UnknownLabel = 4
+fault_number line_fault.RepeatedLabel = 5
 
 infixl 10 ◌>>=◌
 abbrev pub ◌>>=◌ : {A B E : Type 0} → Result A E → (A → Result B E) → Result B E

@@ -7,7 +7,8 @@ use Rattle.hg_trace.specs.declared.line.Line.{Line}
 use Rattle.hg_trace.specs.declared.fault.LineFault.{LineFault}
 use Rattle.hg_trace.specs.declared.fault.LineFault.TheVariants as fault
 use Rattle.hg_trace.specs.declared.fault.TraceFault.{TraceFault}
-use Rattle.hg_trace.specs.Faults.{◌>>=◌, fault_in}
+use Rattle.hg_trace.specs.declared.fault.TraceFault.TheVariants as trace_fault
+use Rattle.hg_trace.specs.Faults.{◌>>=◌}
 use Rattle.hg_trace.specs.Lines.{lines_of, before_comment, split_words, is_allowed}
 use Rattle.hg_trace.specs.Labels.{labels_after}
 use Rattle.hg_trace.specs.Commands.{words_at}
@@ -20,7 +21,7 @@ line_at labels line =
 
 -- a line with its number, if it means something
 abbrev pub numbered : ℕ → Result (Option (ℕ × Command)) LineFault → Result (List Line) TraceFault
-numbered number (Err fault) = Err (fault_in number fault)
+numbered number (Err fault) = Err (trace_fault.Line number fault)
 numbered number (Ok None) = Ok []
 numbered number (Ok (Some (worker, command))) =
     Ok (record { number = number; worker = worker; command = command } ∷ [])

@@ -15,7 +15,7 @@ mod numbers;
 mod read;
 mod words;
 
-pub use fault::TraceFault;
+pub use fault::{LineFault, TraceFault};
 pub use joined::split_joined;
 pub use line::{BlockName, Command, Line, Trace};
 pub use name::Name;

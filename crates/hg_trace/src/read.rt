@@ -3,7 +3,6 @@
 ghost use Rattle.std.specs.Prelude.{◌≡◌, ◌≢◌, ◌^◌, ◌++◌, ◌∷◌, [], IfOk, IfErr, OnOk};
 ghost use Rattle.std.specs.Prelude.{MatchResult, Ok, Err, ok_or, bytes_eq, true, false};
 ghost use Rattle.hg_trace.specs.Numbers.{number_below};
-ghost use Rattle.hg_trace.specs.Faults.{fault_in};
 ghost use Rattle.hg_trace.specs.Commands.{worker_of, command_at, words_at};
 ghost use Rattle.hg_trace.specs.Labels.{repeats, with_label};
 ghost use Rattle.hg_trace.specs.Trace.{line_at, numbered, trace_of};
@@ -44,7 +43,7 @@ fn keep<'a>(
     ensures labels { OnOk result (labels.new ≡ with_label labels.old line.entry.command) }
     ensures err { IfErr result (λ fault. fault ≢ TraceFault.Memory
         → (repeats labels.old line.entry.command ≡ true)
-        × (fault ≡ fault_in line.entry.number LineFault.RepeatedLabel)) }
+        × (fault ≡ TraceFault.Line line.entry.number LineFault.RepeatedLabel)) }
 {
     if labels.repeats(&line.command) {
         return Err(LineFault::RepeatedLabel.at(line.number));
