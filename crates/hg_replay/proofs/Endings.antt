@@ -16,11 +16,7 @@ use Rattle.hg_replay.specs.Statuses.{EndsAs}
 module _ (policy_bytes trace_bytes : List ℕ) (old : Option (List ℕ)) (policy : Policy) (is : document_of policy_bytes ≡ Ok policy) where
   pub trace_ends : (fault : TraceFault) → (fault ≢ trace_fault.Memory → trace_of trace_bytes ≡ Err fault)
       → EndsAs (trace_status fault) policy_bytes trace_bytes old old
-  trace_ends (trace_fault.Byte line) fails = (policy, is, inl (trace_fault.Byte line, fails (λ e. cc)), Keeps-refl old)
-  trace_ends (trace_fault.Command line) fails = (policy, is, inl (trace_fault.Command line, fails (λ e. cc)), Keeps-refl old)
-  trace_ends (trace_fault.Operand line) fails = (policy, is, inl (trace_fault.Operand line, fails (λ e. cc)), Keeps-refl old)
-  trace_ends (trace_fault.UnknownLabel line) fails = (policy, is, inl (trace_fault.UnknownLabel line, fails (λ e. cc)), Keeps-refl old)
-  trace_ends (trace_fault.RepeatedLabel line) fails = (policy, is, inl (trace_fault.RepeatedLabel line, fails (λ e. cc)), Keeps-refl old)
+  trace_ends (trace_fault.Line line fault) fails = (policy, is, inl (trace_fault.Line line fault, fails (λ e. cc)), Keeps-refl old)
   trace_ends trace_fault.Memory fails = inl (Keeps-refl old)
 
 -- how a run ends where its replay gave up
