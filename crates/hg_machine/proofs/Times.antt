@@ -39,18 +39,19 @@ there_times n (x ∷ xs) some = elim (cases_eq x n) as (λ _. Contains (x ∷ xs
       (suc later.0, omega (arith, later.1), later.2)
 ]
 
--- a sum over a range to which one number alone adds
-sum_by_past : (f : ℕ → ℕ) (n : ℕ) → ((x : ℕ) → x ≢ n → f x ≡ 0) → (a len : ℕ) → n < a → sum_by f (range_with_len a len) ≡ 0
-sum_by_past f n other a zero past = refl
-sum_by_past f n other a (suc len) past =
-    let none : f a ≡ 0 = other a (λ e. omega arith) in
-    let rest = sum_by_past f n other (a + 1) len (omega arith) in
+-- a sum over a range to which nothing adds from some number on
+pub sum_by_none : (f : ℕ → ℕ) (least : ℕ) → ((x : ℕ) → least ≤ x → f x ≡ 0) → (a len : ℕ) → least ≤ a → sum_by f (range_with_len a len) ≡ 0
+sum_by_none f least none a zero past = refl
+sum_by_none f least none a (suc len) past =
+    let first = none a past in
+    let rest = sum_by_none f least none (a + 1) len (omega arith) in
     sum_by-cons f a (range_with_len (a + 1) len) ∙ (omega arith)
 
+-- and one to which one number alone adds
 pub sum_by_one : (f : ℕ → ℕ) (n : ℕ) → ((x : ℕ) → x ≢ n → f x ≡ 0) → (a len : ℕ) → a ≤ n → n < a + len → sum_by f (range_with_len a len) ≡ f n
 sum_by_one f n other a zero low high = absurd (omega arith)
 sum_by_one f n other a (suc len) low high = sum_by-cons f a (range_with_len (a + 1) len) ∙ elim (cases_eq a n) as (λ _. f a + sum_by f (range_with_len (a + 1) len) ≡ f n) [
-  | inl e ↦ let rest = sum_by_past f n other (a + 1) len (omega arith) in let same = ap f e in omega arith
+  | inl e ↦ let rest = sum_by_none f (suc n) (λ x h. other x (λ e. omega arith)) (a + 1) len (omega arith) in let same = ap f e in omega arith
   | inr ne ↦ let none = other a ne in let rest = sum_by_one f n other (a + 1) len (omega arith) (omega arith) in omega arith
 ]
 

@@ -1,4 +1,6 @@
 mod Computed
+pub mod PartitionTests
+pub mod PartitionLemmas
 pub mod AllocatingRuns
 pub mod JudgingRuns
 pub mod LivesRuns

@@ -6,3 +6,5 @@ pub mod Judging
 pub mod Lives
 pub mod Parting
 pub mod Holding
+pub mod WorkedLists
+pub mod Partitions

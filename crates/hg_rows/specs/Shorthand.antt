@@ -11,8 +11,8 @@ abbrev pub actor : ℕ → Actor
 actor n = record { 0 = n }
 
 -- a place by segment, page and index
-abbrev pub place_at : (segment page index : ℕ) → segment < 64 → page < 16 → index < 512 → Place
-place_at segment page index s p i = record {
+abbrev pub at : (segment page index : ℕ) → segment < 64 → page < 16 → index < 512 → Place
+at segment page index s p i = record {
   segment = segment;
   page = page;
   index = index;
@@ -23,7 +23,7 @@ place_at segment page index s p i = record {
 
 -- the first place of segment 0 in its first, second and ninth life
 abbrev pub first_place : Place
-first_place = place_at 0 0 0 (lit< tt) (lit< tt) (lit< tt)
+first_place = at 0 0 0 (lit< tt) (lit< tt) (lit< tt)
 
 abbrev pub block : Handle
 block = record { place = first_place; generation = 1; given_out = lit< tt }
@@ -37,21 +37,21 @@ ninth_life = record { place = first_place; generation = 9; given_out = lit< tt }
 -- the second place of that page, and the first ones of the next two pages
 abbrev pub neighbour : Handle
 neighbour = record {
-  place = place_at 0 0 1 (lit< tt) (lit< tt) (lit< tt);
+  place = at 0 0 1 (lit< tt) (lit< tt) (lit< tt);
   generation = 1;
   given_out = lit< tt;
 }
 
 abbrev pub next_page : Handle
 next_page = record {
-  place = place_at 0 1 0 (lit< tt) (lit< tt) (lit< tt);
+  place = at 0 1 0 (lit< tt) (lit< tt) (lit< tt);
   generation = 1;
   given_out = lit< tt;
 }
 
 abbrev pub third_page : Handle
 third_page = record {
-  place = place_at 0 2 0 (lit< tt) (lit< tt) (lit< tt);
+  place = at 0 2 0 (lit< tt) (lit< tt) (lit< tt);
   generation = 1;
   given_out = lit< tt;
 }
@@ -59,7 +59,7 @@ third_page = record {
 -- a place of segment 9, which the policy lacks
 abbrev pub nowhere : Handle
 nowhere = record {
-  place = place_at 9 0 0 (lit< tt) (lit< tt) (lit< tt);
+  place = at 9 0 0 (lit< tt) (lit< tt) (lit< tt);
   generation = 1;
   given_out = lit< tt;
 }

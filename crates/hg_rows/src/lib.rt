@@ -12,6 +12,8 @@ ghost use Rattle.hg_rows.specs.Parting.{DeliveredThenTaken, FullHandIsBusy};
 ghost use Rattle.hg_rows.specs.Parting.{PartedBlockCountsInCharge, HandIsNotTaken};
 ghost use Rattle.hg_rows.specs.Parting.{DelayedBeforeThreadFree};
 ghost use Rattle.hg_rows.specs.Holding.{OrphansByTurn, AbandonAndAdoptWithLiveBlocks};
+ghost use Rattle.hg_rows.specs.Partitions.{ListsInOrder, FreeListsOutOfOrder};
+ghost use Rattle.hg_rows.specs.Partitions.{SentListsOutOfOrder};
 ghost use Rattle.hg_rows.specs.WorkedPolicy.{WorkedPolicyIsSound};
 
 /// A worker that holds nothing has no room; with a segment it has.
@@ -97,6 +99,22 @@ pub fn hand_is_not_taken()
 /// A segment's sent places are the delayed ones and those of all its pages.
 pub fn delayed_before_thread_free()
     ensures { DelayedBeforeThreadFree }
+{}
+
+/// Two pages with places on all four lists are a partition; so they are on two lists alone.
+pub fn lists_in_order()
+    ensures { ListsInOrder }
+{}
+
+/// Free lists are no partition that leave out a free place, or have one twice, or another one.
+pub fn free_lists_out_of_order()
+    ensures { FreeListsOutOfOrder }
+{}
+
+/// Sent lists are no partition that leave out a sent place, or have one twice, or another one; nor
+/// are thread-free places of a page of which none is delayed.
+pub fn sent_lists_out_of_order()
+    ensures { SentListsOutOfOrder }
 {}
 
 /// Orphans are held again by turn, before fresh segments by number.
