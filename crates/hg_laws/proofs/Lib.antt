@@ -2,6 +2,7 @@ pub mod MachineFacts
 pub mod LifeChanges
 pub mod Handles
 pub mod Refusals
+pub mod PermittedLemmas
 pub mod IntegrityLemmas
 pub mod ConfinementLemmas
 pub mod LivesLemmas

@@ -1,6 +1,7 @@
 pub mod Asked
 pub mod Along
 pub mod Integrity
+pub mod Permitted
 pub mod Confinement
 pub mod Lives
 pub mod Limits

@@ -2,6 +2,9 @@
 #![tactic(auto)]
 
 ghost use Rattle.hg_laws.specs.Integrity.{BlocksAreKept, OthersChangeNothing};
+ghost use Rattle.hg_laws.specs.Permitted.{ReadsArePermitted, WritesArePermitted};
+ghost use Rattle.hg_laws.specs.Permitted.{FreesArePermitted, LooksArePermitted};
+ghost use Rattle.hg_laws.specs.Permitted.{PermittedIsAllowed};
 ghost use Rattle.hg_laws.specs.Confinement.{ReadsAreConfined};
 ghost use Rattle.hg_laws.specs.Lives.{LivesAreCounted, LivesAreLimited, ForgedIsDenied};
 ghost use Rattle.hg_laws.specs.Lives.{FreedIsDenied};
@@ -24,6 +27,31 @@ pub fn blocks_are_kept()
 /// A tenant that lets nobody else write or free its blocks loses nothing by what others do.
 pub fn others_change_nothing()
     ensures { OthersChangeNothing }
+{}
+
+/// A word is read only of a live block that the policy lets the actor read.
+pub fn reads_are_permitted()
+    ensures { ReadsArePermitted }
+{}
+
+/// A word is written only into a live block that the policy lets the actor write.
+pub fn writes_are_permitted()
+    ensures { WritesArePermitted }
+{}
+
+/// A block is freed only where it lives and the policy lets the actor free it.
+pub fn frees_are_permitted()
+    ensures { FreesArePermitted }
+{}
+
+/// A row is shown only of a live block that the policy lets the actor list.
+pub fn looks_are_permitted()
+    ensures { LooksArePermitted }
+{}
+
+/// What the policy lets the actor do with a live block by its handle is denied by no rule.
+pub fn permitted_is_allowed()
+    ensures { PermittedIsAllowed }
 {}
 
 /// A read gives zero, or the value that a write put there last in that same life.

@@ -3,6 +3,7 @@ pub mod PartitionTests
 pub mod PartitionLemmas
 pub mod AllocatingRuns
 pub mod JudgingRuns
+pub mod GrantingRuns
 pub mod LivesRuns
 pub mod PartingRuns
 pub mod HoldingRuns

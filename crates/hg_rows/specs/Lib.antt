@@ -3,6 +3,7 @@ pub mod Shorthand
 pub mod Answers
 pub mod Allocating
 pub mod Judging
+pub mod Granting
 pub mod Lives
 pub mod Parting
 pub mod Holding

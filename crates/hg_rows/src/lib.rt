@@ -7,6 +7,7 @@ ghost use Rattle.hg_rows.specs.Allocating.{LimitBeforeRoom};
 ghost use Rattle.hg_rows.specs.Judging.{StaleThenFreedThenArena};
 ghost use Rattle.hg_rows.specs.Judging.{StrangerThenStaleThenGrant, GrantThenHolderThenLength};
 ghost use Rattle.hg_rows.specs.Judging.{NoSuchSegment, LooksShowWhatMayBeListed};
+ghost use Rattle.hg_rows.specs.Granting.{EachRightServesItsOwn};
 ghost use Rattle.hg_rows.specs.Lives.{StaleAfterReuse, WornPlaceIsNeverGivenOut};
 ghost use Rattle.hg_rows.specs.Parting.{DeliveredThenTaken, FullHandIsBusy};
 ghost use Rattle.hg_rows.specs.Parting.{PartedBlockCountsInCharge, HandIsNotTaken};
@@ -64,6 +65,11 @@ pub fn no_such_segment()
 /// A look shows a block to whom may list it, where its segment is held.
 pub fn looks_show_what_may_be_listed()
     ensures { LooksShowWhatMayBeListed }
+{}
+
+/// A grant of one right alone serves what asks for that right, and nothing else.
+pub fn each_right_serves_its_own()
+    ensures { EachRightServesItsOwn }
 {}
 
 /// After its place is given out again a handle is stale, and the new block reads zero.

@@ -1,0 +1,5 @@
+use Rattle.hg_laws.proofs.PermittedLemmas.{writes_are_permitted as law}
+use Rattle.hg_laws.proofs.writes_are_permitted.Goals as goal
+
+pub returns : goal.returns
+returns c = law
