@@ -1,5 +1,5 @@
 -- What holds of the arenas that are read.
-use Rattle.std.proofs.Common.{◌≡◌, ℕ, ◌+◌, ◌-◌, ◌<◌, ◌≤◌, Bool, true, List, [], ◌∷◌, ◌++◌, length, take, replicate, nat_lt, ◌==◌, Option, Some, None, Ok, Err, refl, ◌∙◌, zero-add, arith, inl, inr, All}
+use Rattle.std.proofs.Common.{◌≡◌, ℕ, ◌+◌, ◌-◌, ◌<◌, ◌≤◌, Bool, true, false, List, [], ◌∷◌, ◌++◌, length, take, replicate, nat_lt, ◌==◌, Option, Some, None, Ok, Err, refl, ◌∙◌, zero-add, arith, inl, inr, All}
 use Rattle.std.proofs.lemmas.Bool.{cases_Bool, ltb-false}
 use Rattle.std.proofs.lemmas.List.{length_push, length-append, length-replicate, take_all}
 use Rattle.std.proofs.lemmas.List.Elements.{All-push, All-nil, All-append, All-replicate, All-weaker}
@@ -12,8 +12,10 @@ use Rattle.hg_policy.specs.declared.key.Counted.TheVariants as counted
 use Rattle.hg_policy.specs.declared.key.Level.TheVariants as level
 use Rattle.hg_policy.specs.Faults.{repeated, too_many}
 use Rattle.hg_policy.specs.Values.{field_at, known_keys, whole_at, or_else}
-use Rattle.hg_policy.specs.NameForm.{name_at, is_among}
+use Rattle.hg_policy.specs.NameForm.{is_name, name_at, is_among}
 use Rattle.hg_policy.specs.Arenas.{Arenas, no_arenas, and_arena, with_arena, members_in, just, admitted_in, admitted_at, arena_at, arenas_in}
+use Rattle.hg_policy.specs.DocumentLaws.{AreNames}
+use Rattle.hg_policy.proofs.DistinctNames.{name_at-formed, AreNames-nil, AreNames-push}
 use Rattle.hg_policy.proofs.Chains.{bind_at, in_turn-keeps, in_turn-counts}
 
 -- the items of a list that is made longer
@@ -28,14 +30,15 @@ pub record IsArenas (tenants : ℕ) (a : Arenas) : Type 0 where
   pub by_tenant : All (λ admitted. length admitted ≡ tenants) a.admitted
   pub in_arenas : All (λ arena. arena < length a.names) a.segments
   pub few : length a.segments ≤ 64
+  pub names : AreNames a.names
 
-with_arena-is : (done out : Arenas) (name : List ℕ) (segments : ℕ) (admitted : List Bool) → with_arena done name segments admitted ≡ Ok out → (out ≡ and_arena done name segments admitted) × (length done.segments + segments ≤ 64)
+with_arena-is : (done out : Arenas) (name : List ℕ) (segments : ℕ) (admitted : List Bool) → with_arena done name segments admitted ≡ Ok out → (out ≡ and_arena done name segments admitted) × (length done.segments + segments ≤ 64) × (is_among name done.names ≡ false)
 with_arena-is done out name segments admitted e =
     elim (cases_Bool (is_among name done.names)) [
       | inl there ↦ let f : Err (repeated name) ≡ Ok out = rw there at e in cc
       | inr new ↦ elim (cases_Bool (nat_lt 64 (length done.segments + segments))) [
         | inl over ↦ let f : Err (too_many counted.Segments) ≡ Ok out = rw (new, over) at e in cc
-        | inr fits ↦ let f : Ok (and_arena done name segments admitted) ≡ Ok out = rw (new, fits) at e in (cc, ltb-false 64 (length done.segments + segments) fits)
+        | inr fits ↦ let f : Ok (and_arena done name segments admitted) ≡ Ok out = rw (new, fits) at e in (cc, ltb-false 64 (length done.segments + segments) fits, new)
       ]
     ]
 
@@ -61,6 +64,8 @@ record IsNext (tenants : List Tenant) (done out : Arenas) : Type 0 where
   is : out ≡ and_arena done name segments admitted
   fits : length done.segments + segments ≤ 64
   by_tenant : length admitted ≡ length tenants
+  new : is_among name done.names ≡ false
+  formed : is_name name ≡ true
 
 arena_at-is : (tenants : List Tenant) (done : Arenas) (entry : Members) (out : Arenas) → arena_at tenants done entry ≡ Ok out → IsNext tenants done out
 unfolding arena_at
@@ -70,7 +75,7 @@ arena_at-is tenants done entry out e =
     let (segments, at3, e3) = bind_at (whole_at key.Segments 0 9223372036854775807 entry) _ out e2 in
     let (admitted, at4, e4) = bind_at (admitted_at tenants entry) (λ admitted. with_arena done name segments admitted) out e3 in
     let w = with_arena-is done out name segments admitted e4 in
-    record { name = name; segments = segments; admitted = admitted; is = w.0; fits = w.1; by_tenant = length-admitted_at tenants entry admitted at4 }
+    record { name = name; segments = segments; admitted = admitted; is = w.0; fits = w.1; by_tenant = length-admitted_at tenants entry admitted at4; new = w.2; formed = name_at-formed key.Name entry name at2 }
 
 pub arena_at-one : (tenants : List Tenant) (done : Arenas) (entry : Members) (out : Arenas) → arena_at tenants done entry ≡ Ok out → length out.names ≡ length done.names + 1
 arena_at-one tenants done entry out e =
@@ -88,6 +93,7 @@ arena_at-keeps tenants done entry out e kept =
           (All-weaker (λ arena. arena < length done.names) (λ arena. arena < length (done.names ++ n.name ∷ [])) (λ arena h. omega (arith, more, h)) done.segments kept.in_arenas)
           (All-replicate (λ arena. arena < length (done.names ++ n.name ∷ [])) n.segments (length done.names) (omega (arith, more)));
       few = omega (arith, length-append done.segments (replicate n.segments (length done.names)), length-replicate n.segments (length done.names), n.fits);
+      names = AreNames-push done.names n.name kept.names n.new n.formed;
     }
 
 pub arenas_in-length : (tenants : List Tenant) (entries : List Members) (out : Arenas) → arenas_in tenants entries ≡ Ok out → length out.names ≡ length entries
@@ -102,4 +108,5 @@ arenas_in-holds tenants entries out e =
       by_tenant = All-nil (λ (admitted : List Bool). length admitted ≡ length tenants);
       in_arenas = All-nil (λ arena. arena < 0);
       few = omega arith;
+      names = AreNames-nil;
     }

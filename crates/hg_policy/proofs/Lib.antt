@@ -4,9 +4,11 @@ pub mod Unknown
 pub mod InTurn
 pub mod Tables
 pub mod Chains
+pub mod DistinctNames
 pub mod Wholes
 pub mod TenantEntries
 pub mod ArenaEntries
 pub mod Sound
 pub mod GrantEntries
 pub mod GrantTable
+pub mod Parts

@@ -12,3 +12,4 @@ pub mod Arenas
 pub mod Grants
 pub mod Granted
 pub mod Document
+pub mod DocumentLaws

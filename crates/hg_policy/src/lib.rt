@@ -11,6 +11,7 @@ mod fault_tests;
 mod granted;
 mod grants;
 mod key;
+pub mod laws;
 mod name_form;
 mod one_line;
 mod policy;

@@ -1,0 +1,21 @@
+//! Laws of the document. Each function does nothing: what it promises is the law.
+
+ghost use Rattle.hg_policy.specs.DocumentLaws.{NamesAreDistinct, TablesAreWhole};
+ghost use Rattle.hg_policy.specs.DocumentLaws.{DocumentsAreSound};
+
+/// No two tenants of a policy that was read have one name, nor two arenas, and each name has the
+/// form of a name.
+pub fn names_are_distinct()
+    ensures { NamesAreDistinct }
+{}
+
+/// In a policy that was read it stands of each arena whether it admits each tenant, of each owner
+/// which rights each tenant has on its blocks, and nothing else.
+pub fn tables_are_whole()
+    ensures { TablesAreWhole }
+{}
+
+/// A policy that was read is sound.
+pub fn documents_are_sound()
+    ensures { DocumentsAreSound }
+{}
