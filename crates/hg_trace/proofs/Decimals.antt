@@ -131,3 +131,10 @@ read_back limit n word fits (is, small) =
 
 pub numbers_are_decimals : NumbersAreDecimals
 numbers_are_decimals limit n word fits = (reads limit n word fits, read_back limit n word fits)
+
+-- a number is written in digits
+pub digits-decimal : (n : ℕ) → n < 2 ^ 64 → list_all is_digit (decimal n) ≡ true
+digits-decimal n small = let w = written n small in w.digits
+
+pub length-decimal : (n : ℕ) → n < 2 ^ 64 → 0 < length (decimal n)
+length-decimal n small = let w = written n small in w.some

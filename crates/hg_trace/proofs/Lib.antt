@@ -1,4 +1,5 @@
 pub mod Firsts
+pub mod Binds
 pub mod LineReads
 pub mod LineCuts
 pub mod TextCuts
@@ -10,3 +11,10 @@ pub mod Parts
 pub mod Dots
 pub mod PlaceNumbers
 pub mod LabelNames
+pub mod PlainOperands
+pub mod PlainPlaces
+pub mod PlainBlocks
+pub mod PlainWords
+pub mod PlainCommands
+pub mod PlainReads
+pub mod PlainLines

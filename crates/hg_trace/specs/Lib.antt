@@ -11,3 +11,5 @@ pub mod Trace
 pub mod Reads
 pub mod Joined
 pub mod Printed
+pub mod Plain
+pub mod PlainLaws

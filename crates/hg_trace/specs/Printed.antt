@@ -7,6 +7,8 @@ use Rattle.hg_trace.specs.declared.line.BlockName.{BlockName}
 use Rattle.hg_trace.specs.declared.line.BlockName.TheVariants as block_name
 use Rattle.hg_trace.specs.declared.line.Command.{Command}
 use Rattle.hg_trace.specs.declared.line.Command.TheVariants as command
+use Rattle.hg_trace.specs.declared.line.Line.{Line}
+use Rattle.hg_trace.specs.Labels.{with_label}
 
 -- segment, page and index
 abbrev pub place_text : Place → List ℕ
@@ -59,3 +61,10 @@ line_words labels worker command = worker_text worker ∷ command_words labels c
 -- with one blank between one word and the next
 abbrev pub line_text : List (List ℕ) → ℕ → Command → List ℕ
 line_text labels worker command = join_with_byte 32 (line_words labels worker command)
+
+-- each line with its end, where earlier lines gave these labels
+abbrev pub lines_text : List (List ℕ) → List Line → List ℕ
+lines_text labels [] = []
+lines_text labels (line ∷ lines) =
+    line_text labels line.worker line.command ++ codes "\n"
+    ++ lines_text (with_label labels line.command) lines

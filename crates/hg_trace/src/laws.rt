@@ -1,8 +1,28 @@
 //! Laws of the definitions. Each function does nothing: what it promises is the law.
 
 ghost use Rattle.hg_trace.specs.NumberLaws.{NumbersAreDecimals};
+ghost use Rattle.hg_trace.specs.PlainLaws.{PlacesAreTheirTexts, HandlesAreTheirTexts};
+ghost use Rattle.hg_trace.specs.PlainLaws.{LinesAreTheirWords};
 
 /// A word is read as a number exactly where it is how that number is written.
 pub fn numbers_are_decimals()
     ensures { NumbersAreDecimals }
+{}
+
+/// A text is read as a place exactly where it is how that place is written.
+pub fn places_are_their_texts()
+    ensures { PlacesAreTheirTexts }
+{}
+
+/// A word is read as a handle exactly where it is how that handle is written, with a generation of at
+/// most 32 bits.
+pub fn handles_are_their_texts()
+    ensures { HandlesAreTheirTexts }
+{}
+
+/// The words of a line are read as a worker's command exactly where they are how it is written, with
+/// names of a name's form, numbers in their ranges, a block's label that an earlier line gave, and a
+/// label of its own that none gave.
+pub fn lines_are_their_words()
+    ensures { LinesAreTheirWords }
 {}
