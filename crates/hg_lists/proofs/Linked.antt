@@ -2,6 +2,7 @@
 use Rattle.std.proofs.Common.{◌≡◌, ℕ, suc, ◌+◌, ◌<◌, cond, nat_eq, List, [], length, map, slice_index, slice_set, count_by, sym, ◌∙◌, arith, subst}
 use Rattle.std.proofs.lemmas.List.{length-map, ext_get_or, get_or-map}
 use Rattle.std.proofs.lemmas.List.Sums.{count_by-le-length, sum_by-set}
+use Rattle.std.specs.Box.{boxed_slice_items}
 use Rattle.hg_lists.specs.Chains.{chain}
 use Rattle.hg_lists.specs.Repeats.{Lacks}
 use Rattle.hg_lists.specs.Links.{list_at, lists_of, Links, AreLinked}
@@ -32,7 +33,7 @@ IsAway keys lists entry = (key : ℕ) → key < keys → Lacks entry (list_at li
 
 -- the links of lists that are seen as a value
 abbrev pub IsKept : Inside → Lists → Type 0
-IsKept a m = Links (length m.by_key) m.entries a.heads.items a.next.items a.prev.items a.owner.items m.by_key
+IsKept a m = Links (length m.by_key) m.entries (boxed_slice_items a.heads) (boxed_slice_items a.next) (boxed_slice_items a.prev) (boxed_slice_items a.owner) m.by_key
 
 pub kept : (a : Inside) (m : Lists) → AreLinked a → lists_of a ≡ m → IsKept a m
-kept a m h e = subst (IsKept a) e (subst (λ (n : ℕ). Links n (length a.owner.items) a.heads.items a.next.items a.prev.items a.owner.items (lists_of a).by_key) (sym h.all) h)
+kept a m h e = subst (IsKept a) e (subst (λ (n : ℕ). Links n (length (boxed_slice_items a.owner)) (boxed_slice_items a.heads) (boxed_slice_items a.next) (boxed_slice_items a.prev) (boxed_slice_items a.owner) (lists_of a).by_key) (sym h.all) h)

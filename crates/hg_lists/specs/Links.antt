@@ -2,6 +2,7 @@
 use Rattle.std.specs.Prelude.{◌≡◌, ℕ, zero, suc, ◌<◌, ◌^◌, ◌==◌, List, [], length, map}
 use Rattle.std.specs.Prelude.{slice_index, slice_index_or, slice_set, count_by}
 use Rattle.std.specs.List.{AllByRecursion}
+use Rattle.std.specs.Box.{boxed_slice_items}
 use Rattle.hg_lists.specs.Chains.{chain, IsDouble}
 use Rattle.hg_lists.specs.Repeats.{IsIn, HasNoRepeats}
 use Rattle.hg_lists.specs.Lists.{Lists}
@@ -38,16 +39,16 @@ pub record Links (keys entries : ℕ) (heads next prev owner : List ℕ) (lists 
 -- the lists that links show
 abbrev pub lists_of : Inside → Lists
 lists_of a = record {
-  by_key = map (chain (length a.owner.items) (slice_index a.next.items)) a.heads.items;
-  entries = length a.owner.items;
+  by_key = map (chain (length (boxed_slice_items a.owner)) (slice_index (boxed_slice_items a.next))) (boxed_slice_items a.heads);
+  entries = length (boxed_slice_items a.owner);
 }
 
 -- the links of some lists, which are those that they show
 abbrev pub AreLinked : Inside → Type 0
 AreLinked a =
-    let keys : ℕ = length a.heads.items in
-    let entries : ℕ = length a.owner.items in
-    Links keys entries a.heads.items a.next.items a.prev.items a.owner.items (lists_of a).by_key
+    let keys : ℕ = length (boxed_slice_items a.heads) in
+    let entries : ℕ = length (boxed_slice_items a.owner) in
+    Links keys entries (boxed_slice_items a.heads) (boxed_slice_items a.next) (boxed_slice_items a.prev) (boxed_slice_items a.owner) (lists_of a).by_key
 
 -- links with what one of them leads to written over
 abbrev pub write_at : List ℕ → ℕ → ℕ → List ℕ

@@ -3,6 +3,7 @@ ghost use Rattle.std.specs.Prelude.{None, Contains, IsTrue, IfOk};
 
 use crate::links;
 use std::alloc::{AllocError, Global};
+use std::boxed::BoxedSlice;
 use std::marker::Model;
 
 /// Lists of entries by key, doubly linked by the entries' numbers. Entries and keys are counted
@@ -11,12 +12,12 @@ use std::marker::Model;
 #[derive(Drop)]
 pub struct IndexLists {
     // by key, the first entry
-    heads: Vec<u16>,
+    heads: BoxedSlice<u16>,
     // by entry, the ones behind and before
-    next: Vec<u16>,
-    prev: Vec<u16>,
+    next: BoxedSlice<u16>,
+    prev: BoxedSlice<u16>,
     // by entry, the key of its list plus 1, or 0 where it is in none
-    owner: Vec<u16>,
+    owner: BoxedSlice<u16>,
 }
 
 impl Model for IndexLists {

@@ -1,17 +1,31 @@
 ghost use Rattle.std.specs.Prelude.{◌≡◌, ℕ, ◌≤◌, ◌<◌, ◌-◌, length, ◌==◌, if◌then◌else◌};
-ghost use Rattle.std.specs.Prelude.{slice_index, IfOk, None, Some};
+ghost use Rattle.std.specs.Prelude.{slice_index, vec_capacity, IfOk, None, Some};
+ghost use Rattle.std.specs.Box.{boxed_slice_items};
 ghost use Rattle.hg_lists.specs.Links.{write_at, first_at};
 
 use std::alloc::{AllocError, Global};
+use std::boxed::BoxedSlice;
 
 /// So many links that lead nowhere.
-pub fn ends(alloc: Global, count: u16) -> Result<Vec<u16>, AllocError>
+pub fn ends(alloc: Global, count: u16) -> Result<BoxedSlice<u16>, AllocError>
+    ensures all { IfOk result (λ links. length (boxed_slice_items links) ≡ count) }
+    ensures zero { IfOk result (λ links. (at : ℕ)
+        → slice_index (boxed_slice_items links) at ≡ 0) }
+{
+    let links = zeros(alloc, count)?;
+    Ok(links.into_boxed_slice())
+}
+
+/// Zeros, in a vector with room for no more.
+fn zeros(alloc: Global, count: u16) -> Result<Vec<u16>, AllocError>
     ensures all { IfOk result (λ links. length links.items ≡ count) }
     ensures zero { IfOk result (λ links. (at : ℕ) → slice_index links.items at ≡ 0) }
+    ensures room { IfOk result (λ links. vec_capacity links ≡ count) }
 {
     let mut links = Vec::with_capacity(alloc, count as usize)?;
-    for _ in 0..count {
-        links.push(0)?;
+    for at in 0..count as usize {
+        // where there is room, `insert` keeps to it, and says so
+        links.insert(at, 0)?;
     }
     Ok(links)
 }
@@ -24,9 +38,10 @@ pub fn entry_of(link: u16) -> Option<u16>
 }
 
 /// Writes where a link leads to, if anywhere.
-pub fn write(links: &mut Vec<u16>, link: u16, value: u16)
-    requires { link ≤ length links.old.items }
-    ensures { links.new.items ≡ write_at links.old.items link value }
+pub fn write(links: &mut BoxedSlice<u16>, link: u16, value: u16)
+    requires { link ≤ length (boxed_slice_items links.old) }
+    ensures { boxed_slice_items links.new
+        ≡ write_at (boxed_slice_items links.old) link value }
 {
     if link != 0 {
         links[link as usize - 1] = value;
@@ -34,9 +49,10 @@ pub fn write(links: &mut Vec<u16>, link: u16, value: u16)
 }
 
 /// Writes what a key's list begins with, where nothing stands before.
-pub fn write_first(heads: &mut Vec<u16>, key: u16, before: u16, after: u16)
-    requires { key < length heads.old.items }
-    ensures { heads.new.items ≡ first_at heads.old.items key before after }
+pub fn write_first(heads: &mut BoxedSlice<u16>, key: u16, before: u16, after: u16)
+    requires { key < length (boxed_slice_items heads.old) }
+    ensures { boxed_slice_items heads.new
+        ≡ first_at (boxed_slice_items heads.old) key before after }
 {
     if before == 0 {
         heads[key as usize] = after;

@@ -1,7 +1,8 @@
 ghost use Rattle.std.specs.Prelude.{◌≡◌, ℕ, ◌+◌, ◌<◌, ◌≤◌, ◌⊎◌};
-ghost use Rattle.std.specs.Prelude.{length, slice_index, slice_set, slice_range, IfOk};
+ghost use Rattle.std.specs.Prelude.{length, slice_index, slice_set, slice_range, vec_capacity, IfOk};
 
 use std::alloc::{AllocError, Global};
+use std::boxed::BoxedSlice;
 use std::marker::Model;
 
 /// How many words a segment has.
@@ -10,18 +11,19 @@ pub const WORDS: usize = 8192;
 /// The words of one segment, seen as their list.
 #[derive(Drop)]
 pub struct WordMemory {
-    words: Vec<u64>,
+    words: BoxedSlice<u64>,
 }
 
 impl Model for WordMemory {
     ghost use Rattle.std.specs.Prelude.{◌≡◌, List, ℕ, length};
+    ghost use Rattle.std.specs.Box.{boxed_slice_items};
     ghost use Rattle.hg_words.specs.declared.memory.TheConstants.{WORDS};
 
     ghost Value = { List ℕ };
 
-    ghost view = { λ m. m.words.items };
+    ghost view = { λ m. boxed_slice_items m.words };
 
-    ghost invariant = { λ m. length m.words.items ≡ WORDS };
+    ghost invariant = { λ m. length (boxed_slice_items m.words) ≡ WORDS };
 }
 
 impl WordMemory {
@@ -30,10 +32,7 @@ impl WordMemory {
         ensures all { IfOk result (λ m. length m ≡ WORDS) }
         ensures zero { IfOk result (λ m. (at : ℕ) → slice_index m at ≡ 0) }
     {
-        let mut words = Vec::with_capacity(alloc, WORDS)?;
-        for _ in 0..WORDS {
-            words.push(0)?;
-        }
+        let words = zeros(alloc)?.into_boxed_slice();
         Ok(WordMemory { words })
     }
 
@@ -73,4 +72,18 @@ impl WordMemory {
         let end = from + into.len();
         into.copy_from_slice(&self.words[from..end]);
     }
+}
+
+/// Words that are all zero, in a vector with room for no more.
+fn zeros(alloc: Global) -> Result<Vec<u64>, AllocError>
+    ensures all { IfOk result (λ words. length words.items ≡ WORDS) }
+    ensures zero { IfOk result (λ words. (at : ℕ) → slice_index words.items at ≡ 0) }
+    ensures room { IfOk result (λ words. vec_capacity words ≡ WORDS) }
+{
+    let mut words = Vec::with_capacity(alloc, WORDS)?;
+    for at in 0..WORDS {
+        // where there is room, `insert` keeps to it, and says so
+        words.insert(at, 0)?;
+    }
+    Ok(words)
 }

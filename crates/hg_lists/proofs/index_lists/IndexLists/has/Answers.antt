@@ -1,5 +1,6 @@
 use Rattle.std.proofs.Common.{◌≡◌, ◌≢◌, ◌∙◌, ◌-◌, suc, sym, arith}
 use Rattle.std.proofs.lemmas.List.{get_or_read}
+use Rattle.std.specs.Box.{boxed_slice_items}
 use Rattle.hg_lists.proofs.RepeatsLemmas.{in_contains, Contains-in}
 use Rattle.hg_lists.proofs.Linked.{kept}
 use Rattle.hg_lists.proofs.Removed.{apart_kept, key_of, key_below}
@@ -9,7 +10,7 @@ use Rattle.hg_lists.proofs.index_lists.IndexLists.has.Goals as goal
 pub returns-clause-there : goal.returns-clause-there
 returns-clause-there c =
     let k = kept c.self.inside c.args.self.now c.self.invariant c.self.view_is in
-    let own = get_or_read c.self.inside.owner.items c.args.entry c.index.result.now (omega (arith, k.all_owners, c.requires)) c.index.ensures 0 in (
+    let own = get_or_read (boxed_slice_items c.self.inside.owner) c.args.entry c.index.result.now (omega (arith, k.all_owners, c.requires)) c.index.ensures 0 in (
       (λ is. let ne : c.index.result.now ≢ 0 = set_own c.index.result.now is in
           let there = k.found c.args.entry (c.index.result.now - 1) c.requires (let e : c.index.result.now ≡ suc (c.index.result.now - 1) = omega arith in sym own ∙ e) in
           (c.index.result.now - 1, Contains-in _ _ there.1)),

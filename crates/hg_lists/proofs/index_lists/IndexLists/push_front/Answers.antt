@@ -1,5 +1,6 @@
 use Rattle.std.proofs.Common.{arith}
 use Rattle.std.proofs.lemmas.List.{length-set, get_or_read}
+use Rattle.std.specs.Box.{boxed_slice_items}
 use Rattle.hg_lists.proofs.Linked.{kept}
 use Rattle.hg_lists.proofs.Pushed.{pushed-all, head_small, away, settled_links, settled_value}
 use Rattle.hg_lists.proofs.Removed.{seen_apart}
@@ -9,8 +10,8 @@ pub write-requires : goal.write-requires
 write-requires c =
     let k = kept c.self.inside c.args.self.now c.self.invariant c.self.view_is in
     let small = head_small _ _ _ _ _ _ _ c.args.key k c.requires.key in
-    let is = get_or_read c.self.inside.heads.items c.args.key c.index-head.result.now (omega (arith, k.all_heads, c.requires.key)) c.index-head.ensures 0 in
-    omega (arith, small, is, length-set c.self.inside.prev.items c.args.entry 0, k.all_prev)
+    let is = get_or_read (boxed_slice_items c.self.inside.heads) c.args.key c.index-head.result.now (omega (arith, k.all_heads, c.requires.key)) c.index-head.ensures 0 in
+    omega (arith, small, is, length-set (boxed_slice_items c.self.inside.prev) c.args.entry 0, k.all_prev)
 
 pub invariant_of-self : goal.invariant_of-self
 invariant_of-self c =

@@ -1,5 +1,6 @@
 use Rattle.std.proofs.Common.{◌∙◌, sym, arith, ap, List, ℕ}
 use Rattle.std.proofs.lemmas.List.{get_or_read}
+use Rattle.std.specs.Box.{boxed_slice_items}
 use Rattle.hg_lists.specs.Lists.{Lists}
 use Rattle.hg_lists.proofs.Linked.{kept}
 use Rattle.hg_lists.proofs.Pushed.{settled_links, settled_value}
@@ -9,7 +10,7 @@ use Rattle.hg_lists.proofs.index_lists.IndexLists.remove.Goals as goal
 pub returns-then-owner-eq0-clause-removed : goal.returns-then-owner-eq0-clause-removed
 returns-then-owner-eq0-clause-removed c =
     let k = kept c.self.inside c.args.self.now c.self.invariant c.self.view_is in
-    let free = sym (get_or_read c.self.inside.owner.items c.args.entry c.index-owner.result.now (omega (arith, k.all_owners, c.requires)) c.index-owner.ensures 0) ∙ c.if-owner-eq0.true in
+    let free = sym (get_or_read (boxed_slice_items c.self.inside.owner) c.args.entry c.index-owner.result.now (omega (arith, k.all_owners, c.requires)) c.index-owner.ensures 0) ∙ c.if-owner-eq0.true in
     ap (λ (lists : List (List ℕ)). let m : Lists = record { by_key = lists; entries = c.args.self.now.entries } in m) (without_nowhere _ _ _ _ _ _ c.args.self.now.by_key c.args.entry k free)
 
 pub returns-then-owner-eq0-clause-apart : goal.returns-then-owner-eq0-clause-apart
