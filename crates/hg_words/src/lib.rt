@@ -1,9 +1,9 @@
-//! The words of one segment: 8,192 of them, always.
+//! The words of one segment, as many as a segment has.
 #![tactic(auto)]
 
 mod memory;
 
-pub use memory::{WORDS, WordMemory};
+pub use memory::WordMemory;
 
 #[cfg(test)]
 mod tests;

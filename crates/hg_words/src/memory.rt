@@ -1,12 +1,11 @@
 ghost use Rattle.std.specs.Prelude.{◌≡◌, ℕ, ◌+◌, ◌<◌, ◌≤◌, ◌⊎◌};
 ghost use Rattle.std.specs.Prelude.{length, slice_index, slice_set, slice_range, vec_capacity, IfOk};
+ghost use Rattle.hg_place.specs.declared.geometry.TheConstants.{SEGMENT_WORDS};
 
+use hg_place::SEGMENT_WORDS;
 use std::alloc::{AllocError, Global};
 use std::boxed::BoxedSlice;
 use std::marker::Model;
-
-/// How many words a segment has.
-pub const WORDS: usize = 8192;
 
 /// The words of one segment, seen as their list.
 #[derive(Drop)]
@@ -17,19 +16,19 @@ pub struct WordMemory {
 impl Model for WordMemory {
     ghost use Rattle.std.specs.Prelude.{◌≡◌, List, ℕ, length};
     ghost use Rattle.std.specs.Box.{boxed_slice_items};
-    ghost use Rattle.hg_words.specs.declared.memory.TheConstants.{WORDS};
+    ghost use Rattle.hg_place.specs.declared.geometry.TheConstants.{SEGMENT_WORDS};
 
     ghost Value = { List ℕ };
 
     ghost view = { λ m. boxed_slice_items m.words };
 
-    ghost invariant = { λ m. length (boxed_slice_items m.words) ≡ WORDS };
+    ghost invariant = { λ m. length (boxed_slice_items m.words) ≡ SEGMENT_WORDS };
 }
 
 impl WordMemory {
     /// Words that are all zero.
     pub fn new(alloc: Global) -> Result<WordMemory, AllocError>
-        ensures all { IfOk result (λ m. length m ≡ WORDS) }
+        ensures all { IfOk result (λ m. length m ≡ SEGMENT_WORDS) }
         ensures zero { IfOk result (λ m. (at : ℕ) → slice_index m at ≡ 0) }
     {
         let words = zeros(alloc)?.into_boxed_slice();
@@ -38,7 +37,7 @@ impl WordMemory {
 
     /// The word at `at`.
     pub fn get(&self, at: usize) -> u64
-        requires { at < WORDS }
+        requires { at < SEGMENT_WORDS }
         ensures { result ≡ slice_index self.now at }
     {
         self.words[at]
@@ -46,27 +45,27 @@ impl WordMemory {
 
     /// Makes the word at `at` the value.
     pub fn set(&mut self, at: usize, value: u64)
-        requires { at < WORDS }
+        requires { at < SEGMENT_WORDS }
         ensures words { self.new ≡ slice_set self.old at value }
-        ensures all { length self.new ≡ WORDS }
+        ensures all { length self.new ≡ SEGMENT_WORDS }
     {
         self.words[at] = value;
     }
 
     /// Makes `count` words from `from` on zero.
     pub fn zero(&mut self, from: usize, count: usize)
-        requires { from + count ≤ WORDS }
+        requires { from + count ≤ SEGMENT_WORDS }
         ensures zero { (at : ℕ) → from ≤ at → at < from + count → slice_index self.new at ≡ 0 }
         ensures others { (at : ℕ) → (at < from) ⊎ (from + count ≤ at)
             → slice_index self.new at ≡ slice_index self.old at }
-        ensures all { length self.new ≡ WORDS }
+        ensures all { length self.new ≡ SEGMENT_WORDS }
     {
         self.words[from..from + count].fill(0);
     }
 
     /// Copies as many words as `into` holds from `from` on.
     pub fn copy_out(&self, from: usize, into: &mut [u64])
-        requires { from + length into.old ≤ WORDS }
+        requires { from + length into.old ≤ SEGMENT_WORDS }
         ensures { into.new ≡ slice_range self.now from (from + length into.old) }
     {
         let end = from + into.len();
@@ -76,12 +75,12 @@ impl WordMemory {
 
 /// Words that are all zero, in a vector with room for no more.
 fn zeros(alloc: Global) -> Result<Vec<u64>, AllocError>
-    ensures all { IfOk result (λ words. length words.items ≡ WORDS) }
+    ensures all { IfOk result (λ words. length words.items ≡ SEGMENT_WORDS) }
     ensures zero { IfOk result (λ words. (at : ℕ) → slice_index words.items at ≡ 0) }
-    ensures room { IfOk result (λ words. vec_capacity words ≡ WORDS) }
+    ensures room { IfOk result (λ words. vec_capacity words ≡ SEGMENT_WORDS) }
 {
-    let mut words = Vec::with_capacity(alloc, WORDS)?;
-    for at in 0..WORDS {
+    let mut words = Vec::with_capacity(alloc, SEGMENT_WORDS)?;
+    for at in 0..SEGMENT_WORDS {
         // where there is room, `insert` keeps to it, and says so
         words.insert(at, 0)?;
     }
