@@ -1,11 +1,10 @@
 -- How often an entry stands on all lists together.
-use Rattle.std.proofs.Common.{◌≡◌, ℕ, zero, suc, ◌+◌, nat_eq, List, [], ◌∷◌, ◌++◌, count_by, refl, arith, cond}
+use Rattle.std.proofs.Common.{slice_index_or, ◌≡◌, ℕ, zero, suc, ◌+◌, nat_eq, List, [], ◌∷◌, ◌++◌, count_by, refl, arith, cond}
 use Rattle.std.specs.Prelude.{Contains}
 use Rattle.std.specs.List.{concat}
 use Rattle.std.proofs.lemmas.List.Sums.{sum_by-append}
 use Rattle.hg_lists.specs.Repeats.{HasNoRepeats}
 use Rattle.hg_lists.specs.Lists.{Lists, AreApart, IsSomewhere, IsNowhere}
-use Rattle.hg_lists.specs.Links.{list_at}
 use Rattle.hg_lists.proofs.RepeatsLemmas.{in_contains, lacks_contains, count_by-lacks, count_by-in}
 
 abbrev pub times : ℕ → List ℕ → ℕ
@@ -14,12 +13,12 @@ times entry xs = count_by (λ other. nat_eq other entry) xs
 times-append : (entry : ℕ) (xs ys : List ℕ) → times entry (xs ++ ys) ≡ times entry xs + times entry ys
 times-append entry xs ys = sum_by-append (λ other. cond {A = ℕ} (nat_eq other entry) 1 0) xs ys
 
-nowhere : (entry : ℕ) (lists : List (List ℕ)) → ((key : ℕ) → ¬ Contains (list_at lists key) entry) → times entry (concat lists) ≡ 0
+nowhere : (entry : ℕ) (lists : List (List ℕ)) → ((key : ℕ) → ¬ Contains (slice_index_or lists key []) entry) → times entry (concat lists) ≡ 0
 nowhere entry [] f = refl
 nowhere entry (xs ∷ lists) f = omega (arith, times-append entry xs (concat lists), count_by-lacks entry xs (lacks_contains entry xs (f 0)), nowhere entry lists (λ key. f (suc key)))
 
-somewhere : (entry : ℕ) (lists : List (List ℕ)) (key : ℕ) → ((k : ℕ) → HasNoRepeats (list_at lists k))
-    → ((k other : ℕ) → Contains (list_at lists k) entry → Contains (list_at lists other) entry → k ≡ other) → Contains (list_at lists key) entry → times entry (concat lists) ≡ 1
+somewhere : (entry : ℕ) (lists : List (List ℕ)) (key : ℕ) → ((k : ℕ) → HasNoRepeats (slice_index_or lists k []))
+    → ((k other : ℕ) → Contains (slice_index_or lists k []) entry → Contains (slice_index_or lists other []) entry → k ≡ other) → Contains (slice_index_or lists key []) entry → times entry (concat lists) ≡ 1
 somewhere entry [] key once alone c = absurd (omega (arith, c.1))
 somewhere entry (xs ∷ lists) zero once alone c = omega (
   arith,

@@ -1,11 +1,11 @@
 -- What follows a entry, and lists that are all empty.
-use Rattle.std.proofs.Common.{◌≡◌, ◌≢◌, ℕ, zero, suc, ◌+◌, ◌<◌, ◌-◌, ◌^◌, Bool, false, cond, not, IsTrue, nat_eq, Some, None, List, [], ◌∷◌, length, map, slice_index, count_by, refl, sym, ap, ◌∙◌, arith, inl, inr, ⊎_elim}
+use Rattle.std.proofs.Common.{slice_index_or, ◌≡◌, ◌≢◌, ℕ, zero, suc, ◌+◌, ◌<◌, ◌-◌, ◌^◌, Bool, false, cond, not, IsTrue, nat_eq, Some, None, List, [], ◌∷◌, length, map, slice_index, count_by, refl, sym, ap, ◌∙◌, arith, inl, inr, ⊎_elim}
 use Rattle.std.proofs.lemmas.Bool.{cases_eq, cases_lt}
 use Rattle.std.proofs.lemmas.List.{length-map, get_or-map, get_or_past}
 use Rattle.std.proofs.lemmas.List.Sums.{sum_by-cons}
 use Rattle.hg_lists.specs.Chains.{chain, IsDouble}
 use Rattle.hg_lists.specs.Repeats.{IsIn}
-use Rattle.hg_lists.specs.Links.{list_at, Links}
+use Rattle.hg_lists.specs.Links.{Links}
 use Rattle.hg_lists.specs.Lists.{follower}
 use Rattle.hg_lists.proofs.RepeatsLemmas.{nat_eq-same, nat_eq-other}
 use Rattle.hg_lists.proofs.Pushed.{first_of}
@@ -22,7 +22,7 @@ unfolding chain
 chain-end zero next link e = refl
 chain-end (suc n) next link e = rw e
 
-pub empty_list : (entries : ℕ) (heads next : List ℕ) (key : ℕ) → ((at : ℕ) → slice_index heads at ≡ 0) → list_at (map (chain entries (slice_index next)) heads) key ≡ []
+pub empty_list : (entries : ℕ) (heads next : List ℕ) (key : ℕ) → ((at : ℕ) → slice_index heads at ≡ 0) → slice_index_or (map (chain entries (slice_index next)) heads) key [] ≡ []
 empty_list entries heads next key zeros = elim (cases_lt key (length heads)) [
   | inl lt ↦ get_or-map (chain entries (slice_index next)) heads key 0 [] lt ∙ chain-end entries (slice_index next) (slice_index heads key) (zeros key)
   | inr ge ↦ get_or_past (map (chain entries (slice_index next)) heads) key [] (omega (arith, length-map heads (chain entries (slice_index next))))
@@ -38,7 +38,7 @@ count_zeros (x ∷ xs) key f =
 
 pub empty_links : (keys entries : ℕ) (heads next prev owner : List ℕ) → keys < 2 ^ 16 → entries < 2 ^ 16 → length heads ≡ keys → length next ≡ entries → length prev ≡ entries → length owner ≡ entries → ((at : ℕ) → slice_index heads at ≡ 0) → ((at : ℕ) → slice_index owner at ≡ 0) → Links keys entries heads next prev owner (map (chain entries (slice_index next)) heads)
 empty_links keys entries heads next prev owner k n a b c d zero_heads zero_owners =
-    let Q : (key : ℕ) → list_at (map (chain entries (slice_index next)) heads) key ≡ [] = λ key. empty_list entries heads next key zero_heads in record {
+    let Q : (key : ℕ) → slice_index_or (map (chain entries (slice_index next)) heads) key [] ≡ [] = λ key. empty_list entries heads next key zero_heads in record {
       few_keys = k;
       few_entries = n;
       all_heads = a;

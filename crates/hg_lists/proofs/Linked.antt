@@ -1,17 +1,17 @@
 -- The links of all lists.
-use Rattle.std.proofs.Common.{◌≡◌, ℕ, suc, ◌+◌, ◌<◌, cond, nat_eq, List, [], length, map, slice_index, slice_set, count_by, sym, ◌∙◌, arith, subst}
+use Rattle.std.proofs.Common.{slice_index_or, ◌≡◌, ℕ, suc, ◌+◌, ◌<◌, cond, nat_eq, List, [], length, map, slice_index, slice_set, count_by, sym, ◌∙◌, arith, subst}
 use Rattle.std.proofs.lemmas.List.{length-map, ext_get_or, get_or-map}
 use Rattle.std.proofs.lemmas.List.Sums.{count_by-le-length, sum_by-set}
 use Rattle.std.specs.Box.{boxed_slice_items}
 use Rattle.hg_lists.specs.Chains.{chain}
 use Rattle.hg_lists.specs.Repeats.{Lacks}
-use Rattle.hg_lists.specs.Links.{list_at, lists_of, Links, AreLinked}
+use Rattle.hg_lists.specs.Links.{lists_of, Links, AreLinked}
 use Rattle.hg_lists.specs.Lists.{Lists}
 use Rattle.hg_lists.specs.declared.index_lists.IndexLists.TheInside.{Inside}
 use Rattle.hg_lists.proofs.Doubled.{chain-is}
 
-pub list-is : (keys entries : ℕ) (heads next prev owner : List ℕ) (lists : List (List ℕ)) (key : ℕ) → Links keys entries heads next prev owner lists → key < keys → chain entries (slice_index next) (slice_index heads key) ≡ list_at lists key
-list-is keys entries heads next prev owner lists key h lt = chain-is entries (slice_index next) (slice_index prev) 0 (slice_index heads key) (list_at lists key) (h.linked key lt) (omega (arith, h.counted key lt, count_by-le-length (λ o. nat_eq o (suc key)) owner, h.all_owners))
+pub list-is : (keys entries : ℕ) (heads next prev owner : List ℕ) (lists : List (List ℕ)) (key : ℕ) → Links keys entries heads next prev owner lists → key < keys → chain entries (slice_index next) (slice_index heads key) ≡ slice_index_or lists key []
+list-is keys entries heads next prev owner lists key h lt = chain-is entries (slice_index next) (slice_index prev) 0 (slice_index heads key) (slice_index_or lists key []) (h.linked key lt) (omega (arith, h.counted key lt, count_by-le-length (λ o. nat_eq o (suc key)) owner, h.all_owners))
 
 -- the lists that the links show are these
 pub lists-are : (keys entries : ℕ) (heads next prev owner : List ℕ) (lists : List (List ℕ)) → Links keys entries heads next prev owner lists → map (chain entries (slice_index next)) heads ≡ lists
@@ -29,7 +29,7 @@ count_owner owner entry old new key l e = rw e at (sum_by-set (λ o. cond (nat_e
 
 -- the entry stands in no list
 abbrev pub IsAway : ℕ → List (List ℕ) → ℕ → Type 0
-IsAway keys lists entry = (key : ℕ) → key < keys → Lacks entry (list_at lists key)
+IsAway keys lists entry = (key : ℕ) → key < keys → Lacks entry (slice_index_or lists key [])
 
 -- the links of lists that are seen as a value
 abbrev pub IsKept : Inside → Lists → Type 0

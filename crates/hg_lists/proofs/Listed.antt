@@ -1,10 +1,9 @@
 -- What a push and a removal leave of the list of a key.
-use Rattle.std.proofs.Common.{◌≡◌, ◌≢◌, ℕ, suc, ◌<◌, List, [], ◌∷◌, length, map, slice_get, Some, None, refl, sym, ap, ◌∙◌, arith, subst, ◌⊎◌, inl, inr, ⊎_elim, get_or-set_other, get_or-set_same}
+use Rattle.std.proofs.Common.{slice_index_or, ◌≡◌, ◌≢◌, ℕ, suc, ◌<◌, List, [], ◌∷◌, length, map, slice_get, Some, None, refl, sym, ap, ◌∙◌, arith, subst, ◌⊎◌, inl, inr, ⊎_elim, get_or-set_other, get_or-set_same}
 use Rattle.std.specs.Prelude.{Contains}
 use Rattle.std.proofs.lemmas.List.{length-map, get_or-map, get_or_past}
 use Rattle.std.proofs.lemmas.Bool.{cases_eq, cases_lt}
 use Rattle.hg_lists.specs.Repeats.{IsIn, HasNoRepeats}
-use Rattle.hg_lists.specs.Links.{list_at}
 use Rattle.hg_lists.specs.Lists.{Lists, list_of, IsNowhere, IsSomewhere, without, with_front, without_entry}
 use Rattle.hg_lists.proofs.RepeatsLemmas.{in_contains, Contains-in, Contains-cons, Contains-cons_cases, lacks_contains}
 use Rattle.hg_lists.proofs.Without.{without-same, without-other, without-lacks, In-without}
@@ -72,7 +71,7 @@ no_first [] e = refl
 no_first (x ∷ xs) e = cc
 
 -- a removal of an entry that stands nowhere, and of the first of a list
-map_without : (entry : ℕ) (lists : List (List ℕ)) → ((key : ℕ) → ¬ Contains (list_at lists key) entry) → map (without entry) lists ≡ lists
+map_without : (entry : ℕ) (lists : List (List ℕ)) → ((key : ℕ) → ¬ Contains (slice_index_or lists key []) entry) → map (without entry) lists ≡ lists
 map_without entry [] f = refl
 map_without entry (xs ∷ lists) f = ap (λ (ys : List ℕ). ys ∷ map (without entry) lists) (without-lacks entry xs (lacks_contains entry xs (f 0))) ∙ ap (λ (ls : List (List ℕ)). xs ∷ ls) (map_without entry lists (λ key. f (suc key)))
 

@@ -5,7 +5,7 @@ use Rattle.std.proofs.lemmas.Bool.{cases_eq, cases_lt}
 use Rattle.std.specs.Prelude.{Contains}
 use Rattle.hg_lists.specs.Chains.{IsDouble}
 use Rattle.hg_lists.specs.Repeats.{Lacks, IsIn}
-use Rattle.hg_lists.specs.Links.{list_at, Links, write_at, first_at}
+use Rattle.hg_lists.specs.Links.{Links, write_at, first_at}
 use Rattle.hg_lists.specs.Lists.{Lists, list_of, AreApart, without}
 use Rattle.hg_lists.proofs.RepeatsLemmas.{Each-in, in_or_lacks, in_contains, Each-weaker, nat_eq-same, nat_eq-other}
 use Rattle.hg_lists.proofs.Doubled.{double_kept, AreSame, length-write_at, write_at-other, write_at-same}
@@ -14,22 +14,22 @@ use Rattle.hg_lists.proofs.Pushed.{seen}
 use Rattle.hg_lists.proofs.Without.{removed, next_in, prev_in, without-lacks, Each-without, Apart-without, In-without, length-without}
 
 -- each entry of a list has the list's key
-pub key_of : (keys entries : ℕ) (heads next prev owner : List ℕ) (lists : List (List ℕ)) (key x : ℕ) → Links keys entries heads next prev owner lists → key < keys → IsIn x (list_at lists key) → (x < entries) × (slice_index owner x ≡ suc key)
-key_of keys entries heads next prev owner lists key x h lt i = Each-in (λ entry. (entry < entries) × (slice_index owner entry ≡ suc key)) x (list_at lists key) (h.owned key lt) i
+pub key_of : (keys entries : ℕ) (heads next prev owner : List ℕ) (lists : List (List ℕ)) (key x : ℕ) → Links keys entries heads next prev owner lists → key < keys → IsIn x (slice_index_or lists key []) → (x < entries) × (slice_index owner x ≡ suc key)
+key_of keys entries heads next prev owner lists key x h lt i = Each-in (λ entry. (entry < entries) × (slice_index owner entry ≡ suc key)) x (slice_index_or lists key []) (h.owned key lt) i
 
 -- a entry of one list is on no other
-pub elsewhere : (keys entries : ℕ) (heads next prev owner : List ℕ) (lists : List (List ℕ)) (key other x : ℕ) → Links keys entries heads next prev owner lists → slice_index owner x ≡ suc key → other < keys → other ≢ key → Lacks x (list_at lists other)
-elsewhere keys entries heads next prev owner lists key other x h is lt ne = in_or_lacks x (list_at lists other) (λ y i e. ne (omega (arith, is, rw e at is, (key_of keys entries heads next prev owner lists other y h lt i).1)))
+pub elsewhere : (keys entries : ℕ) (heads next prev owner : List ℕ) (lists : List (List ℕ)) (key other x : ℕ) → Links keys entries heads next prev owner lists → slice_index owner x ≡ suc key → other < keys → other ≢ key → Lacks x (slice_index_or lists other [])
+elsewhere keys entries heads next prev owner lists key other x h is lt ne = in_or_lacks x (slice_index_or lists other []) (λ y i e. ne (omega (arith, is, rw e at is, (key_of keys entries heads next prev owner lists other y h lt i).1)))
 
 -- what the links of a entry lead to has the entry's key
-pub next_key : (keys entries : ℕ) (heads next prev owner : List ℕ) (lists : List (List ℕ)) (key entry z : ℕ) → Links keys entries heads next prev owner lists → key < keys → IsIn entry (list_at lists key) → slice_index next entry ≡ suc z → (z < entries) × (slice_index owner z ≡ suc key)
-next_key keys entries heads next prev owner lists key entry z h lt i e = key_of keys entries heads next prev owner lists key z h lt (next_in (slice_index next) (slice_index prev) 0 (slice_index heads key) entry z (list_at lists key) (h.linked key lt) i e)
+pub next_key : (keys entries : ℕ) (heads next prev owner : List ℕ) (lists : List (List ℕ)) (key entry z : ℕ) → Links keys entries heads next prev owner lists → key < keys → IsIn entry (slice_index_or lists key []) → slice_index next entry ≡ suc z → (z < entries) × (slice_index owner z ≡ suc key)
+next_key keys entries heads next prev owner lists key entry z h lt i e = key_of keys entries heads next prev owner lists key z h lt (next_in (slice_index next) (slice_index prev) 0 (slice_index heads key) entry z (slice_index_or lists key []) (h.linked key lt) i e)
 
-pub prev_key : (keys entries : ℕ) (heads next prev owner : List ℕ) (lists : List (List ℕ)) (key entry z : ℕ) → Links keys entries heads next prev owner lists → key < keys → IsIn entry (list_at lists key) → slice_index prev entry ≡ suc z → (z < entries) × (slice_index owner z ≡ suc key)
+pub prev_key : (keys entries : ℕ) (heads next prev owner : List ℕ) (lists : List (List ℕ)) (key entry z : ℕ) → Links keys entries heads next prev owner lists → key < keys → IsIn entry (slice_index_or lists key []) → slice_index prev entry ≡ suc z → (z < entries) × (slice_index owner z ≡ suc key)
 prev_key keys entries heads next prev owner lists key entry z h lt i e = ⊎_elim
     (λ s. absurd (omega (arith, s, e)))
-    (λ k. let same : k.0 ≡ z = omega (arith, k.1, e) in key_of keys entries heads next prev owner lists key z h lt (subst (λ (y : ℕ). IsIn y (list_at lists key)) same k.2))
-    (prev_in (slice_index next) (slice_index prev) 0 (slice_index heads key) entry (list_at lists key) (h.linked key lt) i)
+    (λ k. let same : k.0 ≡ z = omega (arith, k.1, e) in key_of keys entries heads next prev owner lists key z h lt (subst (λ (y : ℕ). IsIn y (slice_index_or lists key [])) same k.2))
+    (prev_in (slice_index next) (slice_index prev) 0 (slice_index heads key) entry (slice_index_or lists key []) (h.linked key lt) i)
 
 length-first_at : (heads : List ℕ) (key before after : ℕ) → length (first_at heads key before after) ≡ length heads
 length-first_at heads key zero after = length-set heads key after
@@ -47,11 +47,11 @@ first_at-other : (heads : List ℕ) (key before after other : ℕ) → other ≢
 first_at-other heads key zero after other ne = get_or-set_other heads key other after 0 ne
 first_at-other heads key (suc i) after other ne = refl
 
-pub list_at-without : (lists : List (List ℕ)) (entry key : ℕ) → key < length lists → list_at (map (without entry) lists) key ≡ without entry (list_at lists key)
-list_at-without lists entry key l = get_or-map (without entry) lists key [] [] l
+pub get_or-map_without : (lists : List (List ℕ)) (entry key : ℕ) → key < length lists → slice_index_or (map (without entry) lists) key [] ≡ without entry (slice_index_or lists key [])
+get_or-map_without lists entry key l = get_or-map (without entry) lists key [] [] l
 
-remove_linked : (keys entries : ℕ) (heads next prev owner : List ℕ) (lists : List (List ℕ)) (key entry other : ℕ) → Links keys entries heads next prev owner lists → entry < entries → key < keys → slice_index owner entry ≡ suc key → IsIn entry (list_at lists key) → other < keys
-    → IsDouble (slice_index (write_at next (slice_index prev entry) (slice_index next entry))) (slice_index (write_at prev (slice_index next entry) (slice_index prev entry))) 0 (slice_index (first_at heads key (slice_index prev entry) (slice_index next entry)) other) (without entry (list_at lists other))
+remove_linked : (keys entries : ℕ) (heads next prev owner : List ℕ) (lists : List (List ℕ)) (key entry other : ℕ) → Links keys entries heads next prev owner lists → entry < entries → key < keys → slice_index owner entry ≡ suc key → IsIn entry (slice_index_or lists key []) → other < keys
+    → IsDouble (slice_index (write_at next (slice_index prev entry) (slice_index next entry))) (slice_index (write_at prev (slice_index next entry) (slice_index prev entry))) 0 (slice_index (first_at heads key (slice_index prev entry) (slice_index next entry)) other) (without entry (slice_index_or lists other []))
 remove_linked keys entries heads next prev owner lists key entry other h below lt is there within =
     let before : ℕ = slice_index prev entry in
     let after : ℕ = slice_index next entry in
@@ -59,14 +59,14 @@ remove_linked keys entries heads next prev owner lists key entry other h below l
     let N : (x : ℕ) → slice_index prev entry ≢ suc x → slice_index (write_at next (slice_index prev entry) (slice_index next entry)) x ≡ slice_index next x = λ x ne. write_at-other next (slice_index prev entry) (slice_index next entry) x ne in
     let P : (x : ℕ) → slice_index next entry ≢ suc x → slice_index (write_at prev (slice_index next entry) (slice_index prev entry)) x ≡ slice_index prev x = λ x ne. write_at-other prev (slice_index next entry) (slice_index prev entry) x ne in
     elim (cases_eq other key) [
-      | inl e ↦ rw e (removed (slice_index next) (slice_index prev) (slice_index (write_at next (slice_index prev entry) (slice_index next entry))) (slice_index (write_at prev (slice_index next entry) (slice_index prev entry))) 0 (slice_index heads key) (slice_index (first_at heads key (slice_index prev entry) (slice_index next entry)) key) entry (list_at lists key) (h.apart key lt) there (λ z s. absurd (omega (arith, s)))
+      | inl e ↦ rw e (removed (slice_index next) (slice_index prev) (slice_index (write_at next (slice_index prev entry) (slice_index next entry))) (slice_index (write_at prev (slice_index next entry) (slice_index prev entry))) 0 (slice_index heads key) (slice_index (first_at heads key (slice_index prev entry) (slice_index next entry)) key) entry (slice_index_or lists key []) (h.apart key lt) there (λ z s. absurd (omega (arith, s)))
           N (λ x s. write_at-same next (slice_index prev entry) (slice_index next entry) x (omega (arith, h.all_next, (prev_key keys entries heads next prev owner lists key entry x h lt there s).0)) s)
           P (λ x s. write_at-same prev (slice_index next entry) (slice_index prev entry) x (omega (arith, h.all_prev, (next_key keys entries heads next prev owner lists key entry x h lt there s).0)) s)
           (λ s. first_at-now heads key (slice_index prev entry) (slice_index next entry) in_heads s)
           (λ s. first_at-kept heads key (slice_index prev entry) (slice_index next entry) s)
           (h.linked key lt))
-      | inr ne ↦ rw (without-lacks entry (list_at lists other) (elsewhere keys entries heads next prev owner lists key other entry h is within ne), first_at-other heads key (slice_index prev entry) (slice_index next entry) other ne) (double_kept (slice_index next) (slice_index prev) (slice_index (write_at next (slice_index prev entry) (slice_index next entry))) (slice_index (write_at prev (slice_index next entry) (slice_index prev entry))) 0 (slice_index heads other) (list_at lists other)
-          (Each-weaker (λ y. (y < entries) × (slice_index owner y ≡ suc other)) (AreSame (slice_index next) (slice_index prev) (slice_index (write_at next (slice_index prev entry) (slice_index next entry))) (slice_index (write_at prev (slice_index next entry) (slice_index prev entry)))) (list_at lists other)
+      | inr ne ↦ rw (without-lacks entry (slice_index_or lists other []) (elsewhere keys entries heads next prev owner lists key other entry h is within ne), first_at-other heads key (slice_index prev entry) (slice_index next entry) other ne) (double_kept (slice_index next) (slice_index prev) (slice_index (write_at next (slice_index prev entry) (slice_index next entry))) (slice_index (write_at prev (slice_index next entry) (slice_index prev entry))) 0 (slice_index heads other) (slice_index_or lists other [])
+          (Each-weaker (λ y. (y < entries) × (slice_index owner y ≡ suc other)) (AreSame (slice_index next) (slice_index prev) (slice_index (write_at next (slice_index prev entry) (slice_index next entry))) (slice_index (write_at prev (slice_index next entry) (slice_index prev entry)))) (slice_index_or lists other [])
           (λ y o. (N y (λ s. ne (let k = (prev_key keys entries heads next prev owner lists key entry y h lt there s).1 in omega (arith, k, o.1))), P y (λ s. ne (let k = (next_key keys entries heads next prev owner lists key entry y h lt there s).1 in omega (arith, k, o.1))))) (h.owned other within)) (h.linked other within))
     ]
 
@@ -75,7 +75,7 @@ pub removes : (keys entries : ℕ) (heads next prev owner : List ℕ) (lists : L
 removes keys entries heads next prev owner lists key entry h below is =
     let place = h.found entry key below is in
     let in_owner : entry < length owner = omega (arith, h.all_owners) in
-    let Q : (other : ℕ) → other < keys → list_at (map (without entry) lists) other ≡ without entry (list_at lists other) = λ other within. list_at-without lists entry other (omega (arith, h.all, within)) in record {
+    let Q : (other : ℕ) → other < keys → slice_index_or (map (without entry) lists) other [] ≡ without entry (slice_index_or lists other []) = λ other within. get_or-map_without lists entry other (omega (arith, h.all, within)) in record {
       few_keys = h.few_keys;
       few_entries = h.few_entries;
       all_heads = length-first_at heads key (slice_index prev entry) (slice_index next entry) ∙ h.all_heads;
@@ -84,21 +84,21 @@ removes keys entries heads next prev owner lists key entry h below is =
       all_owners = length-set owner entry 0 ∙ h.all_owners;
       all = length-map lists (without entry) ∙ h.all;
       linked = λ other within. rw (Q other within) (remove_linked keys entries heads next prev owner lists key entry other h below place.0 is place.1 within);
-      apart = λ other within. rw (Q other within) (Apart-without entry (list_at lists other) (h.apart other within));
-      owned = λ other within. rw (Q other within) (Each-weaker (λ y. (y ≢ entry) × ((y < entries) × (slice_index owner y ≡ suc other))) (λ y. (y < entries) × (slice_index (slice_set owner entry 0) y ≡ suc other)) (without entry (list_at lists other)) (λ y o. (o.1.0, get_or-set_other owner entry y 0 0 o.0 ∙ o.1.1)) (Each-without (λ y. (y < entries) × (slice_index owner y ≡ suc other)) entry (list_at lists other) (h.owned other within)));
+      apart = λ other within. rw (Q other within) (Apart-without entry (slice_index_or lists other []) (h.apart other within));
+      owned = λ other within. rw (Q other within) (Each-weaker (λ y. (y ≢ entry) × ((y < entries) × (slice_index owner y ≡ suc other))) (λ y. (y < entries) × (slice_index (slice_set owner entry 0) y ≡ suc other)) (without entry (slice_index_or lists other [])) (λ y o. (o.1.0, get_or-set_other owner entry y 0 0 o.0 ∙ o.1.1)) (Each-without (λ y. (y < entries) × (slice_index owner y ≡ suc other)) entry (slice_index_or lists other []) (h.owned other within)));
       counted = λ other within. elim (cases_eq other key) [
         | inl e ↦
             let same_key : nat_eq (suc key) (suc key) ≡ true = nat_eq-same (suc key) in
             let none_key : nat_eq 0 (suc key) ≡ false = nat_eq-other 0 (suc key) (λ f. omega (arith, f)) in
-            rw (e, Q key place.0) (omega (arith, rw (none_key, same_key) at (count_owner owner entry (suc key) 0 (suc key) in_owner is), h.counted key place.0, length-without entry (list_at lists key) (h.apart key place.0) place.1))
+            rw (e, Q key place.0) (omega (arith, rw (none_key, same_key) at (count_owner owner entry (suc key) 0 (suc key) in_owner is), h.counted key place.0, length-without entry (slice_index_or lists key []) (h.apart key place.0) place.1))
         | inr ne ↦
             let old_key : nat_eq (suc key) (suc other) ≡ false = nat_eq-other (suc key) (suc other) (λ f. ne (omega (arith, f))) in
             let none_key : nat_eq 0 (suc other) ≡ false = nat_eq-other 0 (suc other) (λ f. omega (arith, f)) in
-            rw (Q other within, without-lacks entry (list_at lists other) (elsewhere keys entries heads next prev owner lists key other entry h is within ne)) (omega (arith, rw (none_key, old_key) at (count_owner owner entry (suc key) 0 (suc other) in_owner is), h.counted other within))
+            rw (Q other within, without-lacks entry (slice_index_or lists other []) (elsewhere keys entries heads next prev owner lists key other entry h is within ne)) (omega (arith, rw (none_key, old_key) at (count_owner owner entry (suc key) 0 (suc other) in_owner is), h.counted other within))
       ];
       found = λ x other within e. elim (cases_eq x entry) [
         | inl s ↦ absurd (let f : slice_index (slice_set owner entry 0) entry ≡ suc other = rw s at e in omega (arith, f, get_or-set_same owner entry 0 0 in_owner))
-        | inr ne ↦ let there = h.found x other within (sym (get_or-set_other owner entry x 0 0 ne) ∙ e) in (there.0, rw (Q other there.0) (In-without x entry (list_at lists other) ne there.1))
+        | inr ne ↦ let there = h.found x other within (sym (get_or-set_other owner entry x 0 0 ne) ∙ e) in (there.0, rw (Q other there.0) (In-without x entry (slice_index_or lists other []) ne there.1))
       ];
     }
 
@@ -106,7 +106,7 @@ removes keys entries heads next prev owner lists key entry h below is =
 pub without_nowhere : (keys entries : ℕ) (heads next prev owner : List ℕ) (lists : List (List ℕ)) (entry : ℕ) → Links keys entries heads next prev owner lists → slice_index owner entry ≡ 0 → lists ≡ map (without entry) lists
 without_nowhere keys entries heads next prev owner lists entry h free =
     ext_get_or [] lists (map (without entry) lists) (sym (length-map lists (without entry)))
-    (λ key lt. sym (list_at-without lists entry key lt ∙ without-lacks entry (list_at lists key) (in_or_lacks entry (list_at lists key) (λ y i e. let k = (key_of keys entries heads next prev owner lists key y h (omega (arith, lt, h.all)) i).1 in omega (arith, k, rw e at free)))))
+    (λ key lt. sym (get_or-map_without lists entry key lt ∙ without-lacks entry (slice_index_or lists key []) (in_or_lacks entry (slice_index_or lists key []) (λ y i e. let k = (key_of keys entries heads next prev owner lists key y h (omega (arith, lt, h.all)) i).1 in omega (arith, k, rw e at free)))))
 
 -- what the reads of a entry that is in a list give
 pub record Reads (keys entries : ℕ) (next prev owner : List ℕ) (entry own before after : ℕ) : Type 0 where
@@ -145,11 +145,11 @@ removed-all keys entries heads next prev owner firsts ons backs lists entry own 
     rw (f, n, p, r.before_is, r.after_is) (removes keys entries heads next prev owner lists (own - 1) entry k lt key)
 
 -- a key that has an entry is one of the keys
-pub key_below : (lists : List (List ℕ)) (key entry : ℕ) → Contains (list_at lists key) entry → key < length lists
+pub key_below : (lists : List (List ℕ)) (key entry : ℕ) → Contains (slice_index_or lists key []) entry → key < length lists
 key_below lists key entry c = elim (cases_lt key (length lists)) [
   | inl lt ↦ lt
-  | inr ge ↦ absurd (let none : list_at lists key ≡ [] = get_or_past lists key [] ge in
-      let n : length (list_at lists key) ≡ 0 = ap length none in omega (arith, c.1, n))
+  | inr ge ↦ absurd (let none : slice_index_or lists key [] ≡ [] = get_or_past lists key [] ge in
+      let n : length (slice_index_or lists key []) ≡ 0 = ap length none in omega (arith, c.1, n))
 ]
 
 -- linked lists are apart

@@ -8,10 +8,6 @@ use Rattle.hg_lists.specs.Repeats.{IsIn, HasNoRepeats}
 use Rattle.hg_lists.specs.Lists.{Lists}
 use Rattle.hg_lists.specs.declared.index_lists.IndexLists.TheInside.{Inside}
 
--- the list of a key
-abbrev pub list_at : List (List ℕ) → ℕ → List ℕ
-list_at lists key = slice_index_or lists key []
-
 -- the entry stands in a list of this key
 abbrev pub IsOwned : ℕ → List ℕ → ℕ → ℕ → Type 0
 IsOwned entries owner key entry = (entry < entries) × (slice_index owner entry ≡ suc key)
@@ -27,14 +23,14 @@ pub record Links (keys entries : ℕ) (heads next prev owner : List ℕ) (lists 
   pub all_owners : length owner ≡ entries
   pub all : length lists ≡ keys
   pub linked : (key : ℕ) → key < keys
-      → IsDouble (slice_index next) (slice_index prev) 0 (slice_index heads key) (list_at lists key)
-  pub apart : (key : ℕ) → key < keys → HasNoRepeats (list_at lists key)
+      → IsDouble (slice_index next) (slice_index prev) 0 (slice_index heads key) (slice_index_or lists key [])
+  pub apart : (key : ℕ) → key < keys → HasNoRepeats (slice_index_or lists key [])
   pub owned : (key : ℕ) → key < keys
-      → AllByRecursion (IsOwned entries owner key) (list_at lists key)
+      → AllByRecursion (IsOwned entries owner key) (slice_index_or lists key [])
   pub counted : (key : ℕ) → key < keys
-      → length (list_at lists key) ≡ count_by (λ o. o == suc key) owner
+      → length (slice_index_or lists key []) ≡ count_by (λ o. o == suc key) owner
   pub found : (entry key : ℕ) → entry < entries → slice_index owner entry ≡ suc key
-      → (key < keys) × IsIn entry (list_at lists key)
+      → (key < keys) × IsIn entry (slice_index_or lists key [])
 
 -- the lists that links show
 abbrev pub lists_of : Inside → Lists

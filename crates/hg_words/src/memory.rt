@@ -1,5 +1,6 @@
 ghost use Rattle.std.specs.Prelude.{◌≡◌, ℕ, ◌+◌, ◌<◌, ◌≤◌, ◌⊎◌};
-ghost use Rattle.std.specs.Prelude.{length, slice_index, slice_set, slice_range, vec_capacity, IfOk};
+ghost use Rattle.std.specs.Prelude.{length, slice_index, slice_set, slice_range, IfOk};
+ghost use Rattle.std.specs.Prelude.{vec_capacity};
 ghost use Rattle.hg_place.specs.declared.geometry.TheConstants.{SEGMENT_WORDS};
 
 use hg_place::SEGMENT_WORDS;
