@@ -10,7 +10,7 @@ use Rattle.hg_lists.proofs.RepeatsLemmas.{in_contains, lacks_contains, count_by-
 abbrev pub times : ℕ → List ℕ → ℕ
 times entry xs = count_by (λ other. nat_eq other entry) xs
 
-times-append : (entry : ℕ) (xs ys : List ℕ) → times entry (xs ++ ys) ≡ times entry xs + times entry ys
+pub times-append : (entry : ℕ) (xs ys : List ℕ) → times entry (xs ++ ys) ≡ times entry xs + times entry ys
 times-append entry xs ys = sum_by-append (λ other. cond {A = ℕ} (nat_eq other entry) 1 0) xs ys
 
 nowhere : (entry : ℕ) (lists : List (List ℕ)) → ((key : ℕ) → ¬ Contains (slice_index_or lists key []) entry) → times entry (concat lists) ≡ 0

@@ -7,3 +7,4 @@ pub mod Removed
 pub mod Followed
 pub mod Listed
 pub mod Counted
+pub mod TotalsLemmas

@@ -2,3 +2,4 @@ pub mod Chains
 pub mod Repeats
 pub mod Lists
 pub mod Links
+pub mod Totals

@@ -2,6 +2,7 @@
 #![tactic(auto)]
 
 mod index_lists;
+pub mod laws;
 mod links;
 
 pub use index_lists::IndexLists;

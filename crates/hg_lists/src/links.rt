@@ -16,7 +16,7 @@ pub fn ends(alloc: Global, count: u16) -> Result<BoxedSlice<u16>, AllocError>
     Ok(links.into_boxed_slice())
 }
 
-/// Zeros, in a vector with room for no more.
+/// So many zeros, in a vector with room for no more.
 fn zeros(alloc: Global, count: u16) -> Result<Vec<u16>, AllocError>
     ensures all { IfOk result (λ links. length links.items ≡ count) }
     ensures zero { IfOk result (λ links. (at : ℕ) → slice_index links.items at ≡ 0) }
