@@ -6,7 +6,7 @@ use Rattle.std.proofs.lemmas.List.Elements.{Contains-append_left, Contains-appen
 use Rattle.std.proofs.lemmas.Bool.{cases_lt}
 use Rattle.hg_lists.specs.Repeats.{HasNoRepeats}
 use Rattle.hg_lists.proofs.RepeatsLemmas.{Contains-cons, Contains-cons_cases, Contains-lacks}
-use Rattle.hg_page.specs.PageLists.{PageLists, listed, IsUsed, Pops, unused, pushed, collected, freed}
+use Rattle.hg_page.specs.PageLists.{PageLists, listed, IsUsed, Pops, unused, pushed, spliced, freed}
 use Rattle.hg_page.specs.Links.{lists_of, IsLinked}
 use Rattle.hg_page.specs.declared.page.Page.{Page}
 use Rattle.hg_page.proofs.Frames.{listed_below}
@@ -66,8 +66,8 @@ Contains-pushed_same index lists = Contains-append_right lists.free (index ∷ l
 
 -- `local_free` goes behind `free`, or all are others
 
-pub listed-collected : (lists : PageLists) → listed (collected lists) ≡ listed lists
-listed-collected lists = append-nil (lists.free ++ lists.local_free)
+pub listed-spliced : (lists : PageLists) → listed (spliced lists) ≡ listed lists
+listed-spliced lists = append-nil (lists.free ++ lists.local_free)
 
 pub listed-freed : (lists : PageLists) (free : List ℕ) → listed (freed lists free) ≡ free
 listed-freed lists free = append-nil free

@@ -1,31 +1,39 @@
 -- What `format` and its helpers leave.
-use Rattle.std.proofs.Common.{◌≡◌, ◌≢◌, ℕ, zero, suc, ◌+◌, ◌*◌, ◌-◌, ◌<◌, ◌≤◌, Bool, true, false, cond, not, nat_eq, List, [], ◌∷◌, ◌++◌, length, slice_index, slice_index_or, slice_set, refl, sym, ap, ◌∙◌, arith, subst, get_or-set_same}
+use Rattle.std.proofs.Common.{◌≡◌, ◌≢◌, ℕ, zero, suc, ◌+◌, ◌*◌, ◌-◌, ◌<◌, ◌≤◌, Bool, true, false, cond, not, nat_eq, List, [], ◌∷◌, ◌++◌, length, slice_index, slice_index_or, slice_set, refl, sym, ap, ◌∙◌, arith, subst, get_or-set_same, replicate, inl, inr}
 use Rattle.std.specs.Prelude.{Contains}
-use Rattle.std.proofs.lemmas.List.{length-set, length-append}
+use Rattle.std.proofs.lemmas.List.{length-set, length-append, length-replicate, get_or-replicate, get_or_past}
+use Rattle.std.proofs.lemmas.Bool.{cases_lt}
 use Rattle.std.proofs.lemmas.List.Elements.{Contains-append_left}
 use Rattle.hg_lists.specs.Chains.{chain}
 use Rattle.hg_lists.specs.Repeats.{Lacks}
 use Rattle.hg_page.specs.Links.{last_of}
 use Rattle.hg_page.specs.Shapes.{Shape, shape_of, start_of}
-use Rattle.hg_page.specs.PageLists.{PageLists, listed, unworn}
+use Rattle.hg_page.specs.PageLists.{PageLists, listed, unworn, fresh}
 use Rattle.hg_page.specs.Links.{link_at, lists_of, Links, IsLinked}
 use Rattle.hg_page.specs.Others.{KeepsOthers}
 use Rattle.hg_page.specs.declared.page.Page.{Page}
 use Rattle.hg_lists.proofs.RepeatsLemmas.{Each-left, Each-right, Lacks-each}
 use Rattle.hg_page.proofs.Chained.{chain-nil, chain_kept, last_of-front}
 use Rattle.hg_page.proofs.Linked.{free-is, local-is, linked, links_kept, block_begins}
-use Rattle.hg_page.proofs.Collected.{none_counted}
+use Rattle.hg_page.proofs.Spliced.{none_counted}
 
 abbrev pub empty_page : Page → ℕ → ℕ → Page
-empty_page p size places = record p { size = size; places = places; free = 0; local = 0 }
+empty_page p size places = record p { size = size; places = places; free = 0; local = 0; in_use = 0; used = replicate 512 false }
 
--- a page whose indexes are all unused takes another size and loses its lists
-pub emptied : (p : Page) (words : List ℕ) (size places : ℕ) → IsLinked p words → ((i : ℕ) → slice_index_or p.used i false ≡ false) → 1 ≤ size → size * places ≤ 512 → places ≤ 512 → Links (empty_page p size places) words [] []
-emptied p words size places h idle sized inside count = record {
+-- no flag of these is set
+pub unset : (n i : ℕ) → slice_index_or (replicate n false) i false ≡ false
+unset n i = elim (cases_lt i n) [ inl lt ↦ get_or-replicate n i false false lt | inr ge ↦ get_or_past (replicate n false) i false (omega (arith, length-replicate n false)) ]
+
+-- flags that are those
+pub unset_all : (used : List Bool) → used ≡ replicate 512 false → (i : ℕ) → slice_index_or used i false ≡ false
+unset_all used e i = rw e (unset 512 i)
+
+-- a page takes another size, loses its lists, and nothing is used
+pub emptied : (p : Page) (words : List ℕ) (size places : ℕ) → IsLinked p words → 1 ≤ size → size * places ≤ 512 → places ≤ 512 → Links (empty_page p size places) words [] []
+emptied p words size places h sized inside count = record {
   sized = sized;
   count = count;
-  begins = omega arith;
-  ends = omega (arith, h.within);
+  fits = inside;
   within = h.within;
   whole = h.whole;
   freed = refl;
@@ -34,24 +42,23 @@ emptied p words size places h idle sized inside count = record {
   local_end = refl;
   apart = tt;
   spare = tt;
-  flags = h.flags;
-  counted = h.counted;
-  used = λ i lit. let no = idle i in cc;
-  room = omega (arith, none_counted p.used idle, h.counted);
+  flags = length-replicate 512 false;
+  counted = sym (none_counted (replicate 512 false) (unset 512));
+  used = λ i lit. let no = unset 512 i in cc;
+  room = omega arith;
 }
 
-pub emptied-shown : (p : Page) (words : List ℕ) (size places : ℕ) → lists_of (empty_page p size places) words ≡ record { free = []; local_free = []; used = p.used }
+pub emptied-shown : (p : Page) (words : List ℕ) (size places : ℕ) → lists_of (empty_page p size places) words ≡ fresh []
 emptied-shown p words size places = rw (chain-nil 511 (link_at (empty_page p size places) words) 0 refl) refl
 
 -- an index goes in front of `free`
 pub fronts : (p : Page) (words free local : List ℕ) (index end : ℕ) → index < p.places → slice_index_or p.used index true ≡ false → Lacks index (free ++ local) → length (free ++ local) + p.in_use < p.places → last_of index free ≡ end → Links p words free local → Links (record p { free = index + 1; free_end = end }) (slice_set words (start_of (shape_of p) index) p.free) (index ∷ free) local
 fronts p words free local index end below unused apart room ends h =
     let same = links_kept p words index p.free (free ++ local) h.sized (Lacks-each index (free ++ local) apart) in
-    let start : start_of (shape_of p) index < length words = omega (arith, block_begins p.size p.places index below h.begins, h.within, h.whole, h.sized) in record {
+    let start : start_of (shape_of p) index < length words = omega (arith, block_begins p.size p.places index below h.sized h.fits, h.within, h.whole, h.sized) in record {
       sized = h.sized;
       count = h.count;
-      begins = h.begins;
-      ends = h.ends;
+      fits = h.fits;
       within = h.within;
       whole = length-set words (start_of (shape_of p) index) p.free ∙ h.whole;
       freed = (omega arith, rw (get_or-set_same words (start_of (shape_of p) index) p.free 0 start) (chain_kept (link_at p words) (link_at p (slice_set words (start_of (shape_of p) index) p.free)) p.free free (Each-left (λ j. link_at p (slice_set words (start_of (shape_of p) index) p.free) j ≡ link_at p words j) free local same) h.freed));
@@ -92,7 +99,7 @@ fronted-all p words new index end start h below unused apart room e s n =
 pub record Formatting (worn : List Bool) (at : ℕ) (first p : Page) (before words : List ℕ) : Type 0 where
   pub linked : IsLinked p words
   pub below : at ≤ p.places
-  pub shown : lists_of p words ≡ record { free = unworn worn at (p.places - at); local_free = []; used = first.used }
+  pub shown : lists_of p words ≡ record { free = unworn worn at (p.places - at); local_free = []; used = replicate 512 false }
   pub unused : p.in_use ≡ 0
   pub others : KeepsOthers (shape_of p) (unworn worn at (p.places - at)) before words
   pub shape : shape_of p ≡ shape_of first
@@ -128,6 +135,24 @@ formatting_lacks worn at first p before words f lt = subst (λ (l : PageLists). 
 pub formatting_room : (worn : List Bool) (at : ℕ) (first p : Page) (before words : List ℕ) → Formatting worn at first p before words → 0 < at → length (listed (lists_of p words)) + p.in_use < p.places
 formatting_room worn at first p before words f lt = subst (λ (l : PageLists). length (listed l) + p.in_use < p.places) (sym f.shown) (omega (arith, length-unworn worn at (p.places - at), f.unused, f.below))
 
+-- no place yet
+pub formatting_none : (worn : List Bool) (p : Page) (words : List ℕ) → IsLinked p words → lists_of p words ≡ fresh [] → p.in_use ≡ 0 → Formatting worn p.places p p words words
+formatting_none worn p words h shown idle = record {
+  linked = h;
+  below = omega arith;
+  shown = let e : p.places - p.places ≡ 0 = omega arith in rw e shown;
+  unused = idle;
+  others = λ at apart. refl;
+  shape = refl;
+}
+
+-- all places
+pub formatting_shown : (worn : List Bool) (at count : ℕ) (first p : Page) (before words : List ℕ) → Formatting worn at first p before words → at ≤ 0 → first.places ≡ count → lists_of p words ≡ fresh (unworn worn 0 count)
+formatting_shown worn at count first p before words f le is =
+    let none : at ≡ 0 = omega arith in
+    let all : p.places - at ≡ count = omega (arith, ap (λ (s : Shape). s.places) f.shape, is, none) in
+    subst (λ (n : ℕ). lists_of p words ≡ fresh (unworn worn n count)) none (subst (λ (n : ℕ). lists_of p words ≡ fresh (unworn worn at n)) all f.shown)
+
 -- one place more
 unworn_step : (worn : List Bool) (at places : ℕ) → 0 < at → at ≤ places → unworn worn (at - 1) (places - (at - 1)) ≡ cond (slice_index_or worn (at - 1) false) (unworn worn at (places - at)) ((at - 1) ∷ unworn worn at (places - at))
 unworn_step worn at places lt le =
@@ -147,7 +172,7 @@ formatting_more worn at first p q before words new w f lt is linked offered othe
     let step : unworn worn (at - 1) (q.places - (at - 1)) ≡ cond w (unworn worn at (p.places - at)) ((at - 1) ∷ unworn worn at (p.places - at)) = rw (places, is) (unworn_step worn at p.places lt f.below) in record {
       linked = linked;
       below = omega (arith, f.below, places);
-      shown = offered ∙ subst (λ (l : PageLists). record l { free = cond w l.free ((at - 1) ∷ l.free) } ≡ record { free = unworn worn (at - 1) (q.places - (at - 1)); local_free = []; used = first.used }) (sym f.shown) (ap (λ (xs : List ℕ). let l : PageLists = record { free = xs; local_free = []; used = first.used } in l) (sym step));
+      shown = offered ∙ subst (λ (l : PageLists). record l { free = cond w l.free ((at - 1) ∷ l.free) } ≡ record { free = unworn worn (at - 1) (q.places - (at - 1)); local_free = []; used = replicate 512 false }) (sym f.shown) (ap (λ (xs : List ℕ). let l : PageLists = record { free = xs; local_free = []; used = replicate 512 false } in l) (sym step));
       unused = idle ∙ f.unused;
       others = λ k apart.
           let apart : (i : ℕ) → Contains (cond w (unworn worn at (p.places - at)) ((at - 1) ∷ unworn worn at (p.places - at))) i → k ≢ start_of (shape_of q) i = subst (λ (xs : List ℕ). (i : ℕ) → Contains xs i → k ≢ start_of (shape_of q) i) step apart in
@@ -165,8 +190,7 @@ pub new_links : (p : Page) (words : List ℕ) → p.size ≡ 1 → p.places ≡ 
 new_links p words size places base free local idle all unset whole = record {
   sized = omega arith;
   count = omega arith;
-  begins = rw places (omega arith);
-  ends = rw places (omega (arith, base));
+  fits = rw places (omega arith);
   within = base;
   whole = whole;
   freed = free;
@@ -189,8 +213,7 @@ pub retired : (p : Page) (words : List ℕ) → IsLinked p words → ((i : ℕ) 
 retired p words h idle = record {
   sized = h.sized;
   count = h.count;
-  begins = h.begins;
-  ends = h.ends;
+  fits = h.fits;
   within = h.within;
   whole = h.whole;
   freed = refl;

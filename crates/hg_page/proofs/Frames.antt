@@ -4,7 +4,7 @@ use Rattle.std.specs.Prelude.{Contains}
 use Rattle.std.specs.List.{AllByRecursion}
 use Rattle.std.proofs.Math.Nat.{mul-le-mul_left}
 use Rattle.std.proofs.lemmas.Bool.{cases_lt, cases_eq}
-use Rattle.hg_words.specs.declared.memory.TheConstants.{WORDS}
+use Rattle.hg_place.specs.declared.geometry.TheConstants.{SEGMENT_WORDS}
 use Rattle.hg_words.proofs.Ranges.{block_of, block_of-same}
 use Rattle.hg_lists.specs.Chains.{chain}
 use Rattle.hg_lists.specs.Repeats.{HasNoRepeats}
@@ -33,11 +33,11 @@ used_unlisted p words index h is on =
     Each-contains (λ y. index ≢ y) index (listed (lists_of p words)) (used_apart p index (listed (lists_of p words)) there is h.spare) on refl
 
 -- a block ends in the segment, and begins in its page
-pub block_ends : (p : Page) (words : List ℕ) (index : ℕ) → IsLinked p words → index < p.places → start_of (shape_of p) index + p.size ≤ WORDS
-block_ends p words index h below = omega (arith, mul-le-mul_left p.size (let more : index + 1 ≤ p.places = omega arith in more), h.ends)
+pub block_ends : (p : Page) (words : List ℕ) (index : ℕ) → IsLinked p words → index < p.places → start_of (shape_of p) index + p.size ≤ SEGMENT_WORDS
+block_ends p words index h below = omega (arith, mul-le-mul_left p.size (let more : index + 1 ≤ p.places = omega arith in more), h.fits, h.within)
 
 pub block_in_page : (p : Page) (words : List ℕ) (index : ℕ) → IsLinked p words → index < p.places → start_of (shape_of p) index < p.base + 512
-block_in_page p words index h below = omega (arith, block_begins p.size p.places index below h.begins)
+block_in_page p words index h below = omega (arith, block_begins p.size p.places index below h.sized h.fits)
 
 -- no block but its own begins at a word of a block
 block_alone : (base size i index at : ℕ) → i ≢ index → base + size * index ≤ at → at < base + size * index + size → at ≢ base + size * i
@@ -53,7 +53,7 @@ pub record Same (p : Page) (words other : List ℕ) : Type 0 where
   pub shown : lists_of p other ≡ lists_of p words
 
 -- where they are equal at the listed blocks' first words
-pub same_links : (p : Page) (words other : List ℕ) → IsLinked p words → length other ≡ WORDS → AllByRecursion (λ i. link_at p other i ≡ link_at p words i) (listed (lists_of p words)) → Same p words other
+pub same_links : (p : Page) (words other : List ℕ) → IsLinked p words → length other ≡ SEGMENT_WORDS → AllByRecursion (λ i. link_at p other i ≡ link_at p words i) (listed (lists_of p words)) → Same p words other
 same_links p words other h whole same =
     let k = kept_by p words other (lists_of p words).free (lists_of p words).local_free whole same h in record {
       linked = linked p other _ _ k;
@@ -62,7 +62,7 @@ same_links p words other h whole same =
     }
 
 -- where they are equal but for the words of a used block
-pub same_but_used : (p : Page) (words other : List ℕ) (index : ℕ) → IsLinked p words → IsUsed (lists_of p words) index → length other ≡ WORDS
+pub same_but_used : (p : Page) (words other : List ℕ) (index : ℕ) → IsLinked p words → IsUsed (lists_of p words) index → length other ≡ SEGMENT_WORDS
     → ((at : ℕ) → (at < start_of (shape_of p) index) ⊎ (start_of (shape_of p) index + p.size ≤ at) → slice_index other at ≡ slice_index words at) → Same p words other
 same_but_used p words other index h is whole same =
     let there : index < length p.used = omega (arith, h.used index is, h.flags, h.count) in
@@ -73,12 +73,12 @@ same_but_used p words other index h is whole same =
     (used_apart p index _ there is h.spare))
 
 -- where they are equal on the page
-pub same_in_page : (p : Page) (words other : List ℕ) → IsLinked p words → length other ≡ WORDS → ((at : ℕ) → p.base ≤ at → at < p.base + 512 → slice_index other at ≡ slice_index words at) → Same p words other
+pub same_in_page : (p : Page) (words other : List ℕ) → IsLinked p words → length other ≡ SEGMENT_WORDS → ((at : ℕ) → p.base ≤ at → at < p.base + 512 → slice_index other at ≡ slice_index words at) → Same p words other
 same_in_page p words other h whole same = same_links p words other h whole
     (Each-weaker (IsSpare p) (λ i. link_at p other i ≡ link_at p words i) (listed (lists_of p words)) (λ i s. same (start_of (shape_of p) i) (omega arith) (block_in_page p words i h s.0)) h.spare)
 
 -- whatever they are, where no place is on a list
-pub same_unlisted : (p : Page) (words other : List ℕ) → IsLinked p words → listed (lists_of p words) ≡ [] → length other ≡ WORDS → Same p words other
+pub same_unlisted : (p : Page) (words other : List ℕ) → IsLinked p words → listed (lists_of p words) ≡ [] → length other ≡ SEGMENT_WORDS → Same p words other
 same_unlisted p words other h none whole = same_links p words other h whole (subst (AllByRecursion (λ i. link_at p other i ≡ link_at p words i)) (sym none) tt)
 
 -- a call on a page, which is linked after it, changes only first words of blocks that it lists then
@@ -107,7 +107,7 @@ block_kept p before words index at h others off low high = others at (λ i on e.
     ])
 
 pub used_block_kept : (p : Page) (before words : List ℕ) (index : ℕ) → IsLinked p words → KeepsOthers (shape_of p) (listed (lists_of p words)) before words
-    → IsUsed (lists_of p words) index → length before ≡ WORDS → block_of words (start_of (shape_of p) index) p.size ≡ block_of before (start_of (shape_of p) index) p.size
+    → IsUsed (lists_of p words) index → length before ≡ SEGMENT_WORDS → block_of words (start_of (shape_of p) index) p.size ≡ block_of before (start_of (shape_of p) index) p.size
 used_block_kept p before words index h others is whole =
     let ends = block_ends p words index h (h.used index is) in
     block_of-same before words (start_of (shape_of p) index) p.size (omega (arith, ends, whole)) (omega (arith, ends, h.whole))
@@ -115,7 +115,7 @@ used_block_kept p before words index h others is whole =
 
 -- no word of a block that lies outside this page
 pub other_block_kept : (p : Page) (before words : List ℕ) (first size : ℕ) → IsLinked p words → KeepsOthers (shape_of p) (listed (lists_of p words)) before words
-    → length before ≡ WORDS → first + size ≤ WORDS → (first + size ≤ p.base) ⊎ (p.base + 512 ≤ first) → block_of words first size ≡ block_of before first size
+    → length before ≡ SEGMENT_WORDS → first + size ≤ SEGMENT_WORDS → (first + size ≤ p.base) ⊎ (p.base + 512 ≤ first) → block_of words first size ≡ block_of before first size
 other_block_kept p before words first size h others whole inside out =
     block_of-same before words first size (omega (arith, whole)) (omega (arith, h.whole))
     (λ at low high. outside_kept p before words at h others (⊎_elim (λ lt. inl (omega arith)) (λ ge. inr (omega arith)) out))

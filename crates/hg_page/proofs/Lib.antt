@@ -2,7 +2,7 @@ pub mod Chained
 pub mod Linked
 pub mod Popped
 pub mod Pushed
-pub mod Collected
+pub mod Spliced
 pub mod Formatted
 pub mod Frames
 pub mod Emptied

@@ -25,8 +25,8 @@ pub linked : (p : Page) (words free local : List ℕ) → Links p words free loc
 linked p words free local h = rw (free-is p words free local h, local-is p words free local h) h
 
 -- a block begins inside the page
-pub block_begins : (size places index : ℕ) → index < places → size * places < 512 + size → size * index < 512
-block_begins size places index below begins = omega (arith, mul-le-mul_left size (let h : index + 1 ≤ places = omega arith in h))
+pub block_begins : (size places index : ℕ) → index < places → 1 ≤ size → size * places ≤ 512 → size * index < 512
+block_begins size places index below sized fits = omega (arith, mul-le-mul_left size (let h : index + 1 ≤ places = omega arith in h))
 
 -- two blocks begin apart
 pub starts_apart : (base size i j : ℕ) → 1 ≤ size → i ≢ j → base + size * i ≢ base + size * j
@@ -55,8 +55,7 @@ pub kept_by : (p : Page) (words other free local : List ℕ) → length other �
 kept_by p words other free local whole same h = record {
   sized = h.sized;
   count = h.count;
-  begins = h.begins;
-  ends = h.ends;
+  fits = h.fits;
   within = h.within;
   whole = whole;
   freed = chain_kept (link_at p words) (link_at p other) p.free free (Each-left (λ i. link_at p other i ≡ link_at p words i) free local same) h.freed;
@@ -77,8 +76,7 @@ pops p words free local index link e h =
     let there : index < length p.used = omega (arith, h.spare.0.0, h.flags, h.count) in record {
       sized = h.sized;
       count = h.count;
-      begins = h.begins;
-      ends = h.ends;
+      fits = h.fits;
       within = h.within;
       whole = h.whole;
       freed = rw e h.freed.1;
@@ -104,11 +102,10 @@ pushes p words free local index end is ends h =
     let there : index < length p.used = omega (arith, h.flags, h.count) in
     let apart = used_apart p index (free ++ local) there is h.spare in
     let same = links_kept p words index p.local (free ++ local) h.sized apart in
-    let start : start_of (shape_of p) index < length words = omega (arith, block_begins p.size p.places index below h.begins, h.within, h.whole, h.sized) in record {
+    let start : start_of (shape_of p) index < length words = omega (arith, block_begins p.size p.places index below h.sized h.fits, h.within, h.whole, h.sized) in record {
       sized = h.sized;
       count = h.count;
-      begins = h.begins;
-      ends = h.ends;
+      fits = h.fits;
       within = h.within;
       whole = length-set words (start_of (shape_of p) index) p.local ∙ h.whole;
       freed = chain_kept (link_at p words) (link_at p (slice_set words (start_of (shape_of p) index) p.local)) p.free free (Each-left (λ j. link_at p (slice_set words (start_of (shape_of p) index) p.local) j ≡ link_at p words j) free local same) h.freed;
@@ -131,8 +128,7 @@ wears p words free local index is h =
     let apart = used_apart p index (free ++ local) there is h.spare in record {
       sized = h.sized;
       count = h.count;
-      begins = h.begins;
-      ends = h.ends;
+      fits = h.fits;
       within = h.within;
       whole = h.whole;
       freed = h.freed;
@@ -152,13 +148,12 @@ pub joins : (p : Page) (words free local : List ℕ) (x y : ℕ) → Links p wor
 joins p words free local x y h =
     let all : List ℕ = (x ∷ free) ++ (y ∷ local) in
     let spare_end : IsSpare p p.free_end = subst (IsSpare p) h.free_end (last_each (IsSpare p) x free (Each-left (IsSpare p) (x ∷ free) (y ∷ local) h.spare)) in
-    let start : start_of (shape_of p) p.free_end < length words = omega (arith, block_begins p.size p.places p.free_end spare_end.0 h.begins, h.within, h.whole, h.sized) in
+    let start : start_of (shape_of p) p.free_end < length words = omega (arith, block_begins p.size p.places p.free_end spare_end.0 h.sized h.fits, h.within, h.whole, h.sized) in
     let ends_apart : AllByRecursion (λ i. p.free_end ≢ i) (y ∷ local) = subst (λ (e : ℕ). AllByRecursion (λ i. e ≢ i) (y ∷ local)) h.free_end (Apart-last x free (y ∷ local) h.apart) in
     record {
       sized = h.sized;
       count = h.count;
-      begins = h.begins;
-      ends = h.ends;
+      fits = h.fits;
       within = h.within;
       whole = length-set words (start_of (shape_of p) p.free_end) p.local ∙ h.whole;
       freed = chain_joined (link_at p words) (link_at p (slice_set words (start_of (shape_of p) p.free_end) p.local)) p.free p.local x free (y ∷ local) (HasNoRepeats-left (x ∷ free) (y ∷ local) h.apart)
@@ -182,8 +177,7 @@ pub swaps : (p : Page) (words local : List ℕ) → Links p words [] local → L
 swaps p words local h = record {
   sized = h.sized;
   count = h.count;
-  begins = h.begins;
-  ends = h.ends;
+  fits = h.fits;
   within = h.within;
   whole = h.whole;
   freed = h.locals;

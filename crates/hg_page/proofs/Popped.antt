@@ -21,7 +21,7 @@ pub head_below : (p : Page) (words : List ℕ) → IsLinked p words → p.free �
 head_below p words h ne = (head p words h ne).spare.0.0
 
 pub start_below : (p : Page) (words : List ℕ) (index : ℕ) → IsLinked p words → index < p.places → start_of (shape_of p) index < 8192
-start_below p words index h below = omega (arith, block_begins p.size p.places index below h.begins, h.within, h.sized)
+start_below p words index h below = omega (arith, block_begins p.size p.places index below h.sized h.fits, h.within, h.sized)
 
 -- a link that begins a chain of places is small
 pub link_small : (p : Page) (next : ℕ → ℕ) (link : ℕ) (xs : List ℕ) → p.places ≤ 512 → IsChain next link xs → AllByRecursion (IsSpare p) xs → link ≤ 512

@@ -2,7 +2,7 @@
 use Rattle.std.specs.Prelude.{◌≡◌, ℕ, ◌+◌, ◌*◌, ◌<◌, ◌≤◌, true, false, List, [], ◌∷◌, ◌++◌}
 use Rattle.std.specs.Prelude.{length, slice_index, slice_index_or, count_by}
 use Rattle.std.specs.List.{AllByRecursion}
-use Rattle.hg_words.specs.declared.memory.TheConstants.{WORDS}
+use Rattle.hg_place.specs.declared.geometry.TheConstants.{PAGE_WORDS, PAGE_PLACES, SEGMENT_WORDS}
 use Rattle.hg_lists.specs.Chains.{chain, IsChain}
 use Rattle.hg_lists.specs.Repeats.{HasNoRepeats}
 use Rattle.hg_page.specs.declared.page.Page.{Page}
@@ -16,8 +16,8 @@ link_at p words index = slice_index words (start_of (shape_of p) index)
 -- the lists of a page, as the words link them
 abbrev pub lists_of : Page → List ℕ → PageLists
 lists_of p words = record {
-  free = chain 512 (link_at p words) p.free;
-  local_free = chain 512 (link_at p words) p.local;
+  free = chain PAGE_PLACES (link_at p words) p.free;
+  local_free = chain PAGE_PLACES (link_at p words) p.local;
   used = p.used;
 }
 
@@ -30,22 +30,21 @@ last_of before (x ∷ xs) = last_of x xs
 abbrev pub IsSpare : Page → ℕ → Type 0
 IsSpare p index = (index < p.places) × (slice_index_or p.used index true ≡ false)
 
--- what a page keeps of its lists: each block begins in the page and ends in the segment, both lists
+-- what a page keeps of its lists: its blocks lie in the page and the page in the segment, both lists
 -- are linked to their ends, no index stands on them twice, and none that is used
 pub record Links (p : Page) (words free local_free : List ℕ) : Type 0 where
   pub sized : 1 ≤ p.size
-  pub count : p.places ≤ 512
-  pub begins : p.size * p.places < 512 + p.size
-  pub ends : p.base + p.size * p.places ≤ WORDS
-  pub within : p.base + 512 ≤ WORDS
-  pub whole : length words ≡ WORDS
+  pub count : p.places ≤ PAGE_PLACES
+  pub fits : p.size * p.places ≤ PAGE_WORDS
+  pub within : p.base + PAGE_WORDS ≤ SEGMENT_WORDS
+  pub whole : length words ≡ SEGMENT_WORDS
   pub freed : IsChain (link_at p words) p.free free
   pub locals : IsChain (link_at p words) p.local local_free
   pub free_end : last_of p.free_end free ≡ p.free_end
   pub local_end : last_of p.local_end local_free ≡ p.local_end
   pub apart : HasNoRepeats (free ++ local_free)
   pub spare : AllByRecursion (IsSpare p) (free ++ local_free)
-  pub flags : length p.used ≡ 512
+  pub flags : length p.used ≡ PAGE_PLACES
   pub counted : p.in_use ≡ count_by (λ b. b) p.used
   pub used : (index : ℕ) → slice_index_or p.used index false ≡ true → index < p.places
   pub room : length free + length local_free + p.in_use ≤ p.places

@@ -1,7 +1,8 @@
 -- The lists of a page, by index.
 use Rattle.std.specs.Prelude.{◌≡◌, ℕ, Bool, true, false, not, List, [], ◌∷◌, ◌++◌, filter}
-use Rattle.std.specs.Prelude.{slice_index_or, slice_set}
+use Rattle.std.specs.Prelude.{slice_index_or, slice_set, replicate}
 use Rattle.std.specs.List.{range_with_len}
+use Rattle.hg_place.specs.declared.geometry.TheConstants.{PAGE_PLACES}
 
 -- the free places, those freed since, and by index which are used
 pub record PageLists : Type 0 where
@@ -40,8 +41,12 @@ abbrev pub pushed : PageLists → ℕ → PageLists
 pushed lists index = record (unused lists index) { local_free = index ∷ lists.local_free }
 
 -- `local_free` is behind `free`
-abbrev pub collected : PageLists → PageLists
-collected lists = record lists { free = lists.free ++ lists.local_free; local_free = [] }
+abbrev pub spliced : PageLists → PageLists
+spliced lists = record lists { free = lists.free ++ lists.local_free; local_free = [] }
+
+-- these are free, in this order, and no index is used
+abbrev pub fresh : List ℕ → PageLists
+fresh free = record { free = free; local_free = []; used = replicate PAGE_PLACES false }
 
 -- nothing is on a list but these, which are free
 abbrev pub freed : PageLists → List ℕ → PageLists

@@ -5,7 +5,7 @@ mod page;
 mod worn;
 
 pub use page::Page;
-pub use worn::{PLACES, Worn};
+pub use worn::Worn;
 
 #[cfg(test)]
 mod tests;

@@ -1,20 +1,20 @@
 ghost use Rattle.std.specs.Prelude.{◌≡◌, ◌≢◌, ℕ, ◌+◌, ◌-◌, ◌*◌, ◌<◌, ◌≤◌, ◌↔◌, ◌==◌, if◌then◌else◌};
-ghost use Rattle.std.specs.Prelude.{false, true, List, [], ◌∷◌, length};
-ghost use Rattle.std.specs.Prelude.{slice_index, slice_index_or, slice_set, IsTrue, MatchOption};
+ghost use Rattle.std.specs.Prelude.{false, true, List, [], ◌∷◌, length, replicate};
+ghost use Rattle.std.specs.Prelude.{slice_index, slice_index_or, slice_set, IsTrue, MatchOption, IfSome};
+ghost use Rattle.hg_place.specs.declared.geometry.TheConstants.{PAGE_PLACES, PAGE_WORDS};
+ghost use Rattle.hg_place.specs.declared.geometry.TheConstants.{SEGMENT_PAGES, SEGMENT_WORDS};
 ghost use Rattle.hg_lists.specs.Repeats.{Lacks};
 ghost use Rattle.hg_size.specs.Sizes.{places_of};
 ghost use Rattle.hg_page.specs.Shapes.{shape_of, start_of};
 ghost use Rattle.hg_page.specs.PageLists.{listed, unworn, IsUsed, IsIdle, Pops};
-ghost use Rattle.hg_page.specs.PageLists.{unused, pushed, collected, freed};
+ghost use Rattle.hg_page.specs.PageLists.{unused, pushed, spliced, freed, fresh};
 ghost use Rattle.hg_page.specs.Links.{IsLinked, lists_of};
 ghost use Rattle.hg_page.specs.Others.{KeepsOthers};
 
-use crate::worn::{PLACES, Worn};
+use crate::worn::Worn;
+use hg_place::{PAGE_PLACES, PAGE_WORDS, SEGMENT_PAGES, SEGMENT_WORDS};
 use hg_size::{Class, block_words, per_page};
-use hg_words::{WORDS, WordMemory};
-
-/// How many words a page has.
-const PAGE_WORDS: u16 = 512;
+use hg_words::WordMemory;
 
 /// The link at the end of a list.
 const END: u16 = 0;
@@ -38,21 +38,21 @@ pub struct Page {
     local_end: u16,
     // how many places are used, and by index which
     in_use: u16,
-    used: [bool; PLACES],
+    used: [bool; PAGE_PLACES],
 }
 
 impl Page {
     /// The page of this number in its segment, with no places.
     pub fn new(number: u8) -> Page
-        requires { number < 16 }
-        ensures linked { (words : List ℕ) → length words ≡ WORDS → IsLinked result words }
+        requires { number < SEGMENT_PAGES }
+        ensures linked { (words : List ℕ) → length words ≡ SEGMENT_WORDS → IsLinked result words }
         ensures unlisted { (words : List ℕ) → listed (lists_of result words) ≡ [] }
         ensures idle { (words : List ℕ) → IsIdle (lists_of result words) }
-        ensures base { (shape_of result).base ≡ number * 512 }
+        ensures base { (shape_of result).base ≡ number * PAGE_WORDS }
         ensures places { (shape_of result).places ≡ 0 }
     {
         Page {
-            base: number as u16 * PAGE_WORDS,
+            base: number as u16 * PAGE_WORDS as u16,
             size: 1,
             places: 0,
             free: END,
@@ -64,13 +64,13 @@ impl Page {
         }
     }
 
-    /// Gives the page blocks of a class. The places that aren't worn are free, in rising order.
+    /// Gives the page blocks of a class, whatever was on its lists or used. The places that aren't
+    /// worn are free, in rising order, and none is used.
     pub fn format(&mut self, memory: &mut WordMemory, class: Class, worn: &Worn)
-        requires linked { IsLinked self.old memory.old }
-        requires idle { IsIdle (lists_of self.old memory.old) }
+        requires { IsLinked self.old memory.old }
         ensures linked { IsLinked self.new memory.new }
         ensures formatted { lists_of self.new memory.new
-            ≡ freed (lists_of self.old memory.old) (unworn worn.now 0 (places_of class)) }
+            ≡ fresh (unworn worn.now 0 (places_of class)) }
         ensures others { KeepsOthers (shape_of self.new) (listed (lists_of self.new memory.new))
             memory.old memory.new }
         ensures shape { shape_of self.new
@@ -89,6 +89,7 @@ impl Page {
         ensures popped { MatchOption result
             (((lists_of self.old memory.now).free ≡ []) × (self.new ≡ self.old))
             (λ index. Pops index (lists_of self.old memory.now) (lists_of self.new memory.now)) }
+        ensures below { IfSome result (λ index. index < (shape_of self.old).places) }
         ensures shape { shape_of self.new ≡ shape_of self.old }
     {
         if self.free == END {
@@ -119,11 +120,11 @@ impl Page {
     }
 
     /// Puts `local_free` behind `free`, without walking either.
-    pub fn collect(&mut self, memory: &mut WordMemory)
+    pub fn splice(&mut self, memory: &mut WordMemory)
         requires { IsLinked self.old memory.old }
         ensures linked { IsLinked self.new memory.new }
-        ensures collected { lists_of self.new memory.new
-            ≡ collected (lists_of self.old memory.old) }
+        ensures spliced { lists_of self.new memory.new
+            ≡ spliced (lists_of self.old memory.old) }
         ensures others { KeepsOthers (shape_of self.new) (listed (lists_of self.new memory.new))
             memory.old memory.new }
         ensures shape { shape_of self.new ≡ shape_of self.old }
@@ -183,7 +184,7 @@ impl Page {
     /// Whether an index is used.
     pub fn is_used(&self, memory: &WordMemory, index: u16) -> bool
         requires linked { IsLinked self.now memory.now }
-        requires index { index < PLACES }
+        requires index { index < PAGE_PLACES }
         ensures { IsTrue result ↔ IsUsed (lists_of self.now memory.now) index }
     {
         self.used[index as usize]
@@ -212,27 +213,28 @@ impl Page {
 
     /// The word where a block begins.
     fn start(&self, index: u16) -> usize
-        requires { start_of (shape_of self.now) index < WORDS }
+        requires { start_of (shape_of self.now) index < SEGMENT_WORDS }
         ensures { result ≡ start_of (shape_of self.now) index }
     {
         self.base as usize + self.size as usize * index as usize
     }
 
-    /// Takes another size of blocks, with nothing on a list.
+    /// Takes another size of blocks, with nothing on a list and nothing used.
     fn resize(&mut self, memory: &WordMemory, size: u16, places: u16)
         requires linked { IsLinked self.old memory.now }
-        requires idle { IsIdle (lists_of self.old memory.now) }
         requires sized { 1 ≤ size }
-        requires inside { size * places ≤ 512 }
-        requires count { places ≤ 512 }
+        requires inside { size * places ≤ PAGE_WORDS }
+        requires count { places ≤ PAGE_PLACES }
         ensures linked { IsLinked self.new memory.now }
-        ensures emptied { lists_of self.new memory.now ≡ freed (lists_of self.old memory.now) [] }
+        ensures emptied { lists_of self.new memory.now ≡ fresh [] }
         ensures shape { shape_of self.new
             ≡ record (shape_of self.old) { size = size; places = places } }
         ensures in_use { self.new.in_use ≡ 0 }
     {
         self.size = size;
         self.places = places;
+        self.in_use = 0;
+        self.used = no_flags();
         self.clear();
     }
 
@@ -270,9 +272,9 @@ fn end_behind(link: u16, end: u16, index: u16) -> u16
 }
 
 /// No flag is set.
-fn no_flags() -> [bool; PLACES]
-    ensures all { length result ≡ PLACES }
-    ensures unset { (index : ℕ) → slice_index_or result index false ≡ false }
+fn no_flags() -> [bool; PAGE_PLACES]
+    ensures all { length result ≡ PAGE_PLACES }
+    ensures unset { result ≡ replicate PAGE_PLACES false }
 {
-    [false; PLACES]
+    [false; PAGE_PLACES]
 }

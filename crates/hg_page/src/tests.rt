@@ -1,9 +1,11 @@
 ghost use Rattle.std.specs.Prelude.{◌≡◌, ◌<◌, length};
+ghost use Rattle.hg_place.specs.declared.geometry.TheConstants.{SEGMENT_WORDS};
 ghost use Rattle.hg_page.specs.Links.{IsLinked};
 
 use crate::{Page, Worn};
 use hg_size::{Class, block_words, class_of, per_page};
-use hg_words::{WORDS, WordMemory};
+use hg_place::SEGMENT_WORDS;
+use hg_words::WordMemory;
 use std::alloc::Global;
 use std::process::Abort;
 
@@ -45,7 +47,7 @@ fn page_links(rt: HostRuntime) {
     assert!(&rt; !page.is_idle(&memory));
     push(&rt, &mut page, &mut memory, 0);
     push(&rt, &mut page, &mut memory, 1);
-    page.collect(&mut memory);
+    page.splice(&mut memory);
     assert_eq!(&rt; memory.get(500), 2);
     assert_eq!(&rt; memory.get(10), 1);
     assert_eq!(&rt; memory.get(0), 0);
@@ -130,11 +132,11 @@ fn pop_both(rt: &impl Abort, page: &mut Page, memory: &WordMemory, plain: &mut P
 }
 
 /// Puts `local_free` behind `free` in a page, and in plain lists.
-fn collect_both(rt: &impl Abort, page: &mut Page, memory: &mut WordMemory, plain: &mut Plain)
+fn splice_both(rt: &impl Abort, page: &mut Page, memory: &mut WordMemory, plain: &mut Plain)
     requires { IsLinked page.old memory.old }
     ensures { IsLinked page.new memory.new }
 {
-    page.collect(memory);
+    page.splice(memory);
     plain
         .local_free
         .append(&mut plain.free)
@@ -152,7 +154,7 @@ fn step(rt: &impl Abort, page: &mut Page, memory: &mut WordMemory, plain: &mut P
         return pop_both(rt, page, memory, plain);
     }
     if call > 13 {
-        return collect_both(rt, page, memory, plain);
+        return splice_both(rt, page, memory, plain);
     }
     let Some(index) = plain.take_used(number / 16) else {
         return;
@@ -179,7 +181,7 @@ fn check_links(rt: &impl Abort, memory: &WordMemory, base: u16, class: Class, li
     let mut link = 0;
     for index in list {
         let start = base as usize + block_words(class) as usize * *index as usize;
-        assert!(rt; start < WORDS);
+        assert!(rt; start < SEGMENT_WORDS);
         assert_eq!(rt; memory.get(start), link);
         link = *index as u64 + 1;
     }
@@ -202,8 +204,8 @@ fn many_steps(
     seed: u64,
 )
     requires number { number < 16 }
-    requires words { length memory.old ≡ WORDS }
-    ensures { length memory.new ≡ WORDS }
+    requires words { length memory.old ≡ SEGMENT_WORDS }
+    ensures { length memory.new ≡ SEGMENT_WORDS }
 {
     let mut random = seed;
     let mut worn = Worn::none();

@@ -1,5 +1,5 @@
 use Rattle.std.proofs.Common.{◌≡◌, arith}
-use Rattle.hg_page.proofs.Collected.{count_none, none_counted}
+use Rattle.hg_page.proofs.Spliced.{count_none, none_counted}
 use Rattle.hg_page.proofs.page.Page.is_idle.Goals as goal
 
 pub returns : goal.returns

@@ -24,3 +24,6 @@ returns-clause-linked c = popped-linked c.args.self.now c.args.memory.now _ _ c.
 
 pub returns-clause-popped : goal.returns-clause-popped
 returns-clause-popped c = popped-shown c.args.self.now c.args.memory.now _ _ c.requires c.if-self-eq-END.false refl (cc)
+
+pub returns-clause-below : goal.returns-clause-below
+returns-clause-below c = head_below c.args.self.now c.args.memory.now c.requires c.if-self-eq-END.false

@@ -1,4 +1,4 @@
--- What `collect` leaves, and when a page is idle.
+-- What `splice` leaves, and when a page is idle.
 use Rattle.std.proofs.Common.{◌≡◌, ◌≢◌, ℕ, zero, suc, ◌-◌, ◌<◌, Bool, true, false, cond, List, [], ◌∷◌, ◌++◌, slice_index_or, slice_set, count_by, refl, sym, arith, subst}
 use Rattle.std.specs.Prelude.{Contains}
 use Rattle.std.proofs.lemmas.List.{append-nil}
@@ -16,14 +16,14 @@ use Rattle.hg_page.proofs.Chained.{chain-cons, chain-nil, last_each}
 use Rattle.hg_page.proofs.Linked.{free-is, local-is, linked, joins, swaps}
 use Rattle.hg_page.proofs.Pushed.{others_set}
 
--- the clauses of `collect`
-pub record Collected (p q : Page) (words new : List ℕ) : Type 0 where
+-- the clauses of `splice`
+pub record Spliced (p q : Page) (words new : List ℕ) : Type 0 where
   pub linked : IsLinked q new
   pub shown : lists_of q new ≡ record { free = (lists_of p words).free ++ (lists_of p words).local_free; local_free = []; used = p.used }
   pub others : KeepsOthers (shape_of q) (listed (lists_of q new)) words new
 
-pub collected_none : (p : Page) (words : List ℕ) → IsLinked p words → p.local ≡ 0 → Collected p p words words
-collected_none p words h e =
+pub spliced_none : (p : Page) (words : List ℕ) → IsLinked p words → p.local ≡ 0 → Spliced p p words words
+spliced_none p words h e =
     let none = chain-nil 511 (link_at p words) p.local e in record {
       linked = h;
       shown = rw (none, append-nil) refl;
@@ -33,8 +33,8 @@ collected_none p words h e =
 abbrev pub swapped_page : Page → Page
 swapped_page p = record p { free = p.local; free_end = p.local_end; local = 0 }
 
-pub collected_swap : (p : Page) (words : List ℕ) → IsLinked p words → p.free ≡ 0 → Collected p (swapped_page p) words words
-collected_swap p words h e =
+pub spliced_swap : (p : Page) (words : List ℕ) → IsLinked p words → p.free ≡ 0 → Spliced p (swapped_page p) words words
+spliced_swap p words h e =
     let local : List ℕ = chain 512 (link_at p words) p.local in
     let none = chain-nil 511 (link_at p words) p.free e in
     let l = swaps p words (chain 512 (link_at p words) p.local) (rw none at h) in record {
@@ -80,8 +80,8 @@ contains_end p words h f =
     let k : Links p words ((p.free - 1) ∷ tail_of p words p.free) (chain 512 (link_at p words) p.local) = rw e at h in
     subst (λ (xs : List ℕ). Contains xs p.free_end) (sym e) (subst (Contains ((p.free - 1) ∷ tail_of p words p.free)) k.free_end (Contains-last (p.free - 1) (tail_of p words p.free)))
 
-pub collected_join : (p : Page) (words new : List ℕ) (start : ℕ) → IsLinked p words → p.free ≢ 0 → p.local ≢ 0 → start ≡ start_of (shape_of p) p.free_end → new ≡ slice_set words start p.local → Collected p (joined_page p) words new
-collected_join p words new start h f l s n =
+pub spliced_join : (p : Page) (words new : List ℕ) (start : ℕ) → IsLinked p words → p.free ≢ 0 → p.local ≢ 0 → start ≡ start_of (shape_of p) p.free_end → new ≡ slice_set words start p.local → Spliced p (joined_page p) words new
+spliced_join p words new start h f l s n =
     let on : Contains (chain 512 (link_at p words) p.free) p.free_end = contains_end p words h f in
     rw (n, s) (record {
       linked = linked (joined_page p) (joined_words p words) _ _ (joined p words h f l);
