@@ -1,6 +1,7 @@
 -- What the plain store means, and what holds of it.
 use Rattle.std.specs.Prelude.{◌≡◌, ◌≢◌, ℕ, ◌*◌, ◌<◌, ◌≤◌, Option, Some, None}
 use Rattle.std.specs.Prelude.{List, length, map, slice_index_or}
+use Rattle.std.specs.Box.{boxed_slice_items}
 use Rattle.hg_size.specs.Sizes.{places_of}
 use Rattle.hg_place.specs.Places.{page_of, index_of}
 use Rattle.hg_place.specs.declared.geometry.TheConstants.{SEGMENT_PAGES, SEGMENT_PLACES}
@@ -17,11 +18,11 @@ use Rattle.hg_core.specs.declared.store.Store.TheInside.{Inside}
 abbrev pub state_of : Inside → State
 state_of a = record {
   policy = a.policy;
-  records = records_from a.slots.items.items a.words.items.items;
-  classes = a.classes.items.items;
-  holders = map holder_of a.holders.items.items;
+  records = records_from (boxed_slice_items a.slots) (boxed_slice_items a.words);
+  classes = boxed_slice_items a.classes;
+  holders = map holder_of (boxed_slice_items a.holders);
   orphans = a.orphans.items;
-  hands = a.hands.items.items;
+  hands = boxed_slice_items a.hands;
 }
 
 -- a slot that is live or parted stands in a page of its size, and its block within the page
@@ -41,12 +42,12 @@ pub record IsSlotOf (greatest : ℕ) (classes : List (Option ℕ)) (place : ℕ)
 -- there is an entry for each number, and each slot is one of its place
 pub record IsStored (a : Inside) : Type 0 where
   pub policy : IsSoundPolicy a.policy
-  pub slots : length a.slots.items.items ≡ length a.policy.segments * SEGMENT_PLACES
-  pub words : length a.words.items.items ≡ length a.policy.segments * SEGMENT_WORDS
-  pub classes : length a.classes.items.items ≡ length a.policy.segments * SEGMENT_PAGES
-  pub holders : length a.holders.items.items ≡ length a.policy.segments
-  pub hands : length a.hands.items.items ≡ a.policy.workers
+  pub slots : length (boxed_slice_items a.slots) ≡ length a.policy.segments * SEGMENT_PLACES
+  pub words : length (boxed_slice_items a.words) ≡ length a.policy.segments * SEGMENT_WORDS
+  pub classes : length (boxed_slice_items a.classes) ≡ length a.policy.segments * SEGMENT_PAGES
+  pub holders : length (boxed_slice_items a.holders) ≡ length a.policy.segments
+  pub hands : length (boxed_slice_items a.hands) ≡ a.policy.workers
   pub places :
       (place : ℕ)
-      → IsSlotOf a.policy.max_generation a.classes.items.items place
-      (slice_index_or a.slots.items.items place unused)
+      → IsSlotOf a.policy.max_generation (boxed_slice_items a.classes) place
+      (slice_index_or (boxed_slice_items a.slots) place unused)
