@@ -1,0 +1,46 @@
+# For bin/heapguard, after tools/build.sh: running the sources with nothing proved.
+# shellcheck shell=sh disable=SC2154
+
+# NAME FILE: copies a file for the program to read. What can't be read is left out, and the program
+# then tells so.
+lend() { cat -- "$2" >"$scratch/$1" 2>/dev/null || rm -f "$scratch/$1"; }
+
+try() {
+    cd "$folder" || exit
+    exec rt try "$@" <&3 2>"$scratch/said"
+}
+
+# ARGUMENTS: compiles the sources as they stand, with no proof, and runs what comes of it in a
+# folder of its own. Ends with its status, or with 125 where it gave no answer.
+unproved() {
+    need_rt
+    exec 3<&0
+    guard
+    scratch=$(mktemp -d)
+    case ${1-}/$# in
+        check/2)
+            lend policy "$2"
+            set -- check policy
+            ;;
+        replay/3)
+            lend policy "$2"
+            lend trace "$3"
+            set -- replay policy trace
+            ;;
+    esac
+    set -- -- "$@"
+    for it in policy trace; do
+        [ ! -f "$scratch/$it" ] || set -- --data "$it=$scratch/$it" "$@"
+    done
+    say "unproved: compiling the sources as they stand, in a minute or two; no proof is checked"
+    answer=0
+    watch "compiling, unproved" try "$@" || answer=$?
+    case $(tail -n 1 "$scratch/said") in
+        "run=ended status="*)
+            sed '/^\(checked\|interpreter\): /d; /^run=ended /d' "$scratch/said" >&2
+            exit "$answer"
+            ;;
+    esac
+    cat "$scratch/said" >&2
+    stop 125 "unproved, and no answer: the lines above say why"
+}
