@@ -10,7 +10,6 @@ pub mod Sums
 pub mod LimitsLemmas
 pub mod ReadingLemmas
 pub mod ArenasLemmas
-pub mod VerdictsLemmas
 pub mod OwnersLemmas
 pub mod RowsLemmas
 pub mod WorkersLemmas

@@ -7,7 +7,6 @@ pub mod Lives
 pub mod Limits
 pub mod Reading
 pub mod Arenas
-pub mod Verdicts
 pub mod Owners
 pub mod Rows
 pub mod Workers

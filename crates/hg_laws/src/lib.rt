@@ -12,7 +12,6 @@ ghost use Rattle.hg_laws.specs.Limits.{ChargesStayLow, AllocationsAreCharged, Li
 ghost use Rattle.hg_laws.specs.Reading.{ReadingChangesNothing, ReadingMayBeDropped};
 ghost use Rattle.hg_laws.specs.Arenas.{ArenasAreIsolated, UnadmittedGetNothing};
 ghost use Rattle.hg_laws.specs.Arenas.{BlocksLieInTheArena};
-ghost use Rattle.hg_laws.specs.Verdicts.{WordsDecide};
 ghost use Rattle.hg_laws.specs.Owners.{OwnersAreTenants};
 ghost use Rattle.hg_laws.specs.Rows.{LooksTellTheirLine};
 ghost use Rattle.hg_laws.specs.Workers.{WorkersKeepApart, NewPagesComeLast};
@@ -118,11 +117,6 @@ pub fn unadmitted_get_nothing()
 /// A block that is answered lies in the arena that was asked for.
 pub fn blocks_lie_in_the_arena()
     ensures { BlocksLieInTheArena }
-{}
-
-/// A verdict on a block is known by the policy and one slot word.
-pub fn words_decide()
-    ensures { WordsDecide }
 {}
 
 /// Each block is owned by a tenant that the arena of its segment admits.

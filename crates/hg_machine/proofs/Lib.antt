@@ -15,4 +15,5 @@ pub mod Times
 pub mod Plain
 pub mod Listed
 pub mod Looks
+pub mod ShownLemmas
 pub mod Serves
