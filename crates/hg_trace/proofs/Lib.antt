@@ -18,3 +18,5 @@ pub mod PlainWords
 pub mod PlainCommands
 pub mod PlainReads
 pub mod PlainLines
+pub mod PlainBytes
+pub mod PlainTraces

@@ -1,6 +1,6 @@
 -- Blocks are read from how they are written, and from nothing else.
-use Rattle.std.proofs.Common.{◌≡◌, ◌≢◌, ℕ, ◌+◌, ◌<◌, ◌^◌, ◌==◌, suc, Bool, true, false, List, [], ◌∷◌, Option, Some, None, Ok, Err, length, get_or, ltb, refl, sym, ap, subst, ◌∙◌, inl, inr, arith}
-use Rattle.std.specs.Prelude.{Result, position, bytes_eq, option_map}
+use Rattle.std.proofs.Common.{◌≡◌, ℕ, ◌+◌, ◌<◌, ◌^◌, ◌==◌, suc, true, false, List, [], ◌∷◌, Option, Some, None, Ok, Err, length, get_or, refl, sym, ap, subst, ◌∙◌, inl, inr, arith}
+use Rattle.std.specs.Prelude.{position, bytes_eq, option_map}
 use Rattle.std.specs.List.{position_or_len}
 use Rattle.std.proofs.lemmas.Bool.{cases_Bool, lt-ltb}
 use Rattle.std.proofs.lemmas.Bool.Decides.{nat_tests}
@@ -9,9 +9,7 @@ use Rattle.hg_place.specs.declared.Handle.{Handle}
 use Rattle.hg_policy.specs.NameForm.{is_name, is_lower}
 use Rattle.hg_trace.specs.declared.line.BlockName.{BlockName}
 use Rattle.hg_trace.specs.declared.line.BlockName.TheVariants as block_name
-use Rattle.hg_trace.specs.declared.fault.LineFault.{LineFault}
 use Rattle.hg_trace.specs.declared.fault.LineFault.TheVariants as fault
-use Rattle.hg_trace.specs.Faults.{◌>>=◌}
 use Rattle.hg_trace.specs.Handles.{handle_of}
 use Rattle.hg_trace.specs.Blocks.{label_of, block_of}
 use Rattle.hg_trace.specs.Printed.{handle_text, block_text}

@@ -1,16 +1,14 @@
 -- Lines are read from how they are written, and from nothing else.
-use Rattle.std.proofs.Common.{◌≡◌, ℕ, ◌<◌, ◌==◌, ◌^◌, true, false, List, [], ◌∷◌, ◌++◌, Option, Some, None, Ok, Err, codes, decimal, refl, sym, ap, subst, ◌∙◌, inl, inr, arith}
-use Rattle.std.specs.Prelude.{Result, ok_or, if◌then◌else◌}
+use Rattle.std.proofs.Common.{◌≡◌, ℕ, ◌<◌, ◌==◌, false, List, [], ◌∷◌, Option, Some, None, Ok, Err, decimal, refl, ap, subst, ◌∙◌, inl, inr, arith}
+use Rattle.std.specs.Prelude.{ok_or}
 use Rattle.std.proofs.lemmas.Bool.Decides.{nat_tests}
-use Rattle.hg_policy.specs.NameForm.{is_among}
 use Rattle.hg_trace.specs.declared.line.Command.{Command}
 use Rattle.hg_trace.specs.declared.line.Command.TheVariants as command
-use Rattle.hg_trace.specs.declared.fault.LineFault.{LineFault}
 use Rattle.hg_trace.specs.declared.fault.LineFault.TheVariants as fault
 use Rattle.hg_trace.specs.Numbers.{number_below}
 use Rattle.hg_trace.specs.Labels.{repeats}
 use Rattle.hg_trace.specs.Commands.{worker_of, command_at, words_at}
-use Rattle.hg_trace.specs.Printed.{worker_text, command_words, line_words}
+use Rattle.hg_trace.specs.Printed.{worker_text, line_words}
 use Rattle.hg_trace.specs.Plain.{AreLabels, IsPlainCommand, IsPlain}
 use Rattle.hg_trace.specs.PlainLaws.{LinesAreTheirWords}
 use Rattle.hg_trace.proofs.Binds.{well, bind_ok, ok_is, some_is, if_ok}

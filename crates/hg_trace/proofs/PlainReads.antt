@@ -1,11 +1,12 @@
 -- A command that was read is how it is written.
-use Rattle.std.proofs.Common.{◌≡◌, ℕ, ◌^◌, true, false, List, [], ◌∷◌, Option, Some, None, Ok, Err, codes, decimal, refl, ap, subst, ◌∙◌, inl, inr, arith}
-use Rattle.std.specs.Prelude.{bytes_eq, IfSome}
+use Rattle.std.proofs.Common.{◌≡◌, ℕ, ◌^◌, true, false, List, [], ◌∷◌, Option, Some, None, Ok, codes, decimal, ap, subst, ◌∙◌, inl, inr, arith}
+use Rattle.std.specs.Prelude.{Result, bytes_eq, if◌then◌else◌, IfSome}
 use Rattle.hg_place.specs.declared.Place.{Place}
 use Rattle.hg_policy.specs.NameForm.{is_name}
 use Rattle.hg_trace.specs.declared.line.BlockName.{BlockName}
 use Rattle.hg_trace.specs.declared.line.Command.{Command}
 use Rattle.hg_trace.specs.declared.line.Command.TheVariants as command
+use Rattle.hg_trace.specs.declared.fault.LineFault.{LineFault}
 use Rattle.hg_trace.specs.Operands.{name_operand, number_operand, label_operand, no_operand}
 use Rattle.hg_trace.specs.Handles.{place_operand}
 use Rattle.hg_trace.specs.Blocks.{block_operand}
@@ -213,58 +214,34 @@ module _ (labels words : List (List ℕ)) (c : Command) (fresh : repeats labels 
           let all : words ≡ arena.0 ∷ [] = cc in
           subst (IsWritten labels (codes "refill") words) (ok_is (command.Refill arena.0) c is) (ap (λ l. codes "refill" ∷ l) all, p_arena)
 
-named : (labels words : List (List ℕ)) (c : Command) (name text : List ℕ) → bytes_eq name text ≡ true → IsWritten labels text words c
-    → (name ∷ words ≡ command_words labels c) × IsPlainCommand labels c
-named labels words c name text same (written, plain) = (ap (λ n. n ∷ words) (bytes_eq-true name text same) ∙ written, plain)
-
 -- by its name
+module _ (labels words : List (List ℕ)) (c : Command) (name : List ℕ) where
+  abbrev IsNamed : Type 0
+  IsNamed = (name ∷ words ≡ command_words labels c) × IsPlainCommand labels c
+
+  -- it has this name, or is one of the others
+  named : (text : List ℕ) (here others : Result Command LineFault) → (if bytes_eq name text then here else others) ≡ Ok c
+      → (here ≡ Ok c → IsWritten labels text words c) → (others ≡ Ok c → IsNamed) → IsNamed
+  named text here others h one more =
+      elim (if_ok (bytes_eq name text) here others c h) [
+        | inl (same, read) ↦ let (written, plain) = one read in (ap (λ n. n ∷ words) (bytes_eq-true name text same) ∙ written, plain)
+        | inr (unlike, read) ↦ more read
+      ]
+
 pub command_at-is : (labels words : List (List ℕ)) (c : Command) → repeats labels c ≡ false → command_at labels words ≡ Ok c
     → (words ≡ command_words labels c) × IsPlainCommand labels c
 unfolding command_at
 command_at-is labels [] c fresh h = absurd (cc)
 command_at-is labels (name ∷ words) c fresh h =
-    elim (if_ok (bytes_eq name (codes "alloc")) _ _ c h) [
-      | inl (is, read) ↦ named labels words c name (codes "alloc") is (alloc_is labels words c fresh read)
-      | inr (unlike0, h0) ↦
-          elim (if_ok (bytes_eq name (codes "free")) _ _ c h0) [
-            | inl (is, read) ↦ named labels words c name (codes "free") is (free_is labels words c fresh read)
-            | inr (unlike1, h1) ↦
-                elim (if_ok (bytes_eq name (codes "deliver")) _ _ c h1) [
-                  | inl (is, read) ↦ named labels words c name (codes "deliver") is (deliver_is labels words c fresh read)
-                  | inr (unlike2, h2) ↦
-                      elim (if_ok (bytes_eq name (codes "take")) _ _ c h2) [
-                        | inl (is, read) ↦ named labels words c name (codes "take") is (take_is labels words c fresh read)
-                        | inr (unlike3, h3) ↦
-                            elim (if_ok (bytes_eq name (codes "collect")) _ _ c h3) [
-                              | inl (is, read) ↦ named labels words c name (codes "collect") is (collect_is labels words c fresh read)
-                              | inr (unlike4, h4) ↦
-                                  elim (if_ok (bytes_eq name (codes "read")) _ _ c h4) [
-                                    | inl (is, read) ↦ named labels words c name (codes "read") is (read_is labels words c fresh read)
-                                    | inr (unlike5, h5) ↦
-                                        elim (if_ok (bytes_eq name (codes "write")) _ _ c h5) [
-                                          | inl (is, read) ↦ named labels words c name (codes "write") is (write_is labels words c fresh read)
-                                          | inr (unlike6, h6) ↦
-                                              elim (if_ok (bytes_eq name (codes "look")) _ _ c h6) [
-                                                | inl (is, read) ↦ named labels words c name (codes "look") is (look_is labels words c fresh read)
-                                                | inr (unlike7, h7) ↦
-                                                    elim (if_ok (bytes_eq name (codes "list")) _ _ c h7) [
-                                                      | inl (is, read) ↦ named labels words c name (codes "list") is (list_is labels words c fresh read)
-                                                      | inr (unlike8, h8) ↦
-                                                          elim (if_ok (bytes_eq name (codes "abandon")) _ _ c h8) [
-                                                            | inl (is, read) ↦ named labels words c name (codes "abandon") is (abandon_is labels words c fresh read)
-                                                            | inr (unlike9, h9) ↦
-                                                                elim (if_ok (bytes_eq name (codes "refill")) _ _ c h9) [
-                                                                  | inl (is, read) ↦ named labels words c name (codes "refill") is (refill_is labels words c fresh read)
-                                                                  | inr (unlike10, h10) ↦
-                                                                      absurd (cc)
-                                                                ]
-                                                          ]
-                                                    ]
-                                              ]
-                                        ]
-                                  ]
-                            ]
-                      ]
-                ]
-          ]
-    ]
+    named labels words c name (codes "alloc") _ _ h (alloc_is labels words c fresh) (λ h0.
+    named labels words c name (codes "free") _ _ h0 (free_is labels words c fresh) (λ h1.
+    named labels words c name (codes "deliver") _ _ h1 (deliver_is labels words c fresh) (λ h2.
+    named labels words c name (codes "take") _ _ h2 (take_is labels words c fresh) (λ h3.
+    named labels words c name (codes "collect") _ _ h3 (collect_is labels words c fresh) (λ h4.
+    named labels words c name (codes "read") _ _ h4 (read_is labels words c fresh) (λ h5.
+    named labels words c name (codes "write") _ _ h5 (write_is labels words c fresh) (λ h6.
+    named labels words c name (codes "look") _ _ h6 (look_is labels words c fresh) (λ h7.
+    named labels words c name (codes "list") _ _ h7 (list_is labels words c fresh) (λ h8.
+    named labels words c name (codes "abandon") _ _ h8 (abandon_is labels words c fresh) (λ h9.
+    named labels words c name (codes "refill") _ _ h9 (refill_is labels words c fresh) (λ h10.
+    absurd (cc))))))))))))

@@ -1,21 +1,18 @@
 -- Operands that are places, blocks and labels, in the words of a line.
-use Rattle.std.proofs.Common.{◌≡◌, ℕ, ◌<◌, ◌^◌, ◌==◌, true, false, List, [], ◌∷◌, Option, Some, None, Ok, Err, codes, decimal, refl, sym, ap, subst, ◌∙◌, inl, inr, arith}
-use Rattle.std.specs.Prelude.{Result, bytes_eq, ok_or, IfSome}
+use Rattle.std.proofs.Common.{◌≡◌, ℕ, true, List, [], ◌∷◌, Option, Some, None, Ok, codes, refl, ap, subst, ◌∙◌, inl, inr}
+use Rattle.std.specs.Prelude.{bytes_eq, IfSome}
 use Rattle.hg_place.specs.declared.Place.{Place}
-use Rattle.hg_policy.specs.NameForm.{is_name, is_among}
+use Rattle.hg_policy.specs.NameForm.{is_name}
 use Rattle.hg_trace.specs.declared.line.BlockName.{BlockName}
-use Rattle.hg_trace.specs.declared.line.Command.{Command}
-use Rattle.hg_trace.specs.declared.line.Command.TheVariants as command
 use Rattle.hg_trace.specs.declared.fault.LineFault.TheVariants as fault
-use Rattle.hg_trace.specs.Operands.{name_operand, number_operand, label_operand, no_operand}
+use Rattle.hg_trace.specs.Operands.{name_operand, label_operand, no_operand}
 use Rattle.hg_trace.specs.Handles.{place_of, place_operand}
 use Rattle.hg_trace.specs.Blocks.{block_of, block_operand}
-use Rattle.hg_trace.specs.Labels.{repeats}
-use Rattle.hg_trace.specs.Commands.{known, command_at, alloc_command, free_command, deliver_command, take_command, collect_command, read_command, write_command, look_command, list_command, abandon_command, refill_command}
-use Rattle.hg_trace.specs.Printed.{place_text, block_text, label_words, command_words}
-use Rattle.hg_trace.specs.Plain.{AreLabels, IsPlainBlock, IsNewLabel, IsPlainCommand}
+use Rattle.hg_trace.specs.Commands.{known}
+use Rattle.hg_trace.specs.Printed.{place_text, block_text, label_words}
+use Rattle.hg_trace.specs.Plain.{AreLabels, IsPlainBlock, IsNewLabel}
 use Rattle.hg_trace.proofs.Binds.{well, bind_ok, ok_is, some_is, if_ok, bytes_eq-true}
-use Rattle.hg_trace.proofs.PlainOperands.{number_operand-plain, number_operand-is, name_operand-plain, name_operand-is, no_operand-is}
+use Rattle.hg_trace.proofs.PlainOperands.{name_operand-plain, name_operand-is, no_operand-is}
 use Rattle.hg_trace.proofs.PlainPlaces.{place_of-plain, place_of-is}
 use Rattle.hg_trace.proofs.PlainBlocks.{block_of-plain, block_of-is}
 

@@ -2,7 +2,7 @@
 
 ghost use Rattle.hg_trace.specs.NumberLaws.{NumbersAreDecimals};
 ghost use Rattle.hg_trace.specs.PlainLaws.{PlacesAreTheirTexts, HandlesAreTheirTexts};
-ghost use Rattle.hg_trace.specs.PlainLaws.{LinesAreTheirWords};
+ghost use Rattle.hg_trace.specs.PlainLaws.{LinesAreTheirWords, PlainTracesAreReadBack};
 
 /// A word is read as a number exactly where it is how that number is written.
 pub fn numbers_are_decimals()
@@ -25,4 +25,10 @@ pub fn handles_are_their_texts()
 /// label of its own that none gave.
 pub fn lines_are_their_words()
     ensures { LinesAreTheirWords }
+{}
+
+/// A trace in its plain form, each line with one blank between its words and a line's end behind
+/// them, is read back as itself.
+pub fn plain_traces_are_read_back()
+    ensures { PlainTracesAreReadBack }
 {}
