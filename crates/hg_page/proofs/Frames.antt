@@ -36,8 +36,8 @@ used_unlisted p words index h is on =
 pub block_ends : (p : Page) (words : List ℕ) (index : ℕ) → IsLinked p words → index < p.places → start_of (shape_of p) index + p.size ≤ SEGMENT_WORDS
 block_ends p words index h below = omega (arith, mul-le-mul_left p.size (let more : index + 1 ≤ p.places = omega arith in more), h.fits, h.within)
 
-pub block_in_page : (p : Page) (words : List ℕ) (index : ℕ) → IsLinked p words → index < p.places → start_of (shape_of p) index < p.base + 512
-block_in_page p words index h below = omega (arith, block_begins p.size p.places index below h.sized h.fits)
+pub block_begins_in_page : (p : Page) (words : List ℕ) (index : ℕ) → IsLinked p words → index < p.places → start_of (shape_of p) index < p.base + 512
+block_begins_in_page p words index h below = omega (arith, block_begins p.size p.places index below h.sized h.fits)
 
 -- no block but its own begins at a word of a block
 block_alone : (base size i index at : ℕ) → i ≢ index → base + size * index ≤ at → at < base + size * index + size → at ≢ base + size * i
@@ -75,7 +75,7 @@ same_but_used p words other index h is whole same =
 -- where they are equal on the page
 pub same_in_page : (p : Page) (words other : List ℕ) → IsLinked p words → length other ≡ SEGMENT_WORDS → ((at : ℕ) → p.base ≤ at → at < p.base + 512 → slice_index other at ≡ slice_index words at) → Same p words other
 same_in_page p words other h whole same = same_links p words other h whole
-    (Each-weaker (IsSpare p) (λ i. link_at p other i ≡ link_at p words i) (listed (lists_of p words)) (λ i s. same (start_of (shape_of p) i) (omega arith) (block_in_page p words i h s.0)) h.spare)
+    (Each-weaker (IsSpare p) (λ i. link_at p other i ≡ link_at p words i) (listed (lists_of p words)) (λ i s. same (start_of (shape_of p) i) (omega arith) (block_begins_in_page p words i h s.0)) h.spare)
 
 -- whatever they are, where no place is on a list
 pub same_unlisted : (p : Page) (words other : List ℕ) → IsLinked p words → listed (lists_of p words) ≡ [] → length other ≡ SEGMENT_WORDS → Same p words other
@@ -88,7 +88,7 @@ pub outside_kept : (p : Page) (before words : List ℕ) (at : ℕ) → IsLinked 
     → (at < p.base) ⊎ (p.base + 512 ≤ at) → slice_index words at ≡ slice_index before at
 outside_kept p before words at h others out = others at (λ index on e.
     let low : p.base ≤ at = omega (arith, e) in
-    let high : at < p.base + 512 = omega (arith, e, block_in_page p words index h (listed_below p words index h on)) in
+    let high : at < p.base + 512 = omega (arith, e, block_begins_in_page p words index h (listed_below p words index h on)) in
     ⊎_elim (λ lt. absurd (omega arith)) (λ ge. absurd (omega arith)) out)
 
 -- no list of another page

@@ -1,5 +1,6 @@
 pub mod Chained
 pub mod Linked
+pub mod BlocksLemmas
 pub mod Popped
 pub mod Pushed
 pub mod Spliced

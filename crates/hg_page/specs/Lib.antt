@@ -2,3 +2,4 @@ pub mod Shapes
 pub mod PageLists
 pub mod Links
 pub mod Others
+pub mod Blocks

@@ -1,0 +1,5 @@
+use Rattle.hg_page.proofs.BlocksLemmas.{pages_share_no_word as law}
+use Rattle.hg_page.proofs.laws.pages_share_no_word.Goals as goal
+
+pub returns : goal.returns
+returns c = law
