@@ -1,14 +1,15 @@
 -- What each change of the lists leaves listed, and used.
-use Rattle.std.proofs.Common.{◌≡◌, ◌≢◌, ℕ, Bool, true, false, List, ◌∷◌, ◌++◌, length, slice_index_or, slice_set, refl, sym, ap, ◌∙◌, arith, subst, ◌⊎◌, inl, inr, ⊎_elim, get_or-set_other, get_or-set_same}
+use Rattle.std.proofs.Common.{◌≡◌, ◌≢◌, ℕ, Bool, true, false, List, [], ◌∷◌, ◌++◌, length, slice_index_or, slice_set, refl, sym, ap, ◌∙◌, arith, subst, ◌⊎◌, inl, inr, ⊎_elim, get_or-set_other, get_or-set_same}
 use Rattle.std.specs.Prelude.{Contains}
 use Rattle.std.proofs.lemmas.List.{append-nil, length-set, get_or_past}
 use Rattle.std.proofs.lemmas.List.Elements.{Contains-append_left, Contains-append_right, Contains-append_cases}
 use Rattle.std.proofs.lemmas.Bool.{cases_lt}
 use Rattle.hg_lists.specs.Repeats.{HasNoRepeats}
 use Rattle.hg_lists.proofs.RepeatsLemmas.{Contains-cons, Contains-cons_cases, Contains-lacks}
-use Rattle.hg_page.specs.PageLists.{PageLists, listed, IsUsed, Pops, unused, pushed, spliced, freed}
+use Rattle.hg_page.specs.PageLists.{PageLists, listed, IsUsed, IsIdle, Pops, unused, pushed, spliced, freed, fresh}
 use Rattle.hg_page.specs.Links.{lists_of, IsLinked}
 use Rattle.hg_page.specs.declared.page.Page.{Page}
+use Rattle.hg_page.proofs.Formatted.{unset}
 use Rattle.hg_page.proofs.Frames.{listed_below}
 
 -- the head of `free` comes off
@@ -71,3 +72,20 @@ listed-spliced lists = append-nil (lists.free ++ lists.local_free)
 
 pub listed-freed : (lists : PageLists) (free : List ℕ) → listed (freed lists free) ≡ free
 listed-freed lists free = append-nil free
+
+-- nothing is listed, so nothing goes behind
+pub spliced-none : (lists : PageLists) → listed lists ≡ [] → spliced lists ≡ lists
+spliced-none lists none = go lists.free lists.local_free lists.used none
+  where
+    go : (free local : List ℕ) (used : List Bool) → free ++ local ≡ [] → ◌≡◌ {A = PageLists} (record { free = free ++ local; local_free = []; used = used }) (record { free = free; local_free = local; used = used })
+    go [] [] used e = refl
+    go [] (y ∷ ys) used e = absurd (cc)
+    go (x ∷ xs) local used e = absurd (cc)
+
+-- of a page that was just formatted, those are listed, and none is used
+
+pub listed-fresh : (free : List ℕ) → listed (fresh free) ≡ free
+listed-fresh free = append-nil free
+
+pub idle_fresh : (free : List ℕ) → IsIdle (fresh free)
+idle_fresh free = unset 512

@@ -9,3 +9,4 @@ pub mod Frames
 pub mod Emptied
 pub mod Unworn
 pub mod Changes
+pub mod OthersLemmas

@@ -1,10 +1,10 @@
 ghost use Rattle.std.specs.Prelude.{◌≡◌, ◌<◌, length};
-ghost use Rattle.hg_place.specs.declared.geometry.TheConstants.{SEGMENT_WORDS};
+ghost use Rattle.hg_place.specs.declared.geometry.TheConstants.{SEGMENT_PAGES, SEGMENT_WORDS};
 ghost use Rattle.hg_page.specs.Links.{IsLinked};
 
 use crate::{Page, Worn};
+use hg_place::{SEGMENT_PAGES, SEGMENT_WORDS};
 use hg_size::{Class, block_words, class_of, per_page};
-use hg_place::SEGMENT_WORDS;
 use hg_words::WordMemory;
 use std::alloc::Global;
 use std::process::Abort;
@@ -79,6 +79,34 @@ fn worn_places(rt: HostRuntime) {
     page.retire(&memory);
     assert!(&rt; page.is_full(&memory));
     assert_eq!(&rt; page.pop(&memory), None);
+}
+
+// A page in use takes another class: nothing of what it had is left on its lists, or used.
+#[test]
+fn formats_a_page_in_use(rt: HostRuntime) {
+    let mut memory = WordMemory::new(rt.alloc()).expect(&rt, "memory");
+    let class = class_of(10).expect(&rt, "a class");
+    let mut page = Page::new(3);
+    page.format(&mut memory, class, &Worn::none());
+    check_pops(&rt, &mut page, &memory, 0, 20);
+    push(&rt, &mut page, &mut memory, 4);
+    push(&rt, &mut page, &mut memory, 19);
+    let greater = class_of(100).expect(&rt, "a class");
+    let mut worn = Worn::none();
+    worn.mark(1);
+    page.format(&mut memory, greater, &worn);
+    assert!(&rt; page.is_idle(&memory));
+    for index in 0..512u16 {
+        assert!(&rt; !page.is_used(&memory, index));
+    }
+    assert_eq!(&rt; memory.get(1536), 3);
+    assert_eq!(&rt; memory.get(1536 + 2 * 112), 4);
+    assert_eq!(&rt; memory.get(1536 + 3 * 112), 0);
+    assert_eq!(&rt; page.pop(&memory), Some(0));
+    assert_eq!(&rt; page.pop(&memory), Some(2));
+    assert_eq!(&rt; page.pop(&memory), Some(3));
+    assert_eq!(&rt; page.pop(&memory), None);
+    assert!(&rt; page.is_full(&memory));
 }
 
 /// The lists of a page as vectors, the first of each list last.
@@ -203,7 +231,7 @@ fn many_steps(
     class: Class,
     seed: u64,
 )
-    requires number { number < 16 }
+    requires number { number < SEGMENT_PAGES }
     requires words { length memory.old ≡ SEGMENT_WORDS }
     ensures { length memory.new ≡ SEGMENT_WORDS }
 {
