@@ -1,4 +1,4 @@
-ghost use Rattle.std.specs.Prelude.{◌≡◌, ◌<◌, IfOk, OnErr, All};
+ghost use Rattle.std.specs.Prelude.{◌≡◌, ◌≤◌, ◌<◌, [], IfOk, OnErr, All, length, vec_capacity};
 ghost use Rattle.hg_machine.specs.SoundPolicy.{IsSoundPolicy};
 ghost use Rattle.hg_machine.specs.Holders.{holds};
 ghost use Rattle.hg_machine.specs.State.{opening};
@@ -63,6 +63,14 @@ fn serve(store: &mut Store, worker: u8, event: Event) -> Answer
     }
 }
 
+/// Room for so many answers, and for no more.
+fn room_for_answers(alloc: Global, count: usize) -> Result<Vec<Answer>, AllocError>
+    ensures empty { IfOk result (λ answers. answers.items ≡ []) }
+    ensures room { IfOk result (λ answers. vec_capacity answers ≡ count) }
+{
+    Vec::with_capacity(alloc, count)
+}
+
 impl Core {
     /// A service in which no place was ever given out and nobody holds a segment.
     pub fn open(alloc: Global, policy: Policy) -> Result<Core, AllocError>
@@ -97,6 +105,22 @@ impl Core {
         serve(&mut self.store, worker, event)
     }
 
+    /// Serves events of any workers in turn, and puts their answers into the room for them.
+    fn serve_all(&mut self, events: &[(u8, Event)], answers: &mut Vec<Answer>)
+        requires workers { All (λ event. event.0 < self.old.state.policy.workers) events.now }
+        requires empty { answers.old.items ≡ [] }
+        requires room { length events.now ≤ vec_capacity answers.old }
+        ensures run { Run self.old.state events.now answers.new.items self.new.state }
+        ensures kept { IsSound self.new.state × IsPartition self.new }
+        ensures room { vec_capacity answers.new ≡ vec_capacity answers.old }
+    {
+        let _store = &self.store; // so that what holds of it is known before the first event
+        for event in events {
+            let answer = self.step(event.0, event.1);
+            answers.push_reserved(answer);
+        }
+    }
+
     /// Serves events of any workers in turn. Where there is no memory for the answers, it serves
     /// none.
     pub fn run(&mut self, alloc: Global, events: &[(u8, Event)]) -> Result<Vec<Answer>, AllocError>
@@ -106,12 +130,9 @@ impl Core {
         ensures kept { IsSound self.new.state × IsPartition self.new }
         ensures err { OnErr result (self.new ≡ self.old) }
     {
-        let _store = &self.store;
-        let mut answers = Vec::with_capacity(alloc, events.len())?;
-        for event in events {
-            let answer = self.step(event.0, event.1);
-            answers.push_reserved(answer);
-        }
+        let _store = &self.store; // so that what holds of it is known where there is no memory
+        let mut answers = room_for_answers(alloc, events.len())?;
+        self.serve_all(events, &mut answers);
         Ok(answers)
     }
 }

@@ -50,7 +50,7 @@ impl Store {
         requires { place < length self.now.records }
         ensures { result ≡ segment_of place }
     {
-        let _slots = &self.slots;
+        let _slots = &self.slots; // so that their number is known
         (place / SEGMENT_PLACES) as u8
     }
 

@@ -39,7 +39,7 @@ impl Store {
         ensures last { result + PAGE_PLACES ≤ length self.now.records }
         ensures few { result < MAX_SEGMENTS * SEGMENT_PLACES }
     {
-        let _slots = &self.slots;
+        let _slots = &self.slots; // so that their number is known
         page * PAGE_PLACES
     }
 
@@ -48,7 +48,7 @@ impl Store {
         requires { page < length self.now.classes }
         ensures { result ≡ segment_of_page page }
     {
-        let _classes = &self.classes;
+        let _classes = &self.classes; // so that their number is known
         (page / SEGMENT_PAGES) as u8
     }
 

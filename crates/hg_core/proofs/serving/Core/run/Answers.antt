@@ -1,36 +1,5 @@
-use Rattle.std.proofs.Common.{◌≡◌, ◌+◌, [], ◌∷◌, ◌++◌, take, refl, sym, ap, subst, ◌∙◌, arith}
-use Rattle.std.proofs.lemmas.List.{take_more}
-use Rattle.hg_machine.specs.Steps.{Run}
-use Rattle.hg_machine.proofs.Preserves.{steps_keep_policy}
 use Rattle.hg_core.proofs.Kept.{kept_is}
-use Rattle.hg_core.proofs.Runs.{run_more}
 use Rattle.hg_core.proofs.serving.Core.run.Goals as goal
 
 pub returns-in_err-answers-clause-kept : goal.returns-in_err-answers-clause-kept
 returns-in_err-answers-clause-kept c = kept_is c.self.inside c.args.self.now c.self.view_is c.self.invariant
-
-pub loop-event-init : goal.loop-event-init
-loop-event-init c = record {
-  run = subst (λ done. Run c.args.self.now.state [] done c.args.self.now.state) (sym c.in_ok-answers.ensures.items) refl;
-  kept = kept_is c.self.inside c.args.self.now c.self.view_is c.self.invariant;
-  policy = refl;
-  count = c.in_ok-answers.ensures.len;
-  room = omega (arith, c.in_ok-answers.ensures.exact);
-}
-
-pub loop-event-preserved : goal.loop-event-preserved
-loop-event-preserved c =
-    let event = c.event-item.result in
-    let events : take (c.loop-event.event-index + 1) c.args.events.now ≡ take c.loop-event.event-index c.args.events.now ++ event ∷ [] =
-    take_more c.args.events.now c.loop-event.event-index event (omega arith)
-    ∙ ap (λ e. take c.loop-event.event-index c.args.events.now ++ e ∷ []) (sym c.event-item.is) in
-    record {
-      run =
-          subst (λ es. Run c.args.self.now.state es c.push_reserved.new.self.items c.step-answer.new.self.state) (sym events)
-          (subst (λ done. Run c.args.self.now.state (take c.loop-event.event-index c.args.events.now ++ event ∷ []) done c.step-answer.new.self.state) (sym c.push_reserved.ensures.items)
-          (run_more _ _ c.args.self.now.state c.loop-event.self.state c.step-answer.new.self.state event c.step-answer.result c.loop-event.invariant.run c.step-answer.ensures.step));
-      kept = c.step-answer.ensures.kept;
-      policy = steps_keep_policy c.loop-event.self.state event.0 event.1 c.step-answer.result c.step-answer.new.self.state c.step-answer.ensures.step ∙ c.loop-event.invariant.policy;
-      count = omega (arith, c.push_reserved.ensures.len, c.loop-event.invariant.count);
-      room = omega (arith, c.push_reserved.ensures.capacity, c.loop-event.invariant.room);
-    }

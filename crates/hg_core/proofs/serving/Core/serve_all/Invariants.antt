@@ -1,8 +1,8 @@
-use Rattle.std.proofs.Common.{◌≡◌, ◌≤◌, take, length, vec_len, vec_capacity}
+use Rattle.std.proofs.Common.{◌≡◌, ◌≤◌, take, vec_len, vec_capacity}
 use Rattle.hg_machine.specs.Soundness.{IsSound}
 use Rattle.hg_machine.specs.Lists.{IsPartition}
 use Rattle.hg_machine.specs.Steps.{Run}
-use Rattle.hg_core.proofs.serving.Core.run.Given as goal
+use Rattle.hg_core.proofs.serving.Core.serve_all.Given as goal
 
 -- the answers so far are a run over the events so far, and there is room for the others
 abbrev pub invariant-loop-event : goal.invariant-loop-event
@@ -11,5 +11,5 @@ invariant-loop-event l = record {
   kept : IsSound l.self.state × IsPartition l.self;
   policy : l.self.state.policy ≡ l.fn.self.state.policy;
   count : vec_len l.answers ≡ l.event-index;
-  room : length l.events ≤ vec_capacity l.answers;
+  room : vec_capacity l.answers ≡ vec_capacity l.fn.answers;
 }
