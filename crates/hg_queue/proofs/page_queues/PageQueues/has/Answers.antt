@@ -1,0 +1,5 @@
+use Rattle.hg_queue.proofs.QueuesRight.{queues_seen}
+use Rattle.hg_queue.proofs.page_queues.PageQueues.has.Goals as goal
+
+pub returns-clause-queues : goal.returns-clause-queues
+returns-clause-queues c = queues_seen _ _ c.self.view_is c.self.invariant

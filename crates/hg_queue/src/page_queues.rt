@@ -1,0 +1,130 @@
+ghost use Rattle.std.specs.Prelude.{◌≡◌, ℕ, ◌<◌, ◌↔◌, [], ◌∷◌, slice_get, slice_set, map};
+ghost use Rattle.std.specs.Prelude.{None, Some, Contains, IsTrue, IfOk, IfSome};
+ghost use Rattle.hg_lists.specs.Lists.{without, follower};
+ghost use Rattle.hg_queue.specs.Keys.{key_of};
+ghost use Rattle.hg_queue.specs.Queues.{queue_of, IsQueued, AreQueues};
+
+use hg_lists::IndexLists;
+use hg_place::{MAX_SEGMENTS, SEGMENT_PAGES};
+use std::alloc::{AllocError, Global};
+use std::marker::Model;
+
+/// How many pages there are over all segments. Pages are counted segment by segment.
+pub const PAGES: u16 = (MAX_SEGMENTS * SEGMENT_PAGES) as u16;
+
+/// How many arenas there may be.
+pub const ARENAS: u8 = 16;
+
+/// How many size classes there are.
+pub const CLASSES: u8 = 32;
+
+/// How many keys there are.
+const KEYS: u16 = ARENAS as u16 * CLASSES as u16;
+
+/// Pages with a place to give out, by arena and size class: a queue for each such key, whose front
+/// is the page to allocate from next. Pages are linked by their numbers in room that `new` takes,
+/// so no other call takes memory, and none walks a queue.
+#[derive(Drop)]
+pub struct PageQueues {
+    lists: IndexLists,
+}
+
+impl Model for PageQueues {
+    ghost use Rattle.std.specs.Prelude.{List, ℕ};
+
+    ghost Value = { List (List ℕ) };
+
+    ghost view = { λ q. q.lists.by_key };
+
+    ghost use Rattle.hg_queue.specs.Queues.{IsRight};
+
+    ghost invariant = { λ q. IsRight q.lists };
+}
+
+impl PageQueues {
+    /// Queues without pages.
+    pub fn new(alloc: Global) -> Result<PageQueues, AllocError>
+        ensures empty { IfOk result (λ queues. (key : ℕ) → queue_of queues key ≡ []) }
+        ensures queues { IfOk result AreQueues }
+    {
+        let lists = IndexLists::new(alloc, PAGES, KEYS)?;
+        Ok(PageQueues { lists })
+    }
+
+    /// Puts a page that is in no queue in front of its key's.
+    pub fn push_front(&mut self, arena: u8, class: u8, page: u16)
+        requires arena { arena < ARENAS }
+        requires class { class < CLASSES }
+        requires page { page < PAGES }
+        requires nowhere { ¬ IsQueued self.old page }
+        ensures pushed { let key = key_of arena class in
+            self.new ≡ slice_set self.old key (page ∷ queue_of self.old key) }
+        ensures queues { AreQueues self.new }
+    {
+        self.lists.push_front(key(arena, class), page);
+    }
+
+    /// Takes a page out of its queue. Where it is in none nothing changes.
+    pub fn remove(&mut self, page: u16)
+        requires { page < PAGES }
+        ensures removed { self.new ≡ map (without page) self.old }
+        ensures unchanged { ¬ IsQueued self.old page → self.new ≡ self.old }
+        ensures queues { AreQueues self.new }
+    {
+        self.lists.remove(page);
+    }
+
+    /// Takes out the page at the front of a queue, once it has no place to give out any more.
+    pub fn part_full(&mut self, page: u16)
+        requires page { page < PAGES }
+        requires front { (key : ℕ) × (slice_get (queue_of self.old key) 0 ≡ Some page) }
+        ensures parted { (key : ℕ) → slice_get (queue_of self.old key) 0 ≡ Some page
+            → queue_of self.old key ≡ page ∷ queue_of self.new key }
+        ensures removed { self.new ≡ map (without page) self.old }
+        ensures queues { AreQueues self.new }
+    {
+        let queues = &mut self.lists;
+        queues.remove(page);
+    }
+
+    /// The page at the front of a key's queue.
+    pub fn front(&self, arena: u8, class: u8) -> Option<u16>
+        requires arena { arena < ARENAS }
+        requires class { class < CLASSES }
+        ensures first { result ≡ slice_get (queue_of self.now (key_of arena class)) 0 }
+        ensures page { IfSome result (λ page. page < PAGES) }
+        ensures queues { AreQueues self.now }
+    {
+        self.lists.front(key(arena, class))
+    }
+
+    /// The page behind another in its queue.
+    pub fn next(&self, page: u16) -> Option<u16>
+        requires { page < PAGES }
+        ensures follows { (key : ℕ) → Contains (queue_of self.now key) page
+            → result ≡ follower page (queue_of self.now key) }
+        ensures nowhere { ¬ IsQueued self.now page → result ≡ None }
+        ensures queues { AreQueues self.now }
+    {
+        self.lists.next(page)
+    }
+
+    /// Whether a page is in a queue.
+    pub fn has(&self, page: u16) -> bool
+        requires { page < PAGES }
+        ensures there { IsTrue result ↔ IsQueued self.now page }
+        ensures queues { AreQueues self.now }
+    {
+        self.lists.has(page)
+    }
+}
+
+/// The number of a key.
+fn key(arena: u8, class: u8) -> u16
+    requires arena { arena < ARENAS }
+    requires class { class < CLASSES }
+    ensures value { result ≡ key_of arena class }
+    ensures below { result < KEYS }
+{
+    arena as u16 * CLASSES as u16 + class as u16
+}
