@@ -1,6 +1,6 @@
 -- Slot words and the order of lives, by arithmetic.
 use Rattle.std.proofs.Common.{◌≡◌, ℕ, ◌+◌, ◌*◌, ◌/◌, ◌%◌, ◌<◌, ◌≤◌, ◌^◌, Bool, true, false, arith, refl, sym, ◌∙◌, zero, suc}
-use Rattle.std.proofs.lemmas.Bool.{true≢false, cases_lt}
+use Rattle.std.proofs.lemmas.Bool.{true≢false}
 use Rattle.hg_place.specs.Words.{IsSlot, word_of, bit_of}
 use Rattle.hg_place.specs.Lives.{IsSlotWord, IsAtOrBefore, word_generation, word_owner, word_life}
 use Rattle.hg_place.specs.LifeOrderLaws.{LivesAreOrdered, LivesGoForward, IsBefore}

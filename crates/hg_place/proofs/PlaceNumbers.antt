@@ -1,6 +1,6 @@
 -- A place is known by its number, and a handle by its place's and its generation.
-use Rattle.std.proofs.Common.{◌≡◌, ℕ, ◌<◌, ◌≤◌, ◌%◌, ◌*◌, max, sym, ap, subst, ◌∙◌, arith}
-use Rattle.std.proofs.Math.Nat.{mod-eq_of_lt, max-eq_right}
+use Rattle.std.proofs.Common.{◌≡◌, ℕ, ◌<◌, ◌≤◌, ◌%◌, ◌*◌, sym, ap, subst, ◌∙◌, arith}
+use Rattle.std.proofs.Math.Nat.{mod-eq_of_lt}
 use Rattle.std.proofs.Math.Bridge.{le_prop}
 use Rattle.hg_place.specs.declared.Place.{Place}
 use Rattle.hg_place.specs.declared.Handle.{Handle}

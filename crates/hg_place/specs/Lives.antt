@@ -1,7 +1,7 @@
 -- What a slot word says of the life at its place, by arithmetic, and the order of the lives of one
 -- place: never given out, first live, first freed, second live, and so on.
-use Rattle.std.specs.Prelude.{◌≡◌, ℕ, ◌+◌, ◌*◌, ◌/◌, ◌%◌, ◌<◌, ◌≤◌, ◌^◌, ◌↔◌, Bool, true, false}
-use Rattle.hg_place.specs.Words.{IsSlot, word_of}
+use Rattle.std.specs.Prelude.{◌≡◌, ℕ, ◌/◌, ◌%◌, ◌<◌, ◌≤◌, ◌^◌, true}
+use Rattle.hg_place.specs.Words.{word_of}
 
 -- the generation, the owner, and 1 where the block lives
 abbrev pub word_generation : ℕ → ℕ

@@ -1,0 +1,185 @@
+ghost use Rattle.std.specs.Prelude.{◌≡◌, ◌≢◌, ℕ, ◌-◌, ◌<◌, false, length, slice_set, slice_index};
+ghost use Rattle.std.specs.Prelude.{OnOk, IfErr, IfOk};
+ghost use Rattle.std.specs.Box.{boxed_slice_items};
+ghost use Rattle.hg_place.specs.declared.geometry.TheConstants.{MAX_SEGMENTS, SEGMENT_PLACES};
+ghost use Rattle.hg_place.specs.declared.geometry.TheConstants.{PAGE_PLACES};
+ghost use Rattle.hg_place.specs.Lives.{IsLiveWord, IsSlotWord};
+ghost use Rattle.hg_place.specs.Standings.{standing_at, slot_of, is_home, Fits};
+ghost use Rattle.hg_place.specs.declared.standing.Standing.TheVariants.{Home};
+
+use crate::filled::filled;
+use crate::geometry::{PAGE_PLACES, SEGMENT_PLACES};
+use crate::{Handle, PackedStanding, Place, SlotWords, Standing, pack, word_generation};
+use std::alloc::{AllocError, Global};
+use std::boxed::BoxedSlice;
+
+/// The slot words of a segment for one thread alone: a step finds the word that stands. A place's
+/// word and its record take 8 bytes each.
+#[derive(Drop)]
+pub struct PlainWords {
+    segment: u8,
+    words: BoxedSlice<u64>,
+    records: BoxedSlice<PackedStanding>,
+    ghost segment_below: { segment < MAX_SEGMENTS },
+    ghost all_words: { length (boxed_slice_items words) ≡ SEGMENT_PLACES },
+    ghost all_records: { length (boxed_slice_items records) ≡ SEGMENT_PLACES },
+    ghost fit: { (at : ℕ) → at < SEGMENT_PLACES
+        → IsSlotWord (slice_index (boxed_slice_items words) at)
+        × Fits (standing_at (boxed_slice_items records) at)
+        (slice_index (boxed_slice_items words) at) },
+}
+
+impl SlotWords for PlainWords {
+    ghost use Rattle.hg_place.specs.Plain.{plain_words, plain_records};
+
+    type Other = ();
+
+    ghost number = { λ s. s.segment };
+
+    ghost records = { λ s. plain_records s };
+
+    ghost shows = { λ s at word. word ≡ slice_index (plain_words s) at };
+
+    ghost steps = { λ s at found left t. plain_words t ≡ slice_set (plain_words s) at left };
+
+    ghost may_meet = { λ s other. Unit {0} };
+
+    ghost meets = { λ s other at word t after. plain_words t ≡ plain_words s };
+
+    ghost numbered = { λ s. s.segment_below };
+
+    ghost sized = { λ s. s.all_records };
+
+    ghost use Rattle.std.proofs.Common.{subst, sym};
+    ghost use Rattle.hg_place.specs.Sane.{sane};
+
+    ghost sane = { λ s at below. sane (standing_at (plain_records s) at)
+        (slice_index (plain_words s) at) (s.fit at below).0 (s.fit at below).1 };
+
+    ghost fits = { λ s at word below is. subst
+        (λ w. IsSlotWord w × Fits (standing_at (plain_records s) at) w) (sym is) (s.fit at below) };
+
+    ghost still_meets = { λ s t other at found left step may. tt };
+
+    ghost meets_again = { λ s t other after at word met may. tt };
+
+    fn segment(&self) -> u8 {
+        self.segment
+    }
+
+    fn standing(&self, place: Place) -> Standing {
+        self.records[slot(place)].standing()
+    }
+
+    fn look(&mut self, place: Place) -> u64 {
+        PlainWords::word(self, place)
+    }
+
+    fn open(&mut self, place: Place, owner: u8) -> Handle {
+        let Standing::Home(before) = self.standing(place) else {
+            unreachable!()
+        };
+        let generation = before + 1;
+        let word = pack(generation, owner, true);
+        self.put(place, Standing::Open(generation, owner), word);
+        Handle { place, generation }
+    }
+
+    fn close(&mut self, place: Place, expected: u64) -> Result<(), u64> {
+        let word = self.word(place);
+        if word != expected {
+            return Err(word);
+        }
+        self.put(place, Standing::Home(word_generation(word)), word - 1);
+        Ok(())
+    }
+
+    fn take(&mut self, place: Place) -> Result<(), u64> {
+        let word = self.word(place);
+        if word % 2 == 1 {
+            return Err(word);
+        }
+        self.put(place, Standing::Home(word_generation(word)), word);
+        Ok(())
+    }
+
+    fn meet(&mut self, _other: &mut (), place: Place) -> u64 {
+        self.look(place)
+    }
+}
+
+impl PlainWords {
+    ghost use Rattle.hg_place.specs.Plain.{plain_words, plain_records};
+
+    /// The words of a segment of whose places none was ever given out.
+    pub fn new(alloc: Global, segment: u8) -> Result<PlainWords, AllocError>
+        requires { segment < MAX_SEGMENTS }
+        ensures number { IfOk result (λ s. s.segment ≡ segment) }
+        ensures words { IfOk result (λ s. (at : ℕ) → slice_index (plain_words s) at ≡ 0) }
+        ensures home { IfOk result (λ s. (at : ℕ) → standing_at (plain_records s) at ≡ Home 0) }
+    {
+        let words = filled(alloc, 0, SEGMENT_PLACES)?;
+        let home = PackedStanding::of(Standing::Home(0));
+        let records = filled(alloc, home, SEGMENT_PLACES)?;
+        Ok(PlainWords {
+            segment,
+            words,
+            records,
+        })
+    }
+
+    /// The word of a place.
+    pub fn word(&self, place: Place) -> u64
+        requires { place.segment ≡ self.now.segment }
+        ensures { result ≡ slice_index (plain_words self.now) (slot_of place) }
+    {
+        let at = slot(place);
+        self.words[at]
+    }
+
+    /// Ends the life of the live word that is expected, and leaves the place open. An error has the
+    /// word that stands, which is another, and nothing changes.
+    pub fn part(&mut self, place: Place, expected: u64) -> Result<(), u64>
+        requires segment { place.segment ≡ self.old.segment }
+        requires live { IsLiveWord expected }
+        ensures number { self.new.segment ≡ self.old.segment }
+        ensures records { plain_records self.new ≡ plain_records self.old }
+        ensures ok { OnOk result ((slice_index (plain_words self.old) (slot_of place) ≡ expected)
+            × (plain_words self.new
+            ≡ slice_set (plain_words self.old) (slot_of place) (expected - 1))) }
+        ensures open { OnOk result
+            (is_home (standing_at (plain_records self.new) (slot_of place)) ≡ false) }
+        ensures err { IfErr result (λ word. (word ≢ expected)
+            × (slice_index (plain_words self.old) (slot_of place) ≡ word)
+            × (plain_words self.new ≡ plain_words self.old)) }
+    {
+        let found = self.word(place);
+        if found != expected {
+            return Err(found);
+        }
+        self.words[slot(place)] = found - 1;
+        Ok(())
+    }
+
+    /// Sets the record and the word of a place.
+    fn put(&mut self, place: Place, standing: Standing, word: u64)
+        requires word { IsSlotWord word }
+        requires fits { Fits standing word }
+        ensures number { self.new.segment ≡ self.old.segment }
+        ensures words { plain_words self.new
+            ≡ slice_set (plain_words self.old) (slot_of place) word }
+        ensures records { plain_records self.new
+            ≡ slice_set (plain_records self.old) (slot_of place) standing }
+    {
+        self.words[slot(place)] = word;
+        self.records[slot(place)] = PackedStanding::of(standing);
+    }
+}
+
+/// The number of a place in its segment.
+fn slot(place: Place) -> usize
+    ensures value { result ≡ slot_of place }
+    ensures below { result < SEGMENT_PLACES }
+{
+    usize::from(place.page) * PAGE_PLACES + usize::from(place.index)
+}
