@@ -6,7 +6,8 @@ use Rattle.std.proofs.lemmas.Option.{slice_get_within}
 use Rattle.hg_size.proofs.Table.{find_passes}
 use Rattle.hg_machine.specs.Policy.{arena_of}
 use Rattle.hg_machine.specs.State.{State}
-use Rattle.hg_machine.specs.Holders.{is_in_arena, or_else, next_of}
+use Rattle.hg_machine.specs.Holders.{is_in_arena, next_of}
+use Rattle.std.specs.Option.{option_or}
 use Rattle.hg_machine.proofs.Gives.{number_some}
 use Rattle.hg_core.specs.Fresh.{is_fresh_in}
 
@@ -14,7 +15,7 @@ use Rattle.hg_core.specs.Fresh.{is_fresh_in}
 arena_within : (s : State) (arena segment : ℕ) → is_in_arena s arena segment ≡ true → segment < length s.policy.segments
 arena_within s arena segment e = slice_get_within s.policy.segments segment arena (number_some arena (arena_of s.policy segment) e)
 
-either : (o r : Option ℕ) (x n : ℕ) → or_else o r ≡ Some x → (o ≡ Some x → x < n) → (r ≡ Some x → x < n) → x < n
+either : (o r : Option ℕ) (x n : ℕ) → option_or o r ≡ Some x → (o ≡ Some x → x < n) → (r ≡ Some x → x < n) → x < n
 either (Some y) r x n e first second = first e
 either None r x n e first second = second e
 

@@ -1,6 +1,5 @@
 pub mod MachineFacts
 pub mod LifeChanges
-pub mod Handles
 pub mod Refusals
 pub mod PermittedLemmas
 pub mod IntegrityLemmas

@@ -41,7 +41,7 @@ use Rattle.hg_machine.proofs.Follows.{freed_is_gone}
 use Rattle.hg_laws.specs.Asked.{handle_of, is_refusal, IsDenied}
 use Rattle.hg_laws.specs.Lives.{gives_out, LivesAreCounted, LivesAreLimited, FreedIsDenied}
 use Rattle.hg_laws.specs.Lives.{ForgedIsDenied}
-use Rattle.hg_laws.proofs.Handles.{same_handle}
+use Rattle.hg_place.proofs.PlaceNumbers.{same_handle}
 use Rattle.hg_laws.proofs.LifeChanges.{part_unlive, write_live}
 use Rattle.hg_laws.proofs.MachineFacts.{free_cases, policy_kept}
 use Rattle.hg_laws.proofs.Refusals.{refused_is, was_served}

@@ -28,7 +28,8 @@ use Rattle.hg_machine.specs.Life.{Life, home, Record, never_used}
 use Rattle.hg_machine.specs.State.{State, Holder, fresh, orphan, held, record_at, class_at}
 use Rattle.hg_machine.specs.State.{holder_at, hand_of, pages_in}
 use Rattle.hg_machine.specs.Soundness.{IsSound}
-use Rattle.hg_machine.specs.Holders.{holds, is_held_by, is_orphan, is_fresh, is_in_arena, or_else}
+use Rattle.hg_machine.specs.Holders.{holds, is_held_by, is_orphan, is_fresh, is_in_arena}
+use Rattle.std.specs.Option.{option_or}
 use Rattle.hg_machine.specs.Holders.{next_of}
 use Rattle.hg_machine.specs.Changes.{given_out, part, write, with_life}
 use Rattle.hg_machine.specs.Denial.{denial}
@@ -76,7 +77,7 @@ found_counts p (x ∷ xs) n e =
           omega arith
     ]
 
-first_or : (o q : Option ℕ) (n : ℕ) → or_else o q ≡ Some n → (o ≡ Some n) ⊎ (q ≡ Some n)
+first_or : (o q : Option ℕ) (n : ℕ) → option_or o q ≡ Some n → (o ≡ Some n) ⊎ (q ≡ Some n)
 first_or None q n e = inr e
 first_or (Some m) q n e = inl e
 

@@ -2,6 +2,7 @@
 use Rattle.std.specs.Prelude.{◌≡◌, ◌⊎◌, ℕ, ◌+◌, ◌*◌, ◌==◌, ◌<◌, ◌≤◌, Bool, false, List, All}
 use Rattle.hg_place.specs.declared.Actor.{Actor}
 use Rattle.hg_place.specs.declared.Handle.{Handle}
+use Rattle.hg_place.specs.declared.geometry.TheConstants.{WORD_BYTES}
 use Rattle.hg_machine.specs.declared.Event.{Event}
 use Rattle.hg_machine.specs.declared.Event.TheVariants as event
 use Rattle.hg_machine.specs.declared.Answer.{Answer}
@@ -35,7 +36,7 @@ AllocationsAreCharged =
     (old : State) (worker : ℕ) (actor : Actor) (arena bytes : ℕ) (handle : Handle) (new : State)
     → IsSound old
     → Step old worker (event.Alloc actor arena bytes) (answer.Block handle) new
-    → (charge new worker actor.0 ≡ charge old worker actor.0 + 8 * size_of bytes)
+    → (charge new worker actor.0 ≡ charge old worker actor.0 + WORD_BYTES * size_of bytes)
     × (charge new worker actor.0 ≤ limit_of old.policy actor.0)
 
 -- so in a run without a Refill of the heap a tenant within its limit there stays within it

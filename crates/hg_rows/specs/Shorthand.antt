@@ -1,29 +1,19 @@
 -- Short names of the places and events of the worked runs.
-use Rattle.std.specs.Prelude.{ℕ, ◌<◌}
+use Rattle.std.specs.Prelude.{ℕ}
 use Rattle.std.proofs.Math.Dec.{lit<}
 use Rattle.hg_place.specs.declared.Place.{Place}
 use Rattle.hg_place.specs.declared.Handle.{Handle}
 use Rattle.hg_place.specs.declared.Actor.{Actor}
+use Rattle.hg_place.specs.Places.{place_from}
 use Rattle.hg_machine.specs.declared.Event.{Event}
 use Rattle.hg_machine.specs.declared.Event.TheVariants as event
 
 abbrev pub actor : ℕ → Actor
 actor n = record { 0 = n }
 
--- a place by segment, page and index
-abbrev pub at : (segment page index : ℕ) → segment < 64 → page < 16 → index < 512 → Place
-at segment page index s p i = record {
-  segment = segment;
-  page = page;
-  index = index;
-  segment_below = s;
-  page_below = p;
-  index_below = i;
-}
-
 -- the first place of segment 0 in its first, second and ninth life
 abbrev pub first_place : Place
-first_place = at 0 0 0 (lit< tt) (lit< tt) (lit< tt)
+first_place = place_from 0 0 0
 
 abbrev pub block : Handle
 block = record { place = first_place; generation = 1; given_out = lit< tt }
@@ -37,21 +27,21 @@ ninth_life = record { place = first_place; generation = 9; given_out = lit< tt }
 -- the second place of that page, and the first ones of the next two pages
 abbrev pub neighbour : Handle
 neighbour = record {
-  place = at 0 0 1 (lit< tt) (lit< tt) (lit< tt);
+  place = place_from 0 0 1;
   generation = 1;
   given_out = lit< tt;
 }
 
 abbrev pub next_page : Handle
 next_page = record {
-  place = at 0 1 0 (lit< tt) (lit< tt) (lit< tt);
+  place = place_from 0 1 0;
   generation = 1;
   given_out = lit< tt;
 }
 
 abbrev pub third_page : Handle
 third_page = record {
-  place = at 0 2 0 (lit< tt) (lit< tt) (lit< tt);
+  place = place_from 0 2 0;
   generation = 1;
   given_out = lit< tt;
 }
@@ -59,7 +49,7 @@ third_page = record {
 -- a place of segment 9, which the policy lacks
 abbrev pub nowhere : Handle
 nowhere = record {
-  place = at 9 0 0 (lit< tt) (lit< tt) (lit< tt);
+  place = place_from 9 0 0;
   generation = 1;
   given_out = lit< tt;
 }
