@@ -16,6 +16,8 @@ mod name_form;
 mod one_line;
 mod policy;
 mod rights;
+#[cfg(test)]
+mod size_tests;
 mod tenants;
 #[cfg(test)]
 mod tests;

@@ -1,6 +1,6 @@
 //! Documents and what they mean.
 
-use crate::{Policy, PolicyFault, read_policy};
+use crate::{PolicyFault, read_policy};
 use hg_place::{Actor, Right};
 use std::test::Fail;
 
@@ -61,6 +61,13 @@ arena = []
 grant = []
 ";
 
+const STRANGE: &str = "\
+version = 1
+workers = 1
+tenant = []
+arena = [ {name = \"m\", segments = 1, exclusive = [\"eve\"]} ]
+";
+
 #[test]
 fn reads_a_policy(rt: HostRuntime) -> Result<(), Fail> {
     let policy = read_policy(rt.alloc(), SHARED.as_bytes())?;
@@ -69,6 +76,8 @@ fn reads_a_policy(rt: HostRuntime) -> Result<(), Fail> {
     assert_eq!(rt; policy.tenants(), 2);
     assert_eq!(rt; policy.arenas(), 4);
     assert_eq!(rt; policy.segments(), 4);
+    let not_text = read_policy(rt.alloc(), b"\xff");
+    assert!(rt; matches!(&not_text, Err(PolicyFault::NotToml)), "not text");
     Ok(())
 }
 
@@ -153,30 +162,26 @@ fn takes_what_is_allowed(rt: HostRuntime) -> Result<(), Fail> {
 #[test]
 fn refused_in_turn(rt: HostRuntime) {
     let read = read_policy(rt.alloc(), SHARED.as_bytes());
-    assert!(rt;
-        is_read_or_memory(&read),
-        "another fault in place of want of memory"
-    );
-    let unknown = read_policy(rt.alloc(), b"version = 1\ncolour = 1");
-    assert!(rt;
-        is_unknown_or_memory(&unknown),
-        "another answer in place of an unknown key"
-    );
-}
-
-fn is_read_or_memory(read: &Result<Policy, PolicyFault>) -> bool {
-    match read {
+    let is_read = match &read {
         Ok(policy) => policy.arena_of(2) == Some(2),
-        Err(PolicyFault::Memory) => true,
-        Err(_) => false,
-    }
-}
-
-fn is_unknown_or_memory(read: &Result<Policy, PolicyFault>) -> bool {
-    match read {
+        Err(fault) => matches!(fault, PolicyFault::Memory),
+    };
+    assert!(rt; is_read, "another fault in place of want of memory");
+    let unknown = read_policy(rt.alloc(), b"version = 1\ncolour = 1");
+    let is_unknown = match &unknown {
         Ok(_) => false,
         Err(PolicyFault::Unknown(key)) => key.as_str() == "colour",
-        Err(PolicyFault::Memory) => true,
-        Err(_) => false,
-    }
+        Err(fault) => matches!(fault, PolicyFault::Memory),
+    };
+    assert!(rt; is_unknown, "another answer in place of an unknown key");
+    let strange = read_policy(rt.alloc(), STRANGE.as_bytes());
+    let is_strange = match &strange {
+        Ok(_) => false,
+        Err(PolicyFault::NoSuchName(name)) => name.as_str() == "eve",
+        Err(fault) => matches!(fault, PolicyFault::Memory),
+    };
+    assert!(rt;
+        is_strange,
+        "another answer in place of a name that is none"
+    );
 }
