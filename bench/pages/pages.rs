@@ -3,7 +3,7 @@ use std::time::{Duration, Instant};
 
 const ROUNDS: u32 = 2_000;
 const BLOCK: u16 = 3;
-const PLACES: usize = 512;
+const PAGE_PLACES: usize = 512;
 const END: u16 = 0;
 
 struct Page {
@@ -15,7 +15,7 @@ struct Page {
     local: u16,
     local_end: u16,
     in_use: u16,
-    used: [bool; PLACES],
+    used: [bool; PAGE_PLACES],
 }
 
 impl Page {
@@ -56,7 +56,7 @@ impl Page {
         self.used[index as usize] = false;
     }
 
-    fn collect(&mut self, words: &mut Vec<u64>) {
+    fn splice(&mut self, words: &mut Vec<u64>) {
         if self.local == END {
             return;
         }
@@ -107,7 +107,7 @@ fn by_turns(page: &mut Page, words: &mut Vec<u64>) -> u64 {
                 page.push_local(words, index);
                 pairs += 1;
             }
-            None => page.collect(words),
+            None => page.splice(words),
         }
     }
     pairs
@@ -124,20 +124,20 @@ fn main() {
         local: END,
         local_end: 0,
         in_use: 0,
-        used: [false; PLACES],
+        used: [false; PAGE_PLACES],
     };
     page.format(&mut words, BLOCK);
     let (mut taking, mut putting) = (Duration::ZERO, Duration::ZERO);
     let (mut turning, mut reading) = (Duration::ZERO, Duration::ZERO);
     let (mut taken, mut put, mut pairs) = (0u64, 0u64, 0u64);
     for _ in 0..ROUNDS {
-        page.collect(&mut words);
+        page.splice(&mut words);
         let start = Instant::now();
         taken += take_all(&mut page, &words);
         let middle = Instant::now();
         put += put_all(&mut page, &mut words);
         let end = Instant::now();
-        page.collect(&mut words);
+        page.splice(&mut words);
         let turn = Instant::now();
         pairs += by_turns(&mut page, &mut words);
         let last = Instant::now();
