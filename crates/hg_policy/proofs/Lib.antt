@@ -12,3 +12,4 @@ pub mod Sound
 pub mod GrantEntries
 pub mod GrantTable
 pub mod Parts
+pub mod PlainLines

@@ -13,3 +13,4 @@ pub mod Grants
 pub mod Granted
 pub mod Document
 pub mod DocumentLaws
+pub mod LineLaws

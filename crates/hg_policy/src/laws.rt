@@ -1,7 +1,8 @@
-//! Laws of the document. Each function does nothing: what it promises is the law.
+//! Laws of the document and of its faults. Each function does nothing: what it promises is the law.
 
 ghost use Rattle.hg_policy.specs.DocumentLaws.{NamesAreDistinct, TablesAreWhole};
 ghost use Rattle.hg_policy.specs.DocumentLaws.{DocumentsAreSound};
+ghost use Rattle.hg_policy.specs.LineLaws.{FaultsAreOneLine};
 
 /// No two tenants of a policy that was read have one name, nor two arenas, and each name has the
 /// form of a name.
@@ -18,4 +19,9 @@ pub fn tables_are_whole()
 /// A policy that was read is sound.
 pub fn documents_are_sound()
     ensures { DocumentsAreSound }
+{}
+
+/// The line of a fault has no control character, whatever key or name it tells.
+pub fn faults_are_one_line()
+    ensures { FaultsAreOneLine }
 {}
