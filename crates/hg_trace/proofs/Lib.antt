@@ -9,7 +9,7 @@ pub mod Numerals
 pub mod Decimals
 pub mod Parts
 pub mod Dots
-pub mod PlaceNumbers
+pub mod HandleParts
 pub mod LabelNames
 pub mod PlainOperands
 pub mod PlainPlaces

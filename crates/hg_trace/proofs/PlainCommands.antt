@@ -1,6 +1,7 @@
 -- Each command is read from how it is written.
 use Rattle.std.proofs.Common.{◌≡◌, ℕ, ◌^◌, List, [], ◌∷◌, Option, Ok, decimal, refl, arith}
 use Rattle.hg_place.specs.declared.Place.{Place}
+use Rattle.hg_place.specs.declared.geometry.TheConstants.{MAX_SEGMENTS}
 use Rattle.hg_trace.specs.declared.line.BlockName.{BlockName}
 use Rattle.hg_trace.specs.declared.line.Command.{Command}
 use Rattle.hg_trace.specs.declared.line.Command.TheVariants as command
@@ -35,7 +36,7 @@ module _ (labels : List (List ℕ)) (are : AreLabels labels) where
   take_plain : (segment : ℕ) → IsPlainCommand labels (command.Take segment) → take_command (decimal segment ∷ []) ≡ Ok (command.Take segment)
   unfolding take_command
   take_plain segment p_segment =
-      let read_segment = number_operand-plain 64 segment [] (omega arith) p_segment in
+      let read_segment = number_operand-plain MAX_SEGMENTS segment [] (omega arith) p_segment in
       rw read_segment refl
 
   collect_plain : collect_command [] ≡ Ok command.Collect
@@ -75,7 +76,7 @@ module _ (labels : List (List ℕ)) (are : AreLabels labels) where
   abandon_plain : (segment : ℕ) → IsPlainCommand labels (command.Abandon segment) → abandon_command (decimal segment ∷ []) ≡ Ok (command.Abandon segment)
   unfolding abandon_command
   abandon_plain segment p_segment =
-      let read_segment = number_operand-plain 64 segment [] (omega arith) p_segment in
+      let read_segment = number_operand-plain MAX_SEGMENTS segment [] (omega arith) p_segment in
       rw read_segment refl
 
   refill_plain : (arena : List ℕ) → IsPlainCommand labels (command.Refill arena) → refill_command (arena ∷ []) ≡ Ok (command.Refill arena)

@@ -7,15 +7,18 @@ use Rattle.std.proofs.lemmas.List.Sums.{AllPass-from_list_all}
 use Rattle.std.proofs.lemmas.List.Splits.{slice_split_none, slice_split_at, join_with_byte-slice_split}
 use Rattle.hg_place.specs.declared.Place.{Place}
 use Rattle.hg_place.specs.declared.Handle.{Handle}
+use Rattle.hg_place.specs.declared.geometry.TheConstants.{MAX_SEGMENTS, SEGMENT_PAGES, PAGE_PLACES}
+use Rattle.hg_place.specs.Places.{place_from}
+use Rattle.hg_place.proofs.PlaceNumbers.{place_is}
 use Rattle.hg_trace.specs.declared.fault.LineFault.TheVariants as fault
 use Rattle.hg_trace.specs.Numbers.{is_digit}
 use Rattle.hg_trace.specs.Operands.{number_operand, no_operand}
-use Rattle.hg_trace.specs.Handles.{is_dot, parts_of, place_from, handle_from, place_in, generation_in, place_of, handle_of}
+use Rattle.hg_trace.specs.Handles.{is_dot, parts_of, handle_from, place_in, generation_in, place_of, handle_of}
 use Rattle.hg_trace.specs.Printed.{place_text, handle_text}
 use Rattle.hg_trace.specs.PlainLaws.{PlacesAreTheirTexts}
 use Rattle.hg_trace.proofs.Binds.{well, bind_ok, ok_is, if_ok}
 use Rattle.hg_trace.proofs.Decimals.{digits-decimal}
-use Rattle.hg_trace.proofs.PlaceNumbers.{place_is, handle_is}
+use Rattle.hg_trace.proofs.HandleParts.{handle_is}
 use Rattle.hg_trace.proofs.PlainOperands.{number_operand-plain, number_operand-is, no_operand-is}
 
 -- a number has no dot
@@ -39,24 +42,24 @@ place_parts place rest = decimal place.segment ∷ decimal place.page ∷ decima
 pub place_in-plain : (place : Place) (rest : List (List ℕ)) → place_in (place_parts place rest) ≡ Ok (place, rest)
 unfolding place_in
 place_in-plain place rest =
-    let s = number_operand-plain 64 place.segment (decimal place.page ∷ decimal place.index ∷ rest) (omega arith) place.segment_below in
-    let p = number_operand-plain 16 place.page (decimal place.index ∷ rest) (omega arith) place.page_below in
-    let i = number_operand-plain 512 place.index rest (omega arith) place.index_below in
+    let s = number_operand-plain MAX_SEGMENTS place.segment (decimal place.page ∷ decimal place.index ∷ rest) (omega arith) place.segment_below in
+    let p = number_operand-plain SEGMENT_PAGES place.page (decimal place.index ∷ rest) (omega arith) place.page_below in
+    let i = number_operand-plain PAGE_PLACES place.index rest (omega arith) place.index_below in
     rw (s, p, i) (ap (λ q. Ok (q, rest)) (sym (place_is place place.segment place.page place.index refl refl refl)))
 
 -- of numbers in their ranges
-parts-place_from : (s p i : ℕ) (rest : List (List ℕ)) → s < 64 → p < 16 → i < 512 → place_parts (place_from s p i) rest ≡ decimal s ∷ decimal p ∷ decimal i ∷ rest
+parts-place_from : (s p i : ℕ) (rest : List (List ℕ)) → s < MAX_SEGMENTS → p < SEGMENT_PAGES → i < PAGE_PLACES → place_parts (place_from s p i) rest ≡ decimal s ∷ decimal p ∷ decimal i ∷ rest
 parts-place_from s p i rest a b c =
-    ap (λ n. decimal n ∷ decimal (p % 16) ∷ decimal (i % 512) ∷ rest) (mod-eq_of_lt a) ∙ ap (λ n. decimal s ∷ decimal n ∷ decimal (i % 512) ∷ rest) (mod-eq_of_lt b)
+    ap (λ n. decimal n ∷ decimal (p % SEGMENT_PAGES) ∷ decimal (i % PAGE_PLACES) ∷ rest) (mod-eq_of_lt a) ∙ ap (λ n. decimal s ∷ decimal n ∷ decimal (i % PAGE_PLACES) ∷ rest) (mod-eq_of_lt b)
     ∙ ap (λ n. decimal s ∷ decimal p ∷ decimal n ∷ rest) (mod-eq_of_lt c)
 
 -- three numbers that were read
-place_read : (parts : List (List ℕ)) (s p i : ℕ × List (List ℕ)) → number_operand 64 parts ≡ Ok s → number_operand 16 s.1 ≡ Ok p → number_operand 512 p.1 ≡ Ok i
+place_read : (parts : List (List ℕ)) (s p i : ℕ × List (List ℕ)) → number_operand MAX_SEGMENTS parts ≡ Ok s → number_operand SEGMENT_PAGES s.1 ≡ Ok p → number_operand PAGE_PLACES p.1 ≡ Ok i
     → parts ≡ place_parts (place_from s.0 p.0 i.0) i.1
 place_read parts s p i segment page index =
-    let (first, s_below) = number_operand-is 64 parts s (omega arith) segment in
-    let (second, p_below) = number_operand-is 16 s.1 p (omega arith) page in
-    let (third, i_below) = number_operand-is 512 p.1 i (omega arith) index in
+    let (first, s_below) = number_operand-is MAX_SEGMENTS parts s (omega arith) segment in
+    let (second, p_below) = number_operand-is SEGMENT_PAGES s.1 p (omega arith) page in
+    let (third, i_below) = number_operand-is PAGE_PLACES p.1 i (omega arith) index in
     first ∙ ap (λ l. decimal s.0 ∷ l) second ∙ ap (λ l. decimal s.0 ∷ decimal p.0 ∷ l) third ∙ sym (parts-place_from s.0 p.0 i.0 i.1 s_below p_below i_below)
 
 pub place_in-is : (parts : List (List ℕ)) (x : Place × List (List ℕ)) → place_in parts ≡ Ok x → parts ≡ place_parts x.0 x.1
@@ -67,7 +70,7 @@ place_in-is parts x h =
     let (i, index, is) = bind_ok _ _ x h2 in
     read parts s p i segment page index x is
   where
-    read : (parts : List (List ℕ)) (s p i : ℕ × List (List ℕ)) → number_operand 64 parts ≡ Ok s → number_operand 16 s.1 ≡ Ok p → number_operand 512 p.1 ≡ Ok i
+    read : (parts : List (List ℕ)) (s p i : ℕ × List (List ℕ)) → number_operand MAX_SEGMENTS parts ≡ Ok s → number_operand SEGMENT_PAGES s.1 ≡ Ok p → number_operand PAGE_PLACES p.1 ≡ Ok i
         → (x : Place × List (List ℕ)) → well (place_from s.0 p.0 i.0, i.1) ≡ Ok x → parts ≡ place_parts x.0 x.1
     read parts s p i segment page index x is =
         let place = place_from s.0 p.0 i.0 in

@@ -2,6 +2,7 @@
 use Rattle.std.proofs.Common.{◌≡◌, ℕ, ◌^◌, true, false, List, [], ◌∷◌, Option, Some, None, Ok, codes, decimal, ap, subst, ◌∙◌, inl, inr, arith}
 use Rattle.std.specs.Prelude.{Result, bytes_eq, if◌then◌else◌, IfSome}
 use Rattle.hg_place.specs.declared.Place.{Place}
+use Rattle.hg_place.specs.declared.geometry.TheConstants.{MAX_SEGMENTS}
 use Rattle.hg_policy.specs.NameForm.{is_name}
 use Rattle.hg_trace.specs.declared.line.BlockName.{BlockName}
 use Rattle.hg_trace.specs.declared.line.Command.{Command}
@@ -89,10 +90,10 @@ module _ (labels words : List (List ℕ)) (c : Command) (fresh : repeats labels 
       let (end, e_end, is) = bind_ok _ _ c h0 in
       made segment end e_segment e_end is
     where
-      made : (segment : ℕ × List (List ℕ)) (end : Unit {0}) → number_operand 64 words ≡ Ok segment → no_operand segment.1 ≡ Ok end → well (command.Take segment.0) ≡ Ok c
+      made : (segment : ℕ × List (List ℕ)) (end : Unit {0}) → number_operand MAX_SEGMENTS words ≡ Ok segment → no_operand segment.1 ≡ Ok end → well (command.Take segment.0) ≡ Ok c
           → IsWritten labels (codes "take") words c
       made segment end e_segment e_end is =
-          let (w_segment, p_segment) = number_operand-is 64 words segment (omega arith) e_segment in
+          let (w_segment, p_segment) = number_operand-is MAX_SEGMENTS words segment (omega arith) e_segment in
           let w_end = no_operand-is segment.1 end e_end in
           let all : words ≡ decimal segment.0 ∷ [] = cc in
           subst (IsWritten labels (codes "take") words) (ok_is (command.Take segment.0) c is) (ap (λ l. codes "take" ∷ l) all, p_segment)
@@ -191,10 +192,10 @@ module _ (labels words : List (List ℕ)) (c : Command) (fresh : repeats labels 
       let (end, e_end, is) = bind_ok _ _ c h0 in
       made segment end e_segment e_end is
     where
-      made : (segment : ℕ × List (List ℕ)) (end : Unit {0}) → number_operand 64 words ≡ Ok segment → no_operand segment.1 ≡ Ok end → well (command.Abandon segment.0) ≡ Ok c
+      made : (segment : ℕ × List (List ℕ)) (end : Unit {0}) → number_operand MAX_SEGMENTS words ≡ Ok segment → no_operand segment.1 ≡ Ok end → well (command.Abandon segment.0) ≡ Ok c
           → IsWritten labels (codes "abandon") words c
       made segment end e_segment e_end is =
-          let (w_segment, p_segment) = number_operand-is 64 words segment (omega arith) e_segment in
+          let (w_segment, p_segment) = number_operand-is MAX_SEGMENTS words segment (omega arith) e_segment in
           let w_end = no_operand-is segment.1 end e_end in
           let all : words ≡ decimal segment.0 ∷ [] = cc in
           subst (IsWritten labels (codes "abandon") words) (ok_is (command.Abandon segment.0) c is) (ap (λ l. codes "abandon" ∷ l) all, p_segment)

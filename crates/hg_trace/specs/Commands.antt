@@ -1,6 +1,7 @@
 -- What the words of a line mean, or its first fault.
 use Rattle.std.specs.Prelude.{ℕ, ◌^◌, ◌==◌, List, [], ◌∷◌, Option, Some, None, Result, Ok, Err}
 use Rattle.std.specs.Prelude.{ok_or, bytes_eq, codes, if◌then◌else◌}
+use Rattle.hg_place.specs.declared.geometry.TheConstants.{MAX_SEGMENTS}
 use Rattle.hg_trace.specs.declared.line.BlockName.{BlockName}
 use Rattle.hg_trace.specs.declared.line.Command.{Command}
 use Rattle.hg_trace.specs.declared.line.Command.TheVariants as command
@@ -50,7 +51,7 @@ deliver_command words = do
 -- SEGMENT
 unfoldable pub take_command : List (List ℕ) → Result Command LineFault
 take_command words = do
-  segment ← number_operand 64 words
+  segment ← number_operand MAX_SEGMENTS words
   end ← no_operand segment.1
   Ok (command.Take segment.0)
 
@@ -99,7 +100,7 @@ list_command words = do
 -- SEGMENT
 unfoldable pub abandon_command : List (List ℕ) → Result Command LineFault
 abandon_command words = do
-  segment ← number_operand 64 words
+  segment ← number_operand MAX_SEGMENTS words
   end ← no_operand segment.1
   Ok (command.Abandon segment.0)
 

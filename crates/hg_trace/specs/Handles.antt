@@ -1,12 +1,12 @@
 -- Places and handles: their numbers, with a dot between one and the next.
-use Rattle.std.proofs.Common.{lit<}
 use Rattle.std.proofs.Math.Nat.{le-max_left}
-use Rattle.std.proofs.lemmas.Nat.{mod_below}
-use Rattle.std.specs.Prelude.{ℕ, ◌^◌, ◌==◌, ◌%◌, max, Bool, List, [], ◌∷◌}
+use Rattle.std.specs.Prelude.{ℕ, ◌^◌, ◌==◌, max, Bool, List, [], ◌∷◌}
 use Rattle.std.specs.Prelude.{Result, Ok, Err, if◌then◌else◌}
 use Rattle.std.specs.List.{slice_split}
 use Rattle.hg_place.specs.declared.Place.{Place}
 use Rattle.hg_place.specs.declared.Handle.{Handle}
+use Rattle.hg_place.specs.declared.geometry.TheConstants.{MAX_SEGMENTS, SEGMENT_PAGES, PAGE_PLACES}
+use Rattle.hg_place.specs.Places.{place_from}
 use Rattle.hg_trace.specs.declared.fault.LineFault.{LineFault}
 use Rattle.hg_trace.specs.declared.fault.LineFault.TheVariants as fault
 use Rattle.hg_trace.specs.Faults.{◌>>=◌}
@@ -19,18 +19,8 @@ is_dot b = b == 46
 abbrev pub parts_of : List ℕ → List (List ℕ)
 parts_of text = slice_split is_dot text
 
--- the place of three numbers, and the handle of a place and a fourth. That each is in its range is
--- part of a place and of a handle; of numbers in their ranges these are the numbers themselves
-abbrev pub place_from : ℕ → ℕ → ℕ → Place
-place_from segment page index = record {
-  segment = segment % 64;
-  page = page % 16;
-  index = index % 512;
-  segment_below = mod_below segment 64 (lit< tt);
-  page_below = mod_below page 16 (lit< tt);
-  index_below = mod_below index 512 (lit< tt);
-}
-
+-- the handle of a place and a number. That a generation is at least 1 is part of a handle; of such a
+-- number it is the number itself
 abbrev pub handle_from : Place → ℕ → Handle
 handle_from place generation = record {
   place = place;
@@ -41,9 +31,9 @@ handle_from place generation = record {
 -- segment, page and index
 unfoldable pub place_in : List (List ℕ) → Result (Place × List (List ℕ)) LineFault
 place_in parts = do
-  segment ← number_operand 64 parts
-  page ← number_operand 16 segment.1
-  index ← number_operand 512 page.1
+  segment ← number_operand MAX_SEGMENTS parts
+  page ← number_operand SEGMENT_PAGES segment.1
+  index ← number_operand PAGE_PLACES page.1
   Ok (place_from segment.0 page.0 index.0, index.1)
 
 -- a generation is at least 1

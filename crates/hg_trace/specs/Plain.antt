@@ -4,6 +4,7 @@ use Rattle.std.specs.Prelude.{◌≡◌, ◌≢◌, ℕ, ◌+◌, ◌<◌, ◌^�
 use Rattle.std.specs.Prelude.{Option, Some, None, length}
 use Rattle.std.specs.List.{AllPass, AllPairs}
 use Rattle.hg_place.specs.declared.Handle.{Handle}
+use Rattle.hg_place.specs.declared.geometry.TheConstants.{MAX_SEGMENTS}
 use Rattle.hg_policy.specs.NameForm.{is_name, is_among}
 use Rattle.hg_trace.specs.declared.line.BlockName.{BlockName}
 use Rattle.hg_trace.specs.declared.line.BlockName.TheVariants as block_name
@@ -39,7 +40,7 @@ IsPlainCommand labels (command.Alloc actor arena bytes label) =
     IsName actor × IsName arena × (bytes < 2 ^ 64) × IsNewLabel labels label
 IsPlainCommand labels (command.Free actor block) = IsName actor × IsPlainBlock labels block
 IsPlainCommand labels command.Deliver = Unit {0}
-IsPlainCommand labels (command.Take segment) = segment < 64
+IsPlainCommand labels (command.Take segment) = segment < MAX_SEGMENTS
 IsPlainCommand labels command.Collect = Unit {0}
 IsPlainCommand labels (command.Read actor block index) =
     IsName actor × IsPlainBlock labels block × (index < 2 ^ 32)
@@ -47,7 +48,7 @@ IsPlainCommand labels (command.Write actor block index value) =
     IsName actor × IsPlainBlock labels block × (index < 2 ^ 32) × (value < 2 ^ 64)
 IsPlainCommand labels (command.Look actor place) = IsName actor
 IsPlainCommand labels (command.List actor) = IsName actor
-IsPlainCommand labels (command.Abandon segment) = segment < 64
+IsPlainCommand labels (command.Abandon segment) = segment < MAX_SEGMENTS
 IsPlainCommand labels (command.Refill arena) = IsName arena
 
 -- there are at most 16 workers

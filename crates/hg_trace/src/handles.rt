@@ -9,7 +9,7 @@ ghost use Rattle.hg_trace.specs.Operands.{number_operand, no_operand};
 
 use crate::fault::LineFault;
 use crate::numbers::number_below;
-use hg_place::{Handle, Place};
+use hg_place::{Handle, MAX_SEGMENTS, PAGE_PLACES, Place, SEGMENT_PAGES};
 use std::marker::Model;
 
 /// The parts that are left of a text.
@@ -72,9 +72,9 @@ impl<'a> Parts<'a> {
             (λ place. place_in self.old ≡ Ok (place, self.new))
             (λ fault. place_in self.old ≡ Err fault) }
     {
-        let segment = self.next_number(64)?;
-        let page = self.next_number(16)?;
-        let index = self.next_number(512)?;
+        let segment = self.next_number(MAX_SEGMENTS as u64)?;
+        let page = self.next_number(SEGMENT_PAGES as u64)?;
+        let index = self.next_number(PAGE_PLACES as u64)?;
         Ok(Place {
             segment: segment as u8,
             page: page as u8,

@@ -2,6 +2,7 @@
 
 ghost use Rattle.std.specs.Prelude.{◌≡◌, ◌<◌, ◌^◌, ◌∷◌, [], not, position, Ok, Err, IfOk};
 ghost use Rattle.std.specs.Prelude.{MatchOption, MatchResult};
+ghost use Rattle.hg_place.specs.declared.geometry.TheConstants.{MAX_SEGMENTS};
 ghost use Rattle.hg_trace.specs.Lines.{is_blank, split_words};
 ghost use Rattle.hg_trace.specs.Operands.{name_operand, number_operand, label_operand, no_operand};
 ghost use Rattle.hg_trace.specs.Handles.{place_operand};
@@ -15,7 +16,7 @@ use crate::line::BlockName;
 use crate::lines::is_blank;
 use crate::name::Name;
 use crate::numbers::{number_below, parse_number};
-use hg_place::Place;
+use hg_place::{MAX_SEGMENTS, Place};
 use std::marker::Model;
 
 /// The words that are left of a line.
@@ -93,10 +94,10 @@ impl<'a> Words<'a> {
     /// The next word, as a segment.
     pub(crate) fn next_segment(&mut self) -> Result<u8, LineFault>
         ensures { MatchResult result
-            (λ segment. number_operand 64 self.old ≡ Ok (segment, self.new))
-            (λ fault. number_operand 64 self.old ≡ Err fault) }
+            (λ segment. number_operand MAX_SEGMENTS self.old ≡ Ok (segment, self.new))
+            (λ fault. number_operand MAX_SEGMENTS self.old ≡ Err fault) }
     {
-        let segment = self.next_below(64)?;
+        let segment = self.next_below(MAX_SEGMENTS as u64)?;
         Ok(segment as u8)
     }
 

@@ -1,6 +1,6 @@
 use Rattle.std.proofs.Common.{◌≡◌, Ok, refl, sym, ap, ◌∙◌, rules}
 use Rattle.hg_trace.specs.Handles.{handle_of, handle_from}
-use Rattle.hg_trace.proofs.PlaceNumbers.{handle_is}
+use Rattle.hg_trace.proofs.HandleParts.{handle_is}
 use Rattle.hg_trace.proofs.handles.handle_of.Goals as goal
 
 pub returns : goal.returns

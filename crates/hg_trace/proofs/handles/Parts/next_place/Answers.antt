@@ -1,6 +1,7 @@
 use Rattle.std.proofs.Common.{◌≡◌, Ok, refl, sym, ap, ◌∙◌, rules}
-use Rattle.hg_trace.specs.Handles.{place_in, place_from}
-use Rattle.hg_trace.proofs.PlaceNumbers.{place_is}
+use Rattle.hg_place.specs.Places.{place_from}
+use Rattle.hg_place.proofs.PlaceNumbers.{place_is}
+use Rattle.hg_trace.specs.Handles.{place_in}
 use Rattle.hg_trace.proofs.handles.Parts.next_place.Goals as goal
 
 pub returns : goal.returns
