@@ -2,12 +2,11 @@
 use Rattle.std.specs.Prelude.{ℕ, List, map, filter}
 use Rattle.hg_place.specs.declared.Place.{Place}
 use Rattle.hg_place.specs.declared.Actor.{Actor}
-use Rattle.hg_place.specs.Places.{segment_of, page_of, index_of}
+use Rattle.hg_place.specs.Places.{segment_of, page_of, index_of, place_from}
 use Rattle.hg_machine.specs.State.{State, places_in}
 use Rattle.hg_machine.specs.Holders.{holds}
 use Rattle.hg_machine.specs.declared.Event.{Event}
 use Rattle.hg_machine.specs.declared.Event.TheVariants as event
-use Rattle.hg_trace.specs.Handles.{place_from}
 
 -- a place by its number
 abbrev pub place_at : ℕ → Place
