@@ -23,7 +23,8 @@ pub record Links (keys entries : ℕ) (heads next prev owner : List ℕ) (lists 
   pub all_owners : length owner ≡ entries
   pub all : length lists ≡ keys
   pub linked : (key : ℕ) → key < keys
-      → IsDouble (slice_index next) (slice_index prev) 0 (slice_index heads key) (slice_index_or lists key [])
+      → IsDouble (slice_index next) (slice_index prev) 0 (slice_index heads key)
+      (slice_index_or lists key [])
   pub apart : (key : ℕ) → key < keys → HasNoRepeats (slice_index_or lists key [])
   pub owned : (key : ℕ) → key < keys
       → AllByRecursion (IsOwned entries owner key) (slice_index_or lists key [])
@@ -34,17 +35,20 @@ pub record Links (keys entries : ℕ) (heads next prev owner : List ℕ) (lists 
 
 -- the lists that links show
 abbrev pub lists_of : Inside → Lists
-lists_of a = record {
-  by_key = map (chain (length (boxed_slice_items a.owner)) (slice_index (boxed_slice_items a.next))) (boxed_slice_items a.heads);
-  entries = length (boxed_slice_items a.owner);
-}
+lists_of a =
+    let heads : List ℕ = boxed_slice_items a.heads in
+    let next : List ℕ = boxed_slice_items a.next in
+    let entries : ℕ = length (boxed_slice_items a.owner) in
+    record { by_key = map (chain entries (slice_index next)) heads; entries = entries }
 
 -- the links of some lists, which are those that they show
 abbrev pub AreLinked : Inside → Type 0
 AreLinked a =
-    let keys : ℕ = length (boxed_slice_items a.heads) in
-    let entries : ℕ = length (boxed_slice_items a.owner) in
-    Links keys entries (boxed_slice_items a.heads) (boxed_slice_items a.next) (boxed_slice_items a.prev) (boxed_slice_items a.owner) (lists_of a).by_key
+    let heads : List ℕ = boxed_slice_items a.heads in
+    let next : List ℕ = boxed_slice_items a.next in
+    let prev : List ℕ = boxed_slice_items a.prev in
+    let owner : List ℕ = boxed_slice_items a.owner in
+    Links (length heads) (length owner) heads next prev owner (lists_of a).by_key
 
 -- links with what one of them leads to written over
 abbrev pub write_at : List ℕ → ℕ → ℕ → List ℕ

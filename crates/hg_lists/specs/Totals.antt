@@ -10,7 +10,8 @@ total m = sum_by length m.by_key
 -- one more, where an entry is put in front of a list
 abbrev pub FrontAddsOne : Type 0
 FrontAddsOne =
-    (m : Lists) (key entry : ℕ) → key < length m.by_key → total (with_front m key entry) ≡ total m + 1
+    (m : Lists) (key entry : ℕ) → key < length m.by_key
+    → total (with_front m key entry) ≡ total m + 1
 
 -- one less, where an entry that stands somewhere is taken out
 abbrev pub RemovalTakesOne : Type 0

@@ -8,8 +8,7 @@ use std::marker::Model;
 
 /// Lists of entries by key, doubly linked by the entries' numbers. Entries and keys are counted
 /// from 0, and how many there are is settled when the lists are made. A link is 0 at an end,
-/// otherwise the number of an entry plus 1. No call but `new` can make what is kept longer, and none
-/// walks a list.
+/// otherwise the number of an entry plus 1. What is kept can't grow, and no call walks a list.
 #[derive(Drop)]
 pub struct IndexLists {
     // by key, the first entry

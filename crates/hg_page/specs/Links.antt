@@ -30,8 +30,8 @@ last_of before (x ∷ xs) = last_of x xs
 abbrev pub IsSpare : Page → ℕ → Type 0
 IsSpare p index = (index < p.places) × (slice_index_or p.used index true ≡ false)
 
--- what a page keeps of its lists: its blocks lie in the page and the page in the segment, both lists
--- are linked to their ends, no index stands on them twice, and none that is used
+-- what a page keeps of its lists: its blocks lie in the page and the page in the segment, both
+-- lists are linked to their ends, no index stands on them twice, and none that is used
 pub record Links (p : Page) (words free local_free : List ℕ) : Type 0 where
   pub sized : 1 ≤ p.size
   pub count : p.places ≤ PAGE_PLACES

@@ -1,6 +1,7 @@
 ghost use Rattle.std.specs.Prelude.{◌≡◌, ◌≢◌, ℕ, ◌+◌, ◌-◌, ◌*◌, ◌<◌, ◌≤◌, ◌↔◌, ◌==◌, if◌then◌else◌};
 ghost use Rattle.std.specs.Prelude.{false, true, List, [], ◌∷◌, length, replicate};
-ghost use Rattle.std.specs.Prelude.{slice_index, slice_index_or, slice_set, IsTrue, MatchOption, IfSome};
+ghost use Rattle.std.specs.Prelude.{slice_index, slice_index_or, slice_set, IsTrue};
+ghost use Rattle.std.specs.Prelude.{MatchOption, IfSome};
 ghost use Rattle.hg_place.specs.declared.geometry.TheConstants.{PAGE_PLACES, PAGE_WORDS};
 ghost use Rattle.hg_place.specs.declared.geometry.TheConstants.{SEGMENT_PAGES, SEGMENT_WORDS};
 ghost use Rattle.hg_lists.specs.Repeats.{Lacks};
@@ -19,11 +20,11 @@ use hg_words::WordMemory;
 /// The link at the end of a list.
 const END: u16 = 0;
 
-/// A page of blocks of one size. `free` has the places to give out next. `local_free` has those that
-/// came back since, so that a run of allocations comes to an end now and then, where the caller can
-/// take in what else is free. Both are linked through the first words of their blocks, in the words
-/// of the page's segment, which each call is lent: a link is 0 at the end, otherwise the next index
-/// plus 1. No index stands on them twice, and none that is used.
+/// A page of blocks of one size. `free` has the places to give out next. `local_free` has those
+/// that came back since, so that a run of allocations comes to an end now and then, where the
+/// caller can take in what else is free. Both are linked through the first words of their blocks,
+/// in the words of the page's segment, which each call is lent: a link is 0 at the end, otherwise
+/// the next index plus 1. No index stands on them twice, and none that is used.
 #[derive(Drop)]
 pub struct Page {
     // in words: where the page begins in its segment, and the size of a block
