@@ -15,13 +15,14 @@ use Rattle.hg_machine.proofs.Preserves.{steps_keep_policy}
 use Rattle.hg_trace.specs.declared.line.Command.{Command}
 use Rattle.hg_trace.specs.declared.line.Command.TheVariants as command
 use Rattle.hg_trace.specs.declared.line.Line.{Line}
-use Rattle.hg_replay.specs.declared.events.Meaning.TheVariants as meaning
+use Rattle.hg_replay.specs.declared.replaying.events.Meaning.TheVariants as meaning
 use Rattle.hg_replay.specs.Events.{meaning_of, events_of, unknown_worker}
 use Rattle.hg_trace.specs.Labels.{gives_label, label_count}
 use Rattle.hg_replay.specs.Listings.{looks}
 use Rattle.hg_replay.specs.Rows.{is_row}
-use Rattle.hg_replay.specs.Text.{answer_line, listing_text, text_of}
-use Rattle.hg_replay.specs.Writes.{AppendsFront}
+use Rattle.hg_replay.specs.Text.{answer_line, listing_text, reply_text}
+use Rattle.hg_replay.specs.Sinks.{Seen}
+use Rattle.hg_replay.specs.Writes.{StopsIn}
 use Rattle.hg_replay.specs.Replays.{Progress, handles_after, handle_in, starting, meaning_at, Answered, Replays, StopsWithin}
 
 -- a line that gives no label leaves the labels as they were
@@ -95,7 +96,7 @@ module _ (from : Progress) (line : Line) where
     run =
         subst (λ m. Run from.state (events_of from.state line.worker m) (answer ∷ []) end) (sym meant) (end, step, refl);
     handles = noted;
-    told = sym (ap (λ m. text_of from.state.policy m (answer ∷ [])) meant ∙ append-nil (answer_line from.state.policy answer));
+    told = sym (ap (λ m. reply_text from.state.policy m (answer ∷ [])) meant ∙ append-nil (answer_line from.state.policy answer));
   }
 
   pub listing_answered : (actor : Actor) (answers : List Answer) (end : State)
@@ -107,15 +108,15 @@ module _ (from : Progress) (line : Line) where
         subst (λ m. Run from.state (events_of from.state line.worker m) answers end) (sym meant)
         (subst (λ t. Run from.state (looks from.state line.worker actor) answers t) (sym same) run);
     handles = sym (no_label from.handles line.command answers (listing_labels from.state.policy from.handles line.command actor meant));
-    told = sym (ap (λ m. text_of from.state.policy m answers) meant);
+    told = sym (ap (λ m. reply_text from.state.policy m answers) meant);
   }
 
-  pub unbound_answered : meaning_at from line ≡ meaning.Unbound → Answered from line from (text_of from.state.policy meaning.Unbound [])
+  pub unbound_answered : meaning_at from line ≡ meaning.Unbound → Answered from line from (reply_text from.state.policy meaning.Unbound [])
   unbound_answered meant = record {
     answers = [];
     run = subst (λ m. Run from.state (events_of from.state line.worker m) [] from.state) (sym meant) refl;
     handles = sym (no_label from.handles line.command [] (unbound_labels from.state.policy from.handles line.command meant));
-    told = sym (ap (λ m. text_of from.state.policy m []) meant);
+    told = sym (ap (λ m. reply_text from.state.policy m []) meant);
   }
 
 -- a replay goes on by a line
@@ -141,7 +142,7 @@ module _ (s : State) (lines : List Line) (i : ℕ) (line : Line) (mid end : Prog
       take_more lines i line within ∙ ap (λ l. take i lines ++ l ∷ []) (sym here_is) in
       subst (λ ls. Replays (starting s) ls end (text ++ here)) (sym more) (replays_more (take i lines) line (starting s) mid end text here so_far answered)
 
-  pub replays_stop : (old new : Option (List ℕ)) → AppendsFront old new (text ++ here) → StopsWithin s lines old new
+  pub replays_stop : (old new : Seen) → StopsIn old new (text ++ here) → StopsWithin s lines old new
   replays_stop old new stopped = record {
     before = take (i + 1) lines;
     after = drop (i + 1) lines;

@@ -1,5 +1,6 @@
 pub mod Writes
 pub mod Endings
+pub mod StatusLaws
 pub mod RowLines
 pub mod Looking
 pub mod Answering

@@ -5,7 +5,7 @@ use Rattle.std.proofs.lemmas.Bool.{cases_Bool}
 use Rattle.std.proofs.lemmas.Option.{none-some}
 use Rattle.hg_place.specs.declared.Actor.{Actor}
 use Rattle.hg_place.specs.declared.Right.TheVariants as right
-use Rattle.hg_place.specs.Places.{number_of, segment_of}
+use Rattle.hg_place.specs.Places.{place_at, number_of, segment_of}
 use Rattle.hg_machine.specs.State.{State, record_at}
 use Rattle.hg_machine.specs.Holders.{holds}
 use Rattle.hg_machine.specs.Denial.{denial}
@@ -20,11 +20,11 @@ use Rattle.hg_machine.specs.declared.Answer.{Answer}
 use Rattle.hg_machine.specs.declared.Answer.TheVariants as answer
 use Rattle.hg_machine.proofs.Cases.{step_cases}
 use Rattle.hg_machine.proofs.Looks.{looks_are_listed}
-use Rattle.hg_replay.specs.declared.events.Meaning.TheVariants as meaning
+use Rattle.hg_replay.specs.declared.replaying.events.Meaning.TheVariants as meaning
 use Rattle.hg_replay.specs.Events.{actor_of, events_of, meaning_of}
-use Rattle.hg_replay.specs.Listings.{place_at, held_among, looks_at}
+use Rattle.hg_replay.specs.Listings.{held_among, looks_at}
 use Rattle.hg_replay.specs.Rows.{is_row}
-use Rattle.hg_replay.specs.Text.{listing_text, text_of}
+use Rattle.hg_replay.specs.Text.{listing_text, reply_text}
 use Rattle.hg_replay.specs.Replays.{handles_after, meaning_at}
 use Rattle.hg_replay.specs.ReplayLaws.{row_of, rows_in, ListingsShowWhatIsListed, ListLinesPrintListings}
 use Rattle.hg_replay.proofs.Looking.{look_keeps}
@@ -135,4 +135,4 @@ list_lines_print_listings from end line name text sound lists answered =
     let handles : end.handles ≡ from.handles = answered.handles ∙ ap (λ c. handles_after from.handles c answered.answers) lists in
     let same : end ≡ from =
     ap (λ s. record { state = s; handles = end.handles }) shown.0 ∙ ap (λ h. record { state = from.state; handles = h }) handles in
-    (same, rows_in answered.answers, shown.1, answered.told ∙ ap (λ m. text_of policy m answered.answers) meant ∙ ap (listing_text policy) shown.2)
+    (same, rows_in answered.answers, shown.1, answered.told ∙ ap (λ m. reply_text policy m answered.answers) meant ∙ ap (listing_text policy) shown.2)

@@ -6,7 +6,7 @@ use Rattle.std.proofs.lemmas.List.Elements.{filter-append}
 use Rattle.std.proofs.lemmas.Grind.{flat_map-append}
 use Rattle.hg_place.specs.declared.Actor.{Actor}
 use Rattle.hg_place.specs.declared.Place.{Place}
-use Rattle.hg_place.specs.Places.{segment_of}
+use Rattle.hg_place.specs.Places.{place_at, segment_of}
 use Rattle.hg_machine.specs.Policy.{Policy}
 use Rattle.hg_machine.specs.State.{State}
 use Rattle.hg_machine.specs.Holders.{holds}
@@ -15,13 +15,14 @@ use Rattle.hg_machine.specs.declared.Event.{Event}
 use Rattle.hg_machine.specs.declared.Event.TheVariants as event
 use Rattle.hg_machine.specs.declared.Answer.{Answer}
 use Rattle.hg_machine.proofs.Answered.{state_is_determined}
-use Rattle.hg_replay.specs.declared.output.Output.{Output}
-use Rattle.hg_replay.specs.Listings.{place_at, held_among, looks_at}
+use Rattle.hg_replay.specs.declared.replaying.output.Output.{Output}
+use Rattle.hg_replay.specs.Listings.{held_among, looks_at}
 use Rattle.hg_replay.specs.Looked.{Looked}
 use Rattle.hg_replay.specs.Rows.{is_row}
 use Rattle.hg_replay.specs.Text.{answer_line, answer_lines}
-use Rattle.hg_replay.specs.Writes.{Gives}
-use Rattle.hg_replay.proofs.Writes.{gives_then, gives_none}
+use Rattle.hg_replay.specs.Sinks.{Seen}
+use Rattle.hg_replay.specs.Writes.{Emits}
+use Rattle.hg_replay.proofs.Writes.{emits_then, emits_none}
 
 pub look_keeps : (s new : State) (worker : ℕ) (actor : Actor) (place : Place) (answer : Answer)
     → Step s worker (event.Look actor place) answer new → new ≡ s
@@ -39,11 +40,11 @@ answer_lines-append : (policy : Policy) (one other : List Answer) → answer_lin
 answer_lines-append policy one other = flat_map-append (answer_line policy) one other
 
 -- nothing is looked at
-pub looked_none : (s : State) (worker : ℕ) (actor : Actor) (a : Option (List ℕ)) (x : Output) → Looked s worker actor [] 0 a x a x
-looked_none s worker actor a x = record { answers = []; run = refl; counted = refl; given = gives_none a x }
+pub looked_none : (s : State) (worker : ℕ) (actor : Actor) (a : Seen) (x : Output) → Looked s worker actor [] 0 a x a x
+looked_none s worker actor a x = record { answers = []; run = refl; counted = refl; given = emits_none a x }
 
 -- some places are looked at, and then others
-pub looked_then : (s : State) (worker : ℕ) (actor : Actor) (one other : List ℕ) (m n : ℕ) (a b c : Option (List ℕ)) (x y z : Output)
+pub looked_then : (s : State) (worker : ℕ) (actor : Actor) (one other : List ℕ) (m n : ℕ) (a b c : Seen) (x y z : Output)
     → Looked s worker actor one m a x b y → Looked s worker actor other n b y c z → Looked s worker actor (one ++ other) (m + n) a x c z
 looked_then s worker actor one other m n a b c x y z first second =
     let split = filter-append is_row first.answers second.answers in
@@ -56,30 +57,30 @@ looked_then s worker actor one other m n a b c x y z first second =
       counted =
           rw (first.counted, second.counted) (sym (ap (λ l. length l) split ∙ length-append (filter is_row first.answers) (filter is_row second.answers)));
       given =
-          subst (Gives a x c z)
+          subst (Emits a x c z)
           (sym (ap (answer_lines s.policy) split ∙ answer_lines-append s.policy (filter is_row first.answers) (filter is_row second.answers)))
-          (gives_then a b c x y z (answer_lines s.policy (filter is_row first.answers)) (answer_lines s.policy (filter is_row second.answers)) first.given second.given);
+          (emits_then a b c x y z (answer_lines s.policy (filter is_row first.answers)) (answer_lines s.policy (filter is_row second.answers)) first.given second.given);
     }
 
 module _ (s : State) (worker : ℕ) (actor : Actor) (place : ℕ) (answer : Answer) (step : Step s worker (event.Look actor (place_at place)) answer s)
-    (a : Option (List ℕ)) (x : Output) where
+    (a : Seen) (x : Output) where
   -- a place is looked at, and there is no row
   pub looked_past : is_row answer ≡ false → Looked s worker actor (place ∷ []) 0 a x a x
   looked_past miss = record {
     answers = answer ∷ [];
     run = (s, step, refl);
     counted = rw miss refl;
-    given = rw miss (gives_none a x);
+    given = rw miss (emits_none a x);
   }
 
   -- or there is one
-  pub looked_row : (b : Option (List ℕ)) (y : Output) → is_row answer ≡ true → Gives a x b y (answer_line s.policy answer)
+  pub looked_row : (b : Seen) (y : Output) → is_row answer ≡ true → Emits a x b y (answer_line s.policy answer)
       → Looked s worker actor (place ∷ []) 1 a x b y
   looked_row b y hit given = record {
     answers = answer ∷ [];
     run = (s, step, refl);
     counted = rw hit refl;
-    given = rw hit (subst (Gives a x b y) (sym (append-nil (answer_line s.policy answer))) given);
+    given = rw hit (subst (Emits a x b y) (sym (append-nil (answer_line s.policy answer))) given);
   }
 
 pub range_more : (a n : ℕ) → range_with_len a (n + 1) ≡ range_with_len a n ++ (a + n) ∷ []

@@ -9,11 +9,11 @@ use Rattle.hg_machine.specs.declared.Event.{Event}
 use Rattle.hg_machine.specs.declared.Answer.{Answer}
 use Rattle.hg_machine.proofs.Preserves.{steps_keep_policy, runs_keep_sound}
 use Rattle.hg_trace.specs.declared.line.Line.{Line}
-use Rattle.hg_replay.specs.declared.events.Meaning.{Meaning}
-use Rattle.hg_replay.specs.declared.events.Meaning.TheVariants as meaning
+use Rattle.hg_replay.specs.declared.replaying.events.Meaning.{Meaning}
+use Rattle.hg_replay.specs.declared.replaying.events.Meaning.TheVariants as meaning
 use Rattle.hg_replay.specs.Events.{events_of, unknown_worker}
 use Rattle.hg_replay.specs.Listings.{held_places}
-use Rattle.hg_replay.specs.Text.{text_of}
+use Rattle.hg_replay.specs.Text.{reply_text}
 use Rattle.hg_replay.specs.Replays.{Progress, Answered, meaning_at}
 use Rattle.hg_replay.specs.ReplayLaws.{Told, LeadsTo, StandsWhereLed, workers_of, all_events, all_answers, all_text, all_handles, ReplaysAreRuns, ReplaysKeepPolicy, ReplaysKeepSound}
 use Rattle.hg_replay.proofs.Answering.{workers_below}
@@ -80,7 +80,7 @@ replays_are_runs from end (line ∷ lines) text (mid, here, rest, answered, more
       ap (λ ls. line ∷ ls) then.1,
       leads_then from mid line here answered then.0 end then.2,
       stands_then from mid line here answered then.0 then.3,
-      told ∙ ap (λ t. t ++ rest) answered.told ∙ ap (λ t. text_of from.state.policy meant answered.answers ++ t) (then.4 ∙ ap (λ p. all_text p then.0) kept),
+      told ∙ ap (λ t. t ++ rest) answered.told ∙ ap (λ t. reply_text from.state.policy meant answered.answers ++ t) (then.4 ∙ ap (λ p. all_text p then.0) kept),
       All-append (λ event. Contains (workers_of (line ∷ lines)) event.0) events (all_events then.0)
           (first_worker line.worker (workers_of lines) events (one_worker from.state line.worker meant))
           (later_worker line.worker (workers_of lines) (all_events then.0) then.5),

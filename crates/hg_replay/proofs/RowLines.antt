@@ -5,7 +5,8 @@ use Rattle.hg_machine.specs.Policy.{Policy}
 use Rattle.hg_machine.specs.declared.Row.{Row}
 use Rattle.hg_machine.specs.declared.Answer.TheVariants as answer
 use Rattle.hg_policy.specs.Names.{tenant_name}
-use Rattle.hg_replay.specs.Text.{handle_text, at_left, at_right, answer_line}
+use Rattle.hg_trace.specs.Printed.{handle_text}
+use Rattle.hg_replay.specs.Text.{at_left, at_right, answer_line}
 
 regroup : (f s n r d e : List ℕ) → f ++ (n ++ r) ++ s ++ d ++ e ≡ f ++ (n ++ (r ++ s ++ d ++ e))
 regroup f s n r d e =

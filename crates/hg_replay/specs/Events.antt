@@ -13,8 +13,8 @@ use Rattle.hg_trace.specs.declared.line.BlockName.TheVariants as block_name
 use Rattle.hg_trace.specs.declared.line.Command.{Command}
 use Rattle.hg_trace.specs.declared.line.Command.TheVariants as command
 use Rattle.hg_trace.specs.declared.line.Line.{Line}
-use Rattle.hg_replay.specs.declared.events.Meaning.{Meaning}
-use Rattle.hg_replay.specs.declared.events.Meaning.TheVariants as meaning
+use Rattle.hg_replay.specs.declared.replaying.events.Meaning.{Meaning}
+use Rattle.hg_replay.specs.declared.replaying.events.Meaning.TheVariants as meaning
 use Rattle.hg_replay.specs.Listings.{looks}
 
 -- a name that the policy lacks is 255: nobody's, and no arena's

@@ -2,10 +2,13 @@ pub mod Events
 pub mod Listings
 pub mod Rows
 pub mod Text
+pub mod Sinks
 pub mod Writes
 pub mod Looked
 pub mod Replays
 pub mod ReplayLaws
+pub mod Numbers
 pub mod RunFaults
 pub mod Statuses
 pub mod Checks
+pub mod StatusLaws

@@ -1,16 +1,11 @@
 -- A listing: a Look at each place of the segments that a worker holds.
 use Rattle.std.specs.Prelude.{ℕ, List, map, filter}
-use Rattle.hg_place.specs.declared.Place.{Place}
 use Rattle.hg_place.specs.declared.Actor.{Actor}
-use Rattle.hg_place.specs.Places.{segment_of, page_of, index_of, place_from}
+use Rattle.hg_place.specs.Places.{place_at, segment_of}
 use Rattle.hg_machine.specs.State.{State, places_in}
 use Rattle.hg_machine.specs.Holders.{holds}
 use Rattle.hg_machine.specs.declared.Event.{Event}
 use Rattle.hg_machine.specs.declared.Event.TheVariants as event
-
--- a place by its number
-abbrev pub place_at : ℕ → Place
-place_at place = place_from (segment_of place) (page_of place) (index_of place)
 
 -- those of the places whose segment the worker holds
 abbrev pub held_among : State → ℕ → List ℕ → List ℕ

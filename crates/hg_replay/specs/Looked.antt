@@ -1,20 +1,21 @@
 -- What a listing of some places gives to be written.
-use Rattle.std.specs.Prelude.{◌≡◌, ℕ, List, Option, filter, length}
+use Rattle.std.specs.Prelude.{◌≡◌, ℕ, List, filter, length}
 use Rattle.hg_place.specs.declared.Actor.{Actor}
 use Rattle.hg_machine.specs.State.{State}
 use Rattle.hg_machine.specs.Steps.{Run}
 use Rattle.hg_machine.specs.declared.Answer.{Answer}
-use Rattle.hg_replay.specs.declared.output.Output.{Output}
+use Rattle.hg_replay.specs.declared.replaying.output.Output.{Output}
 use Rattle.hg_replay.specs.Listings.{looks_at}
 use Rattle.hg_replay.specs.Rows.{is_row}
 use Rattle.hg_replay.specs.Text.{answer_lines}
-use Rattle.hg_replay.specs.Writes.{Gives}
+use Rattle.hg_replay.specs.Sinks.{Seen}
+use Rattle.hg_replay.specs.Writes.{Emits}
 
 -- a Look at each of these places is answered as in a run, which changes nothing, and the lines of
 -- this many rows are given to be written
 pub record Looked (s : State) (worker : ℕ) (actor : Actor) (places : List ℕ) (rows : ℕ)
-    (old : Option (List ℕ)) (from : Output) (new : Option (List ℕ)) (to : Output) : Type 0 where
+    (old : Seen) (from : Output) (new : Seen) (to : Output) : Type 0 where
   pub answers : List Answer
   pub run : Run s (looks_at worker actor places) answers s
   pub counted : rows ≡ length (filter is_row answers)
-  pub given : Gives old from new to (answer_lines s.policy (filter is_row answers))
+  pub given : Emits old from new to (answer_lines s.policy (filter is_row answers))

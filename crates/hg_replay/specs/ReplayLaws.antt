@@ -17,7 +17,7 @@ use Rattle.hg_trace.specs.declared.line.Line.{Line}
 use Rattle.hg_replay.specs.Events.{actor_of, events_of, unknown_worker}
 use Rattle.hg_replay.specs.Listings.{looks}
 use Rattle.hg_replay.specs.Rows.{is_row}
-use Rattle.hg_replay.specs.Text.{listing_text, text_of}
+use Rattle.hg_replay.specs.Text.{listing_text, reply_text}
 use Rattle.hg_replay.specs.Replays.{Progress, Answered, Replays, handles_after, meaning_at}
 
 -- the row that an answer is
@@ -64,7 +64,7 @@ abbrev pub all_answers : List Told → List Answer
 all_answers told = flat_map (λ t. t.answers) told
 
 abbrev pub all_text : Policy → List Told → List ℕ
-all_text policy told = flat_map (λ t. text_of policy (meaning_at t.at t.line) t.answers) told
+all_text policy told = flat_map (λ t. reply_text policy (meaning_at t.at t.line) t.answers) told
 
 -- each line that gives a label binds it to what its allocation was answered
 abbrev pub all_handles : List (Option Handle) → List Told → List (Option Handle)

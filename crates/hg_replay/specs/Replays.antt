@@ -1,6 +1,5 @@
 -- What a replay writes, and how it ends.
 use Rattle.std.specs.Prelude.{◌≡◌, ℕ, List, [], ◌∷◌, ◌++◌, Option, Some, None, Result, Ok, Err}
-use Rattle.std.specs.Io.KnownBytes.{Appends, Keeps}
 use Rattle.hg_place.specs.declared.Handle.{Handle}
 use Rattle.hg_machine.specs.Policy.{Policy}
 use Rattle.hg_machine.specs.State.{State, opening}
@@ -10,12 +9,13 @@ use Rattle.hg_machine.specs.declared.Answer.TheVariants as answer
 use Rattle.hg_trace.specs.declared.line.Command.{Command}
 use Rattle.hg_trace.specs.declared.line.Command.TheVariants as command
 use Rattle.hg_trace.specs.declared.line.Line.{Line}
-use Rattle.hg_replay.specs.declared.events.Meaning.{Meaning}
-use Rattle.hg_replay.specs.declared.fault.ReplayFault.{ReplayFault}
-use Rattle.hg_replay.specs.declared.fault.ReplayFault.TheVariants as fault
+use Rattle.hg_replay.specs.declared.replaying.events.Meaning.{Meaning}
+use Rattle.hg_replay.specs.declared.replaying.fault.ReplayFault.{ReplayFault}
+use Rattle.hg_replay.specs.declared.replaying.fault.ReplayFault.TheVariants as fault
 use Rattle.hg_replay.specs.Events.{meaning_of, events_of, unknown_worker}
-use Rattle.hg_replay.specs.Text.{text_of}
-use Rattle.hg_replay.specs.Writes.{AppendsFront}
+use Rattle.hg_replay.specs.Text.{reply_text}
+use Rattle.hg_replay.specs.Sinks.{Seen}
+use Rattle.hg_replay.specs.Writes.{Wrote, StopsIn}
 
 -- where a replay stands: the state, and what the allocation of each label so far was answered, in
 -- the order of the labels; none where it wasn't served
@@ -44,7 +44,7 @@ pub record Answered (from : Progress) (line : Line) (end : Progress) (text : Lis
   pub run :
       Run from.state (events_of from.state line.worker (meaning_at from line)) answers end.state
   pub handles : end.handles ≡ handles_after from.handles line.command answers
-  pub told : text ≡ text_of from.state.policy (meaning_at from line) answers
+  pub told : text ≡ reply_text from.state.policy (meaning_at from line) answers
 
 -- the lines are answered one after another, which leaves this, and this is the text of all
 abbrev pub Replays : Progress → List Line → Progress → List ℕ → Type 0
@@ -59,26 +59,26 @@ starting s = record { state = s; handles = [] }
 
 -- from a state some of the lines, the first ones, are answered, and of their text only a front is
 -- written
-pub record StopsWithin (s : State) (lines : List Line) (old new : Option (List ℕ)) : Type 0 where
+pub record StopsWithin (s : State) (lines : List Line) (old new : Seen) : Type 0 where
   pub before : List Line
   pub after : List Line
   pub split : lines ≡ before ++ after
   pub end : Progress
   pub text : List ℕ
   pub replayed : Replays (starting s) before end text
-  pub stopped : AppendsFront old new text
+  pub stopped : StopsIn old new text
 
--- how a replay under a policy from its opening state ends
+-- how a replay under a policy from its opening state ends. Where it gives up with Worker or Memory
+-- nothing is written
 abbrev pub EndsReplay
-    : Policy → List Line → Option (List ℕ) → Option (List ℕ)
-    → Result (Unit {0}) ReplayFault → Type 0
+    : Policy → List Line → Seen → Seen → Result (Unit {0}) ReplayFault → Type 0
 EndsReplay policy lines old new (Ok done) =
     (unknown_worker policy.workers lines ≡ None)
     × (end : Progress) × (text : List ℕ) × Replays (starting (opening policy)) lines end text
-    × Appends old new text
+    × Wrote old new text
 EndsReplay policy lines old new (Err (fault.Worker line)) =
-    (unknown_worker policy.workers lines ≡ Some line) × Keeps old new
+    (unknown_worker policy.workers lines ≡ Some line) × (new ≡ old)
 EndsReplay policy lines old new (Err fault.Write) =
     (unknown_worker policy.workers lines ≡ None) × StopsWithin (opening policy) lines old new
 EndsReplay policy lines old new (Err fault.Memory) =
-    (unknown_worker policy.workers lines ≡ None) × Keeps old new
+    (unknown_worker policy.workers lines ≡ None) × (new ≡ old)

@@ -1,7 +1,6 @@
 -- The line of each answer.
 use Rattle.std.specs.Prelude.{ℕ, ◌-◌, ◌++◌, List, [], ◌∷◌, length, replicate, unwrap_or, codes}
 use Rattle.std.specs.Prelude.{decimal, flat_map, filter}
-use Rattle.hg_place.specs.declared.Handle.{Handle}
 use Rattle.hg_machine.specs.Policy.{Policy}
 use Rattle.hg_machine.specs.declared.Row.{Row}
 use Rattle.hg_machine.specs.declared.Rule.{Rule}
@@ -9,15 +8,10 @@ use Rattle.hg_machine.specs.declared.Rule.TheVariants as rule
 use Rattle.hg_machine.specs.declared.Answer.{Answer}
 use Rattle.hg_machine.specs.declared.Answer.TheVariants as answer
 use Rattle.hg_policy.specs.Names.{tenant_name}
-use Rattle.hg_replay.specs.declared.events.Meaning.{Meaning}
-use Rattle.hg_replay.specs.declared.events.Meaning.TheVariants as meaning
+use Rattle.hg_replay.specs.declared.replaying.events.Meaning.{Meaning}
+use Rattle.hg_replay.specs.declared.replaying.events.Meaning.TheVariants as meaning
+use Rattle.hg_trace.specs.Printed.{handle_text}
 use Rattle.hg_replay.specs.Rows.{is_row}
-
--- `@`, segment, page, index and generation
-abbrev pub handle_text : Handle → List ℕ
-handle_text h =
-    codes "@" ++ decimal h.place.segment ++ codes "." ++ decimal h.place.page
-    ++ codes "." ++ decimal h.place.index ++ codes "." ++ decimal h.generation
 
 -- a text at the left, or the right, of so many places
 abbrev pub at_left : ℕ → List ℕ → List ℕ
@@ -77,7 +71,7 @@ abbrev pub listing_text : Policy → List Answer → List ℕ
 listing_text policy rows = answer_lines policy rows ++ listing_end (length rows)
 
 -- the text of the answers to a line that means this
-abbrev pub text_of : Policy → Meaning → List Answer → List ℕ
-text_of policy (meaning.One event) answers = answer_lines policy answers
-text_of policy (meaning.Listing actor) answers = listing_text policy (filter is_row answers)
-text_of policy meaning.Unbound answers = codes "unbound\n"
+abbrev pub reply_text : Policy → Meaning → List Answer → List ℕ
+reply_text policy (meaning.One event) answers = answer_lines policy answers
+reply_text policy (meaning.Listing actor) answers = listing_text policy (filter is_row answers)
+reply_text policy meaning.Unbound answers = codes "unbound\n"

@@ -2,6 +2,8 @@
 
 ghost use Rattle.hg_replay.specs.ReplayLaws.{ListLinesPrintListings, ListingsShowWhatIsListed};
 ghost use Rattle.hg_replay.specs.ReplayLaws.{ReplaysAreRuns, ReplaysKeepPolicy, ReplaysKeepSound};
+ghost use Rattle.hg_replay.specs.StatusLaws.{ChecksEndAsDue, LongInputsFail, NumbersDiffer};
+ghost use Rattle.hg_replay.specs.StatusLaws.{OneStatusIsDue, RunsEndAsDue};
 
 /// The rows of a listing are the machine's listing, and nothing changes.
 pub fn listings_show_what_is_listed()
@@ -27,4 +29,29 @@ pub fn replays_keep_policy()
 /// A replay by workers that there are leaves a sound state sound.
 pub fn replays_keep_sound()
     ensures { ReplaysKeepSound }
+{}
+
+/// For all bytes one of the statuses Done, BadPolicy and BadTrace is due, and no other.
+pub fn one_status_is_due()
+    ensures { OneStatusIsDue }
+{}
+
+/// A run that doesn't fail ends with the status that is due.
+pub fn runs_end_as_due()
+    ensures { RunsEndAsDue }
+{}
+
+/// A check that doesn't fail ends with BadPolicy where a run would, and else with Done.
+pub fn checks_end_as_due()
+    ensures { ChecksEndAsDue }
+{}
+
+/// An input longer than the limit fails, with nothing written.
+pub fn long_inputs_fail()
+    ensures { LongInputsFail }
+{}
+
+/// Two statuses have two numbers.
+pub fn numbers_differ()
+    ensures { NumbersDiffer }
 {}

@@ -1,22 +1,17 @@
-//! Replays: what a core answers to a trace, as text.
+//! Replays: what a core answers to a trace, as text; and runs of it from bytes to bytes.
 #![tactic(auto)]
 
-mod check;
-mod events;
-mod fault;
-mod input;
 pub mod laws;
-mod listing;
-mod output;
-mod put;
 mod replaying;
 mod run;
-mod text;
 
-pub use check::run_check;
-pub use fault::ReplayFault;
-pub use input::{LIMIT, ReadFault, read_limited};
+pub use replaying::fault::ReplayFault;
+pub use replaying::put::{WriteStopped, put};
 pub use replaying::replay;
+pub use replaying::sink::Sink;
+pub use run::check::run_check;
+pub use run::input::{LIMIT, ReadFault, read_limited};
+pub use run::status::Status;
 pub use run::{run_joined, run_texts};
 
 #[cfg(test)]

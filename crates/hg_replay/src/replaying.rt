@@ -2,30 +2,37 @@
 
 ghost use Rattle.std.specs.Prelude.{◌≡◌, ◌+◌, ◌≤◌, ◌<◌, ℕ, List, [], ◌∷◌, OnOk, OnErr, All, true, false};
 ghost use Rattle.std.specs.Prelude.{vec_len, vec_capacity, if◌then◌else◌, IfOk};
-ghost use Rattle.std.specs.Io.KnownBytes.{Appends};
 ghost use Rattle.hg_machine.specs.State.{opening};
 ghost use Rattle.hg_machine.specs.Steps.{Step};
 ghost use Rattle.hg_replay.specs.Text.{answer_line};
-ghost use Rattle.hg_replay.specs.Writes.{Gives, IsGiven};
+ghost use Rattle.hg_replay.specs.Writes.{Emits, IsGiven, Wrote};
 ghost use Rattle.hg_replay.specs.Replays.{Progress, handle_in, handles_after, starting};
 ghost use Rattle.hg_replay.specs.Replays.{Answered, Replays, StopsWithin, EndsReplay};
 ghost use Rattle.hg_trace.specs.Labels.{gives_label, label_count};
 
-use crate::events::{Meaning, meaning_of, prescan};
-use crate::fault::ReplayFault;
-use crate::listing::list;
-use crate::output::Output;
-use crate::put::WriteStopped;
+mod events;
+pub(crate) mod fault;
+mod listing;
+pub(crate) mod output;
+pub(crate) mod put;
+pub(crate) mod sink;
+pub(crate) mod text;
+
+use events::{Meaning, meaning_of, prescan};
+use fault::ReplayFault;
 use hg_core::Core;
 use hg_machine::{Answer, Event};
 use hg_place::Handle;
 use hg_policy::Policy;
 use hg_trace::{Command, Line, Trace};
+use listing::list;
+use output::Output;
+use put::WriteStopped;
+use sink::Sink;
 use std::alloc::{AllocError, Global};
-use std::io::Write;
 
 /// Serves an event, and gives the line of its answer to be written.
-fn serve<W: Write>(
+fn serve<W: Sink>(
     core: &mut Core,
     worker: u8,
     event: Event,
@@ -34,7 +41,7 @@ fn serve<W: Write>(
 ) -> Answer
     requires { worker < core.old.state.policy.workers }
     ensures step { Step core.old.state worker event result core.new.state }
-    ensures given { Gives (W.contents out.old) output.old (W.contents out.new) output.new
+    ensures given { Emits (W.seen out.old) output.old (W.seen out.new) output.new
         (answer_line core.old.state.policy result) }
 {
     let answer = core.step(worker, event);
@@ -67,7 +74,7 @@ fn note(handles: &mut Vec<Option<Handle>>, command: &Command, answer: Answer)
 }
 
 /// Answers a line.
-fn replay_line<W: Write>(
+fn replay_line<W: Sink>(
     core: &mut Core,
     handles: &mut Vec<Option<Handle>>,
     line: &Line,
@@ -80,7 +87,7 @@ fn replay_line<W: Write>(
     ensures answered { (text : List ℕ)
         × Answered (record { state = core.old.state; handles = handles.old.items }) line.now
         (record { state = core.new.state; handles = handles.new.items }) text
-        × Gives (W.contents out.old) output.old (W.contents out.new) output.new text }
+        × Emits (W.seen out.old) output.old (W.seen out.new) output.new text }
     ensures count { vec_len handles.new
         ≡ vec_len handles.old + (if gives_label line.now.command then 1 else 0) }
     ensures room { vec_capacity handles.new ≡ vec_capacity handles.old }
@@ -96,7 +103,7 @@ fn replay_line<W: Write>(
 }
 
 /// Answers the lines, until a write stops. It asks for no memory.
-fn replay_lines<W: Write>(
+fn replay_lines<W: Sink>(
     core: &mut Core,
     handles: &mut Vec<Option<Handle>>,
     lines: &[Line],
@@ -107,15 +114,15 @@ fn replay_lines<W: Write>(
     requires none { handles.old.items ≡ [] }
     requires count { vec_len handles.old ≡ 0 }
     requires room { label_count lines.now ≤ vec_capacity handles.old }
-    requires empty { IsGiven (W.contents out.old) (W.contents out.old) output.old [] }
+    requires empty { IsGiven (W.seen out.old) (W.seen out.old) output.old [] }
     requires going { output.old.stopped ≡ false }
     ensures ok { OnOk result ((text : List ℕ)
         × Replays (starting core.old.state) lines.now
         (record { state = core.new.state; handles = handles.new.items }) text
-        × IsGiven (W.contents out.old) (W.contents out.new) output.new text
+        × IsGiven (W.seen out.old) (W.seen out.new) output.new text
         × (output.new.stopped ≡ false)) }
     ensures stopped { OnErr result (StopsWithin core.old.state lines.now
-        (W.contents out.old) (W.contents out.new)) }
+        (W.seen out.old) (W.seen out.new)) }
 {
     for line in lines {
         replay_line(core, handles, line, output, out);
@@ -127,7 +134,7 @@ fn replay_lines<W: Write>(
 }
 
 /// Answers the lines on a core whose labels have room, and writes all that they are answered.
-fn replay_on<W: Write>(
+fn replay_on<W: Sink>(
     core: &mut Core,
     mut handles: Vec<Option<Handle>>,
     lines: &[Line],
@@ -139,9 +146,9 @@ fn replay_on<W: Write>(
     requires room { label_count lines.now ≤ vec_capacity handles }
     ensures ok { OnOk result ((end : Progress) × (text : List ℕ)
         × Replays (starting core.old.state) lines.now end text
-        × Appends (W.contents out.old) (W.contents out.new) text) }
+        × Wrote (W.seen out.old) (W.seen out.new) text) }
     ensures stopped { OnErr result (StopsWithin core.old.state lines.now
-        (W.contents out.old) (W.contents out.new)) }
+        (W.seen out.old) (W.seen out.new)) }
 {
     let mut output = Output::new();
     match replay_lines(core, &mut handles, lines, &mut output, out) {
@@ -168,13 +175,13 @@ fn start(
 
 /// Writes the answers to a trace, from a core of its own that the policy opens. All memory is asked
 /// for before the first event.
-pub fn replay<W: Write>(
+pub fn replay<W: Sink>(
     alloc: Global,
     policy: Policy,
     trace: &Trace,
     out: &mut W,
 ) -> Result<(), ReplayFault>
-    ensures { EndsReplay policy trace.now (W.contents out.old) (W.contents out.new) result }
+    ensures { EndsReplay policy trace.now (W.seen out.old) (W.seen out.new) result }
 {
     let labels = match prescan(policy.workers(), trace.lines()) {
         Ok(labels) => labels,

@@ -1,3 +1,4 @@
+mod checks;
 mod fakes;
 mod outputs;
 mod refusals;

@@ -370,6 +370,29 @@ fn abandon_and_adopt_with_live_blocks(rt: HostRuntime) -> Result<(), Fail> {
     answers_are(&rt, rt.alloc(), TWO_WORKERS, &events, &wanted)
 }
 
+/// A block is written and read in turn, 100,001 events in all.
+#[test]
+fn long_run_is_answered(rt: HostRuntime) -> Result<(), Fail> {
+    let a = rt.alloc();
+    let x = life(0, 0, 1);
+    let mut events = Vec::new(a);
+    let mut wanted = Vec::new(a);
+    events.push((0, refill()))?;
+    wanted.push(Answer::Refilled(0))?;
+    events.push((0, alloc(ALICE, 24)))?;
+    wanted.push(Answer::Block(x))?;
+    for value in 0..50_000u64 {
+        events.push((0, write(ALICE, x, 2, value)))?;
+        wanted.push(Answer::Done)?;
+        events.push((0, read(ALICE, x, 2)))?;
+        wanted.push(Answer::Value(value))?;
+    }
+    events.pop();
+    wanted.pop();
+    assert_eq!(&rt; events.len(), 100_001);
+    answers_are(&rt, a, TWO_WORKERS, events.as_slice(), wanted.as_slice())
+}
+
 /// Where memory is refused to a run, nothing was served: the same run is answered in full when it
 /// is asked for again.
 #[test]

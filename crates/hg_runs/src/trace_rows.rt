@@ -1,7 +1,7 @@
 //! Traces from bytes to bytes, under a policy that two tenants share.
 
 use crate::policies::{ONE_LIFE, ONE_WORKER, TWO_WORKERS};
-use hg_replay::run_texts;
+use hg_replay::{Status, run_texts};
 use std::alloc::Global;
 use std::process::Abort;
 use std::test::Fail;
@@ -12,7 +12,7 @@ fn ends(
     a: Global,
     policy: &str,
     trace: &[u8],
-    want: (u8, &[u8], &[u8]),
+    want: (Status, &[u8], &[u8]),
 ) -> Result<(), Fail> {
     let mut out = Vec::new(a);
     let mut err = Vec::new(a);
@@ -31,7 +31,7 @@ fn answers(
     trace: &[u8],
     want: &[u8],
 ) -> Result<(), Fail> {
-    ends(rt, a, policy, trace, (0, want, b""))
+    ends(rt, a, policy, trace, (Status::Done, want, b""))
 }
 
 /// A block is written and read, up to its length.
@@ -227,7 +227,7 @@ fn rows_of_one_worker(rt: &impl Abort, a: Global, policy: &str) -> Result<(), Fa
         a,
         policy,
         b"\nw0 read alice @0.0.0.0 0\n",
-        (2, b"", b"trace fault 3 at line 2: operand\n"),
+        (Status::BadTrace, b"", b"trace fault 3 at line 2: operand\n"),
     )
 }
 
@@ -570,7 +570,7 @@ ok @0.0.1.1
 #[test]
 fn rows_replay(rt: HostRuntime) -> Result<(), Fail> {
     let a = rt.alloc();
-    ends(&rt, a, TWO_WORKERS, b"", (0, b"", b""))?;
+    ends(&rt, a, TWO_WORKERS, b"", (Status::Done, b"", b""))?;
     rows_of_one_worker(&rt, a, TWO_WORKERS)?;
     no_room(&rt, a)?;
     freed_elsewhere(&rt, a)?;
@@ -588,7 +588,7 @@ fn rows_replay(rt: HostRuntime) -> Result<(), Fail> {
         a,
         TWO_WORKERS,
         b"w5 deliver\n",
-        (2, b"", b"trace fault 6 at line 1: worker\n"),
+        (Status::BadTrace, b"", b"trace fault 6 at line 1: worker\n"),
     )?;
     let coloured = format!(in a; "colour = 1\n{TWO_WORKERS}")?;
     ends(
@@ -596,6 +596,6 @@ fn rows_replay(rt: HostRuntime) -> Result<(), Fail> {
         a,
         coloured.as_str(),
         b"w0 refill main\n",
-        (1, b"", b"policy fault 4: unknown colour\n"),
+        (Status::BadPolicy, b"", b"policy fault 4: unknown colour\n"),
     )
 }

@@ -103,3 +103,41 @@ impl Read for Blanks {
         Ok(n)
     }
 }
+
+/// A reader of these bytes, one a call.
+#[derive(Drop)]
+pub struct Sips<'a> {
+    pub rest: &'a [u8],
+}
+
+impl Read for Sips<'_> {
+    fn read(&mut self, buf: &mut [u8]) -> io::Result<usize> {
+        match (self.rest.split_first(), buf.first_mut()) {
+            (Some((byte, rest)), Some(first)) => {
+                *first = *byte;
+                self.rest = rest;
+                Ok(1)
+            }
+            _ => Ok(0),
+        }
+    }
+}
+
+/// A writer that takes all, and counts its calls.
+#[derive(Drop)]
+pub struct Counting {
+    pub held: Vec<u8>,
+    pub calls: usize,
+}
+
+impl Write for Counting {
+    fn write(&mut self, buf: &[u8]) -> io::Result<usize> {
+        self.held.extend_from_slice(buf)?;
+        self.calls = self.calls.wrapping_add(1);
+        Ok(buf.len())
+    }
+
+    fn flush(&mut self) -> io::Result<()> {
+        Ok(())
+    }
+}

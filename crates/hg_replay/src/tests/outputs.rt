@@ -2,8 +2,8 @@
 
 ghost use Rattle.std.specs.Prelude.{◌≤◌};
 
-use crate::output::Output;
-use crate::tests::fakes::Stingy;
+use crate::replaying::output::Output;
+use crate::tests::fakes::{Counting, Stingy};
 use std::alloc::Global;
 use std::process::Abort;
 use std::test::Fail;
@@ -52,4 +52,39 @@ fn a_long_text_arrives_in_order(rt: HostRuntime) -> Result<(), Fail> {
         }
     }
     Ok(())
+}
+
+/// These pieces, one behind the other, arrive whole, in so many writes.
+fn arrives(
+    rt: &impl Abort,
+    alloc: Global,
+    first: &[u8],
+    second: &[u8],
+    calls: usize,
+) -> Result<(), Fail> {
+    let mut out = Counting {
+        held: Vec::new(alloc),
+        calls: 0,
+    };
+    let mut output = Output::new();
+    output.put(&mut out, first);
+    output.put(&mut out, second);
+    assert!(rt; output.finish(&mut out).is_ok());
+    let (begins, ends) = out.held.split_at(first.len().min(out.held.len()));
+    assert_eq!(rt; begins, first);
+    assert_eq!(rt; ends, second);
+    assert_eq!(rt; out.calls, calls);
+    Ok(())
+}
+
+/// What fills the buffer exactly is written once, and one byte more with one write more.
+#[test]
+fn a_full_buffer_is_written_once(rt: HostRuntime) -> Result<(), Fail> {
+    let a = rt.alloc();
+    let text = long_text(a)?;
+    let whole = text.as_slice();
+    arrives(&rt, a, &whole[..8_192], b"", 1)?;
+    arrives(&rt, a, &whole[..8_191], b"x", 1)?;
+    arrives(&rt, a, &whole[..8_192], b"x", 2)?;
+    arrives(&rt, a, &whole[..8_193], b"", 1)
 }

@@ -2,9 +2,10 @@
 //! and nothing written. Each is run with each of its requests refused in turn.
 
 use crate::tests::running::{ANSWERS, POLICY, TRACE};
-use crate::{ReplayFault, replay, run_joined, run_texts};
-use hg_policy::{PolicyFault, read_policy};
-use hg_trace::read_trace;
+use crate::{ReplayFault, Status, replay, run_joined, run_texts};
+use hg_policy::{Policy, PolicyFault, read_policy};
+use hg_trace::{TraceFault, read_trace};
+use std::alloc::Global;
 use std::process::Abort;
 
 /// A place for the few bytes that these tests write, which asks for no memory.
@@ -20,52 +21,56 @@ w0 refill main
 w0 alloc alice main 24
 ";
 
+/// The policy, or none for want of memory.
+fn policy_of(rt: &impl Abort, alloc: Global) -> Option<Policy> {
+    match read_policy(alloc, POLICY.as_bytes()) {
+        Ok(policy) => Some(policy),
+        Err(fault) => {
+            assert!(rt; matches!(fault, PolicyFault::Memory));
+            None
+        }
+    }
+}
+
+/// The replay of a trace ends with these answers, or for want of memory with nothing written.
+fn replays(rt: &impl Abort, alloc: Global, trace: &[u8], answers: &[u8]) {
+    let Some(policy) = policy_of(rt, alloc) else {
+        return;
+    };
+    let trace = match read_trace(alloc, trace) {
+        Ok(trace) => trace,
+        Err(fault) => {
+            assert!(rt; matches!(fault, TraceFault::Memory));
+            return;
+        }
+    };
+    let mut out = Held::new();
+    match replay(alloc, policy, &trace, &mut out) {
+        Ok(()) => assert_eq!(rt; out.as_slice(), answers),
+        Err(ReplayFault::Memory) => assert_eq!(rt; out.len(), 0),
+        Err(_) => assert!(rt; false, "another fault"),
+    }
+}
+
 /// With labels, for whose handles room is asked too.
 #[test]
 fn labelled_replay_refused_in_turn(rt: HostRuntime) {
-    let Ok(policy) = read_policy(rt.alloc(), POLICY.as_bytes()) else {
-        return;
-    };
     let trace = b"w0 refill main\nw0 alloc alice main 8 as x\nw0 free alice x\n";
-    let Ok(trace) = read_trace(rt.alloc(), trace) else {
-        return;
-    };
-    let mut out = Held::new();
-    match replay(rt.alloc(), policy, &trace, &mut out) {
-        Ok(()) => assert_eq!(&rt; out.as_slice(), b"segment 0\nok @0.0.0.1\nok\n".as_slice()),
-        Err(ReplayFault::Memory) => assert_eq!(&rt; out.len(), 0),
-        Err(_) => assert!(&rt; false, "another fault"),
-    }
+    replays(&rt, rt.alloc(), trace, b"segment 0\nok @0.0.0.1\nok\n");
 }
 
 #[test]
 fn replay_refused_in_turn(rt: HostRuntime) {
-    let policy = match read_policy(rt.alloc(), POLICY.as_bytes()) {
-        Ok(policy) => policy,
-        Err(PolicyFault::Memory) => return,
-        Err(_) => {
-            assert!(&rt; false, "a fault of the policy");
-            return;
-        }
-    };
-    let Ok(trace) = read_trace(rt.alloc(), TRACE.as_bytes()) else {
-        return;
-    };
-    let mut out = Held::new();
-    match replay(rt.alloc(), policy, &trace, &mut out) {
-        Ok(()) => assert_eq!(&rt; out.as_slice(), ANSWERS.as_bytes()),
-        Err(ReplayFault::Memory) => assert_eq!(&rt; out.len(), 0),
-        Err(_) => assert!(&rt; false, "another fault"),
-    }
+    replays(&rt, rt.alloc(), TRACE.as_bytes(), ANSWERS.as_bytes());
 }
 
 /// The answers, or want of memory and nothing written.
-fn answers_or_no_memory(rt: &impl Abort, status: u8, out: &[u8], err: &[u8]) {
-    if status == 0 {
+fn answers_or_no_memory(rt: &impl Abort, status: Status, out: &[u8], err: &[u8]) {
+    if status == Status::Done {
         assert_eq!(rt; out, ANSWERS.as_bytes());
         assert_eq!(rt; err.len(), 0);
     } else {
-        assert_eq!(rt; status, 3);
+        assert_eq!(rt; status, Status::Failed);
         assert_eq!(rt; out.len(), 0);
         assert_eq!(rt; err, b"no memory\n".as_slice());
     }

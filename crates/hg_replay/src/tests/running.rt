@@ -1,7 +1,7 @@
 //! Runs from bytes to bytes.
 
-use crate::tests::fakes::{Blanks, FailsOnce, Flaky, Full, Stingy};
-use crate::{run_joined, run_texts};
+use crate::tests::fakes::{Blanks, FailsOnce, Flaky, Full, Sips, Stingy};
+use crate::{Status, run_joined, run_texts};
 use std::alloc::Global;
 use std::process::Abort;
 use std::test::Fail;
@@ -22,7 +22,7 @@ fn ends(
     alloc: Global,
     policy: &str,
     trace: &[u8],
-    want: (u8, &str, &str),
+    want: (Status, &str, &str),
 ) -> Result<(), Fail> {
     let mut out = Vec::new(alloc);
     let mut err = Vec::new(alloc);
@@ -36,15 +36,21 @@ fn ends(
 #[test]
 fn rows_first_path(rt: HostRuntime) -> Result<(), Fail> {
     let a = rt.alloc();
-    ends(&rt, a, POLICY, b"", (0, "", ""))?;
-    ends(&rt, a, POLICY, TRACE.as_bytes(), (0, ANSWERS, ""))?;
+    ends(&rt, a, POLICY, b"", (Status::Done, "", ""))?;
+    ends(
+        &rt,
+        a,
+        POLICY,
+        TRACE.as_bytes(),
+        (Status::Done, ANSWERS, ""),
+    )?;
     let coloured = format!(in a; "colour = 1\n{POLICY}")?;
     ends(
         &rt,
         a,
         coloured.as_str(),
         TRACE.as_bytes(),
-        (1, "", "policy fault 4: unknown colour\n"),
+        (Status::BadPolicy, "", "policy fault 4: unknown colour\n"),
     )
 }
 
@@ -56,14 +62,18 @@ fn answers_are_judged(rt: HostRuntime) -> Result<(), Fail> {
         a,
         POLICY,
         b"w0 refill nowhere\nw0 refill main\nw0 refill main\nw0 alloc eve main 8\n",
-        (0, "nosegment\nsegment 0\nnosegment\ndenied stranger\n", ""),
+        (
+            Status::Done,
+            "nosegment\nsegment 0\nnosegment\ndenied stranger\n",
+            "",
+        ),
     )?;
     ends(
         &rt,
         a,
         POLICY,
         b"w0 refill main\nw0 alloc alice main 4097\nw0 alloc alice nowhere 8\n",
-        (0, "segment 0\nlarge\ndenied arena\n", ""),
+        (Status::Done, "segment 0\nlarge\ndenied arena\n", ""),
     )
 }
 
@@ -102,7 +112,7 @@ w0 free alice @0.0.0.2
 w0 abandon 63
 ",
         (
-            0,
+            Status::Done,
             "segment 0
 ok @0.0.0.1
 ok
@@ -137,49 +147,49 @@ fn faults_have_statuses(rt: HostRuntime) -> Result<(), Fail> {
         a,
         "version",
         main,
-        (1, "", "policy fault 1: not toml\n"),
+        (Status::BadPolicy, "", "policy fault 1: not toml\n"),
     )?;
     ends(
         &rt,
         a,
         "",
         b"\x01",
-        (1, "", "policy fault 2: missing version\n"),
+        (Status::BadPolicy, "", "policy fault 2: missing version\n"),
     )?;
     ends(
         &rt,
         a,
         POLICY,
         b"w0 refill main\n\x01\n",
-        (2, "", "trace fault 1 at line 2: byte\n"),
+        (Status::BadTrace, "", "trace fault 1 at line 2: byte\n"),
     )?;
     ends(
         &rt,
         a,
         POLICY,
         b"w0 refill main\nw0\n",
-        (2, "", "trace fault 2 at line 2: command\n"),
+        (Status::BadTrace, "", "trace fault 2 at line 2: command\n"),
     )?;
     ends(
         &rt,
         a,
         POLICY,
         b"w0 refill main\nw0 refill\n",
-        (2, "", "trace fault 3 at line 2: operand\n"),
+        (Status::BadTrace, "", "trace fault 3 at line 2: operand\n"),
     )?;
     ends(
         &rt,
         a,
         POLICY,
         b"w0 refill main\n\nw1 refill main\nw2 refill main",
-        (2, "", "trace fault 6 at line 3: worker\n"),
+        (Status::BadTrace, "", "trace fault 6 at line 3: worker\n"),
     )?;
     ends(
         &rt,
         a,
         POLICY,
         b"w1 refill main\nw0 refill\n",
-        (2, "", "trace fault 3 at line 2: operand\n"),
+        (Status::BadTrace, "", "trace fault 3 at line 2: operand\n"),
     )
 }
 
@@ -193,7 +203,7 @@ fn failed_writes_are_told(rt: HostRuntime) -> Result<(), Fail> {
         };
         let mut err = Vec::new(a);
         let status = run_texts(a, POLICY.as_bytes(), TRACE.as_bytes(), &mut out, &mut err);
-        assert_eq!(&rt; status, 3, "at {left}");
+        assert_eq!(&rt; status, Status::Failed, "at {left}");
         assert_eq!(&rt; out.held.len(), left);
         assert!(&rt;
             ANSWERS.as_bytes().starts_with(out.held.as_slice()),
@@ -207,10 +217,10 @@ fn failed_writes_are_told(rt: HostRuntime) -> Result<(), Fail> {
     };
     // Standard error that takes nothing changes no status.
     let status = run_texts(a, POLICY.as_bytes(), TRACE.as_bytes(), &mut out, &mut Full);
-    assert_eq!(&rt; status, 0);
+    assert_eq!(&rt; status, Status::Done);
     assert_eq!(&rt; out.held.as_slice(), ANSWERS.as_bytes());
     let status = run_texts(a, POLICY.as_bytes(), TRACE.as_bytes(), &mut Full, &mut Full);
-    assert_eq!(&rt; status, 3);
+    assert_eq!(&rt; status, Status::Failed);
     Ok(())
 }
 
@@ -224,7 +234,7 @@ fn failed_write_is_the_last(rt: HostRuntime) -> Result<(), Fail> {
     };
     let mut err = Vec::new(a);
     let status = run_texts(a, POLICY.as_bytes(), TRACE.as_bytes(), &mut out, &mut err);
-    assert_eq!(&rt; status, 3);
+    assert_eq!(&rt; status, Status::Failed);
     assert_eq!(&rt; out.held.len(), 0);
     assert_eq!(&rt; err.as_slice(), b"write fault\n".as_slice());
     Ok(())
@@ -238,7 +248,7 @@ fn joined_input_is_run(rt: HostRuntime) -> Result<(), Fail> {
     let mut err = Vec::new(a);
     // The second mark is a line of the trace.
     let status = run_joined(a, &mut joined.as_bytes(), &mut out, &mut err);
-    assert_eq!(&rt; status, 2);
+    assert_eq!(&rt; status, Status::BadTrace);
     assert_eq!(&rt; out.len(), 0);
     assert_eq!(&rt;
         err.as_slice(),
@@ -247,7 +257,7 @@ fn joined_input_is_run(rt: HostRuntime) -> Result<(), Fail> {
     let joined = format!(in a; "{POLICY}---\n{TRACE}")?;
     let mut err = Vec::new(a);
     let status = run_joined(a, &mut joined.as_bytes(), &mut out, &mut err);
-    assert_eq!(&rt; status, 0);
+    assert_eq!(&rt; status, Status::Done);
     assert_eq!(&rt; out.as_slice(), ANSWERS.as_bytes());
     assert_eq!(&rt; err.len(), 0);
     Ok(())
@@ -260,7 +270,7 @@ fn failed_reads_are_told(rt: HostRuntime) -> Result<(), Fail> {
         let mut out = Vec::new(a);
         let mut err = Vec::new(a);
         let status = run_joined(a, &mut Flaky { calls, byte: b' ' }, &mut out, &mut err);
-        assert_eq!(&rt; status, 3);
+        assert_eq!(&rt; status, Status::Failed);
         assert_eq!(&rt; out.len(), 0);
         assert_eq!(&rt; err.as_slice(), b"read fault\n".as_slice());
     }
@@ -273,15 +283,37 @@ fn long_input_is_a_read_fault(rt: HostRuntime) -> Result<(), Fail> {
     let mut out = Vec::new(a);
     let mut err = Vec::new(a);
     let status = run_joined(a, &mut Blanks { left: 16_777_216 }, &mut out, &mut err);
-    assert_eq!(&rt; status, 1);
+    assert_eq!(&rt; status, Status::BadPolicy);
     assert_eq!(&rt;
         err.as_slice(),
         b"policy fault 2: missing version\n".as_slice()
     );
     let mut err = Vec::new(a);
     let status = run_joined(a, &mut Blanks { left: 16_777_217 }, &mut out, &mut err);
-    assert_eq!(&rt; status, 3);
+    assert_eq!(&rt; status, Status::Failed);
     assert_eq!(&rt; err.as_slice(), b"read fault\n".as_slice());
     assert_eq!(&rt; out.len(), 0);
+    Ok(())
+}
+
+/// An input of 70,000 bytes whose reader gives one byte a call.
+#[test]
+fn input_comes_byte_by_byte(rt: HostRuntime) -> Result<(), Fail> {
+    let a = rt.alloc();
+    let mut joined = Vec::new(a);
+    joined.extend_from_slice(POLICY.as_bytes())?;
+    joined.extend_from_slice(b"---\n")?;
+    joined.extend_from_slice(TRACE.as_bytes())?;
+    joined.resize(70_000, b'\n')?;
+    let mut out = Vec::new(a);
+    let mut err = Vec::new(a);
+    let mut input = Sips {
+        rest: joined.as_slice(),
+    };
+    let status = run_joined(a, &mut input, &mut out, &mut err);
+    assert_eq!(&rt; err.len(), 0);
+    assert_eq!(&rt; out.as_slice(), ANSWERS.as_bytes());
+    assert_eq!(&rt; status, Status::Done);
+    assert_eq!(&rt; input.rest.len(), 0);
     Ok(())
 }

@@ -2,7 +2,7 @@
 
 ghost use Rattle.std.specs.Prelude.{◌<◌, ◌≤◌};
 
-use crate::text::{Text, push_line};
+use crate::replaying::text::{Text, push_line};
 use hg_machine::{Answer, Rule};
 use hg_place::{Handle, Place};
 use std::process::Abort;

@@ -6,15 +6,15 @@ use Rattle.hg_replay.proofs.replaying.replay_lines.Goals as goal
 
 pub returns-then-has_stopped-clause-stopped : goal.returns-then-has_stopped-clause-stopped
 returns-then-has_stopped-clause-stopped g c =
-    let contents = g.W.Write.contents in
+    let seen = g.W.Sink.seen in
     let (text, so_far, given) = c.loop-line.invariant.replayed in
     let (here, answered, gives) = c.replay_line.ensures.answered in
     replays_stop c.args.core.now.state c.args.lines.now c.loop-line.line-index c.line-item.result _ _ text here (omega arith) c.line-item.is so_far answered
-    (contents c.args.out.now) (contents c.replay_line.new.out) ((gives (contents c.args.out.now) text given).1 (sym c.has_stopped.ensures ∙ c.if-has_stopped.true))
+    (seen c.args.out.now) (seen c.replay_line.new.out) ((gives (seen c.args.out.now) text given).1 (sym c.has_stopped.ensures ∙ c.if-has_stopped.true))
 
 pub loop-line-preserved : goal.loop-line-preserved
 loop-line-preserved g c =
-    let contents = g.W.Write.contents in
+    let seen = g.W.Sink.seen in
     let (text, so_far, given) = c.loop-line.invariant.replayed in
     let (here, answered, gives) = c.replay_line.ensures.answered in
     let line = c.line-item.result in
@@ -23,7 +23,7 @@ loop-line-preserved g c =
       replayed = (
         text ++ here,
         replays_next c.args.core.now.state c.args.lines.now c.loop-line.line-index line _ _ text here (omega arith) c.line-item.is so_far answered,
-        gives (contents c.args.out.now) text given,
+        gives (seen c.args.out.now) text given,
       );
       count =
           c.replay_line.ensures.count ∙ ap (λ n. n + (if gives_label line.command then 1 else 0)) c.loop-line.invariant.count

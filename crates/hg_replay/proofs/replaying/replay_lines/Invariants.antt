@@ -7,13 +7,13 @@ use Rattle.hg_replay.proofs.replaying.replay_lines.Given as goal
 -- the lines so far are answered, and their text is given to be written
 abbrev pub invariant-loop-line : goal.invariant-loop-line
 invariant-loop-line g l =
-    let contents = g.W.Write.contents in
+    let seen = g.W.Sink.seen in
     record {
       policy : l.core.state.policy ≡ l.fn.core.state.policy;
       replayed :
           (text : List ℕ)
           × Replays (starting l.fn.core.state) (take l.line-index l.lines) (record { state = l.core.state; handles = l.handles.items }) text
-          × IsGiven (contents l.fn.out) (contents l.out) l.output text;
+          × IsGiven (seen l.fn.out) (seen l.out) l.output text;
       count : vec_len l.handles ≡ label_count (take l.line-index l.lines);
       going : l.output.stopped ≡ false;
       room : vec_capacity l.handles ≡ vec_capacity l.fn.handles;

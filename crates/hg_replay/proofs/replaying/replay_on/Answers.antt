@@ -13,6 +13,6 @@ returns-in-Ok-clause-stopped g c =
       end = _;
       text = text;
       replayed = replayed;
-      stopped = stopped (g.W.Write.contents c.args.out.now) text given;
+      stopped = stopped (g.W.Sink.seen c.args.out.now) text given;
     })
     c.finish.ensures.stopped

@@ -1,0 +1,13 @@
+-- What is known of a writer.
+use Rattle.std.specs.Prelude.{◌≡◌, ℕ, Bool, true, List, Option, Result, MatchResult}
+
+-- the bytes that it holds, where they are known, and whether a write of it has failed or has taken
+-- nothing
+pub record Seen : Type 0 where
+  pub contents : Option (List ℕ)
+  pub has_stopped : Bool
+
+-- a write that takes nothing, or that fails, is seen to have stopped
+abbrev pub MarksStop : {E : Type 0} → Result ℕ E → Seen → Type 0
+MarksStop written new =
+    MatchResult written (λ n. n ≡ 0 → new.has_stopped ≡ true) (λ _. new.has_stopped ≡ true)

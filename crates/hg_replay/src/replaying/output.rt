@@ -1,0 +1,127 @@
+//! What is to be written: gathered in a buffer, and written where that is full.
+
+ghost use Rattle.std.specs.Prelude.{◌≡◌, ℕ, List, [], true, false, unwrap_or, OnOk, OnErr};
+ghost use Rattle.hg_policy.specs.Names.{tenant_name};
+ghost use Rattle.hg_machine.specs.declared.Answer.TheVariants as answer;
+ghost use Rattle.hg_replay.specs.Text.{answer_line, listing_end};
+ghost use Rattle.hg_replay.specs.Sinks.{Seen};
+ghost use Rattle.hg_replay.specs.Writes.{Wrote, StopsIn, IsGiven, Emits};
+
+use crate::replaying::put::{WriteStopped, put};
+use crate::replaying::sink::Sink;
+use crate::replaying::text::{Text, listing_end, push_line, row_back, row_front};
+use arrayvec::ArrayVec;
+use hg_machine::{Answer, Row};
+use hg_policy::Policy;
+
+/// How many bytes wait at most.
+const ROOM: usize = 8_192;
+
+/// Bytes that wait to be written, and whether a write has stopped: from then on nothing more is
+/// written.
+#[derive(Drop)]
+pub(crate) struct Output {
+    waiting: ArrayVec<u8, ROOM>,
+    stopped: bool,
+}
+
+impl Output {
+    pub(crate) fn new() -> Output
+        ensures given { (start : Seen) → IsGiven start start result [] }
+        ensures going { result.stopped ≡ false }
+    {
+        Output {
+            waiting: ArrayVec::new(),
+            stopped: false,
+        }
+    }
+
+    /// Whether a write has stopped.
+    pub(crate) fn has_stopped(&self) -> bool
+        ensures { result ≡ self.now.stopped }
+    {
+        self.stopped
+    }
+
+    /// Writes what waits.
+    fn flush<W: Sink>(&mut self, out: &mut W)
+        ensures given { Emits (W.seen out.old) self.old (W.seen out.new) self.new [] }
+        ensures empty { self.new.waiting.items ≡ [] }
+    {
+        if !self.stopped && put(out, self.waiting.as_slice()).is_err() {
+            self.stopped = true;
+        }
+        self.waiting.clear();
+    }
+
+    /// Emits bytes to be written.
+    pub(crate) fn put<W: Sink>(&mut self, out: &mut W, bytes: &[u8])
+        ensures { Emits (W.seen out.old) self.old (W.seen out.new) self.new bytes.now }
+    {
+        if self.waiting.try_extend_from_slice(bytes).is_err() {
+            self.flush(out);
+            if !self.stopped && put(out, bytes).is_err() {
+                self.stopped = true;
+            }
+        }
+    }
+
+    /// Writes what waits, as the last.
+    pub(crate) fn finish<W: Sink>(mut self, out: &mut W) -> Result<(), WriteStopped>
+        ensures ok { OnOk result ((start : Seen) (text : List ℕ)
+            → IsGiven start (W.seen out.old) self text → Wrote start (W.seen out.new) text) }
+        ensures stopped { OnErr result ((start : Seen) (text : List ℕ)
+            → IsGiven start (W.seen out.old) self text
+            → StopsIn start (W.seen out.new) text) }
+    {
+        self.flush(out);
+        if self.stopped {
+            return Err(WriteStopped);
+        }
+        Ok(())
+    }
+
+    /// Emits the line of a row to be written. The owner's name comes from the policy.
+    fn put_row<W: Sink>(&mut self, out: &mut W, policy: &Policy, row: Row)
+        ensures { Emits (W.seen out.old) self.old (W.seen out.new) self.new
+            (answer_line policy.now (answer.Listed row)) }
+    {
+        let name = name_of(policy, row.owner);
+        self.put(out, row_front(row.handle).as_str().as_bytes());
+        self.put(out, name.as_bytes());
+        self.put(out, row_back(name.len(), row.bytes).as_str().as_bytes());
+    }
+
+    /// Emits the line of an answer to be written.
+    pub(crate) fn put_answer<W: Sink>(&mut self, out: &mut W, policy: &Policy, answer: Answer)
+        ensures { Emits (W.seen out.old) self.old (W.seen out.new) self.new
+            (answer_line policy.now answer) }
+    {
+        match answer {
+            Answer::Listed(row) => self.put_row(out, policy, row),
+            _ => {
+                let mut text = Text::new();
+                push_line(&mut text, answer);
+                self.put(out, text.as_str().as_bytes());
+            }
+        }
+    }
+
+    /// Emits the last line of a listing to be written.
+    pub(crate) fn put_listing_end<W: Sink>(&mut self, out: &mut W, rows: u32)
+        ensures { Emits (W.seen out.old) self.old (W.seen out.new) self.new
+            (listing_end rows) }
+    {
+        self.put(out, listing_end(rows).as_str().as_bytes());
+    }
+}
+
+/// The name of a tenant, empty where the policy has none of this number.
+fn name_of(policy: &Policy, tenant: u8) -> &str
+    ensures { result.now ≡ unwrap_or (tenant_name policy.now tenant) [] }
+{
+    match policy.tenant_name(tenant) {
+        Some(name) => name,
+        None => "",
+    }
+}
