@@ -14,12 +14,14 @@ replay =
     with_rule (with_rule (new_app (codes "replay")) (required (codes "POLICY")))
     (required (codes "TRACE"))
 
--- the program alone: its words come without its own name, and help is asked for by a flag
+-- the program alone: its words come without its own name, and help and the version are asked for by
+-- flags
 abbrev pub alone : App
 alone = record (new_app (codes "heapguard")) {
   top = record (new_app (codes "heapguard")).top {
     no_binary_name = true;
     disable_help_subcommand = true;
+    has_version = true;
   };
 }
 

@@ -1,15 +1,15 @@
 -- The job that a command with its operands asks for.
-use Rattle.std.specs.Prelude.{⊤, ◌⊎◌, ◌≡◌, ◌≢◌, List, [], Option, Some, None}
+use Rattle.std.specs.Prelude.{⊤, ◌⊎◌, ◌≡◌, ◌≢◌, List, [], Option, Some, None, Result, Ok, Err, true}
 use Rattle.std.specs.Prelude.{Contains, unwrap_or, codes}
-use Rattle.clap.specs.Words.{Row, Text, first_of}
+use Rattle.clap.specs.Words.{Row, Text, first_of, subcommand_of, takes, fault_of}
 use Rattle.clap.specs.Kinds.{Kinds, IsAmong}
 use Rattle.clap.specs.declared.error.kind.ErrorKind.{ErrorKind}
 use Rattle.clap.specs.declared.error.kind.ErrorKind.TheVariants as kind
-use Rattle.hg_job.specs.CommandLine.{command_names}
+use Rattle.hg_job.specs.CommandLine.{heapguard, command_names}
 use Rattle.hg_job.specs.declared.job.Job.{Job}
 use Rattle.hg_job.specs.declared.job.Job.TheVariants.{Joined, Check, Replay}
 use Rattle.hg_job.specs.declared.job.JobFault.{JobFault}
-use Rattle.hg_job.specs.declared.job.JobFault.TheVariants.{Help, Line, Memory}
+use Rattle.hg_job.specs.declared.job.JobFault.TheVariants.{Print, Line, Memory}
 
 -- the first value of an operand, and no text where it has none
 abbrev pub operand : Text → List Row → Text
@@ -34,12 +34,21 @@ abbrev pub IsKnown : Option (Text × List Row) → Type 0
 IsKnown None = ⊤
 IsKnown (Some p) = Contains command_names p.0
 
--- the refusal that tells of a kind of error: help where that is what the parser answers with
+-- the refusal that tells of a kind of error: a text to print where the parser answers with help or
+-- with the version, and else a line
 abbrev pub TellsOf : ErrorKind → JobFault → Type 0
-TellsOf k (Help text) = k ≡ kind.DisplayHelp
-TellsOf k (Line text) = k ≢ kind.DisplayHelp
+TellsOf k (Print text) = (k ≡ kind.DisplayHelp) ⊎ (k ≡ kind.DisplayVersion)
+TellsOf k (Line text) = (k ≢ kind.DisplayHelp) × (k ≢ kind.DisplayVersion)
 TellsOf k Memory = ⊥
 
 -- the refusal tells of one of the kinds, or of want of memory
 abbrev pub RefusedBy : Kinds → JobFault → Type 0
 RefusedBy kinds e = (e ≡ Memory) ⊎ ((k : ErrorKind) × IsAmong k kinds × TellsOf k e)
+
+-- what the parser states for words is answered so: by the job of the command that is entered, with
+-- its operands, and only where nothing is against the words; or by a refusal that tells of what is
+abbrev pub IsAnswerTo : List Text → Result Job JobFault → Type 0
+IsAnswerTo words (Ok job) =
+    IsJobAt (subcommand_of heapguard words) job × (fault_of heapguard words ≡ [])
+IsAnswerTo words (Err fault) =
+    RefusedBy (fault_of heapguard words) fault × (takes heapguard words ≡ true → fault ≡ Memory)

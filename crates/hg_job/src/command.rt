@@ -7,6 +7,8 @@ ghost use Rattle.hg_job.specs.CommandLine.{alone, check, heapguard, replay, requ
 use clap::{Arg, Command};
 use std::alloc::{AllocError, Global};
 
+const VERSION: &str = "0.1.0";
+
 const ABOUT: &str =
     "Replays traces of a memory service that several tenants share under a written policy.";
 
@@ -96,6 +98,7 @@ fn program<'a>(alloc: Global) -> Result<Command<'a>, AllocError>
     Command::new(alloc, "heapguard")
         .no_binary_name(true)
         .disable_help_subcommand(true)
+        .version(VERSION)
         .about(ABOUT)
         .after_help(MORE)
         .bin_name("heapguard")

@@ -1,3 +1,5 @@
+//! The job that the words of a command line ask for.
+
 ghost use Rattle.std.specs.Prelude.{◌≡◌, ◌⊎◌, true, IfOk, IfErr, map, []};
 ghost use Rattle.clap.specs.Words.{subcommand_of, takes, fault_of, kind_of};
 ghost use Rattle.hg_job.specs.CommandLine.{heapguard};
@@ -24,8 +26,8 @@ pub enum Job<'a> {
 /// Why there is nothing to do.
 #[derive(Debug, Drop)]
 pub enum JobFault {
-    /// Help was asked for: the text for standard output. It isn't an error.
-    Help(String),
+    /// Help or the version was asked for: the text for standard output. It isn't an error.
+    Print(String),
     /// The words aren't a command line of the program: the text for standard error.
     Line(String),
     /// An allocation was refused.
@@ -49,7 +51,8 @@ fn fault_in(alloc: Global, error: &Error) -> JobFault
     match error.to_string(alloc) {
         Err(_) => JobFault::Memory,
         Ok(_) if kind == ErrorKind::OutOfMemory => JobFault::Memory,
-        Ok(text) if kind == ErrorKind::DisplayHelp => JobFault::Help(text),
+        Ok(text) if kind == ErrorKind::DisplayHelp => JobFault::Print(text),
+        Ok(text) if kind == ErrorKind::DisplayVersion => JobFault::Print(text),
         Ok(text) => JobFault::Line(text),
     }
 }
@@ -63,7 +66,8 @@ pub fn job_of<'a>(alloc: Global, words: &'a [&'a str]) -> Result<Job<'a>, JobFau
         takes heapguard (map (λ w. w.now) words.now) ≡ true → e ≡ JobFault.Memory) }
     // There is a job only where the parser has nothing against the words.
     ensures faultless { IfOk result (λ _. fault_of heapguard (map (λ w. w.now) words.now) ≡ []) }
-    // Help is answered where the parser answers help, a line where it has another fault.
+    // A text is printed where the parser answers with help or the version, a line told where it has
+    // another fault.
     ensures refused { IfErr result (RefusedBy (fault_of heapguard (map (λ w. w.now) words.now))) }
 {
     match command(alloc)?.try_get_matches_from(words) {

@@ -4,6 +4,7 @@
 
 mod command;
 mod job;
+pub mod laws;
 mod matches;
 
 pub use job::{Job, JobFault, job_of};

@@ -7,7 +7,7 @@ fn told(alloc: Global, words: &[&str]) -> Result<String, AllocError> {
         Ok(Job::Joined) => String::from_str(alloc, "joined"),
         Ok(Job::Check(policy)) => format!(in alloc; "check {policy}"),
         Ok(Job::Replay(policy, trace)) => format!(in alloc; "replay {policy} {trace}"),
-        Err(JobFault::Help(_)) => String::from_str(alloc, "help"),
+        Err(JobFault::Print(_)) => String::from_str(alloc, "print"),
         Err(JobFault::Line(_)) => String::from_str(alloc, "line"),
         Err(JobFault::Memory) => String::from_str(alloc, "memory"),
     }
@@ -16,7 +16,7 @@ fn told(alloc: Global, words: &[&str]) -> Result<String, AllocError> {
 /// The text of a refusal, behind the stream that it is for.
 fn text(alloc: Global, words: &[&str]) -> Result<String, AllocError> {
     match job_of(alloc, words) {
-        Err(JobFault::Help(text)) => format!(in alloc; "out\n{text}"),
+        Err(JobFault::Print(text)) => format!(in alloc; "out\n{text}"),
         Err(JobFault::Line(text)) => format!(in alloc; "err\n{text}"),
         _ => Ok(String::new(alloc)),
     }
@@ -47,10 +47,13 @@ fn job_words(rt: HostRuntime) -> Result<(), AllocError> {
     assert_eq!(rt; told(alloc, &[""])?.as_str(), "line");
     assert_eq!(rt; told(alloc, &["--jump"])?.as_str(), "line");
     assert_eq!(rt; told(alloc, &["help"])?.as_str(), "line");
-    assert_eq!(rt; told(alloc, &["-h"])?.as_str(), "help");
-    assert_eq!(rt; told(alloc, &["--help"])?.as_str(), "help");
-    assert_eq!(rt; told(alloc, &["check", "--help"])?.as_str(), "help");
-    assert_eq!(rt; told(alloc, &["replay", "p", "--help"])?.as_str(), "help");
+    assert_eq!(rt; told(alloc, &["check", "--version"])?.as_str(), "line");
+    let nine = ["a", "b", "c", "d", "e", "f", "g", "h", "i"];
+    assert_eq!(rt; told(alloc, &nine)?.as_str(), "line");
+    assert_eq!(rt; told(alloc, &["-h"])?.as_str(), "print");
+    assert_eq!(rt; told(alloc, &["--help"])?.as_str(), "print");
+    assert_eq!(rt; told(alloc, &["check", "--help"])?.as_str(), "print");
+    assert_eq!(rt; told(alloc, &["replay", "p", "--help"])?.as_str(), "print");
     Ok(())
 }
 
@@ -125,6 +128,17 @@ fn help_of_each_command(rt: HostRuntime) -> Result<(), AllocError> {
 }
 
 #[test]
+fn version_of_the_program(rt: HostRuntime) -> Result<(), AllocError> {
+    let alloc = rt.alloc();
+    assert_eq!(rt;
+        text(alloc, &["--version"])?.as_str(),
+        "out\nheapguard 0.1.0\n"
+    );
+    assert_eq!(rt; text(alloc, &["-V"])?.as_str(), "out\nheapguard 0.1.0\n");
+    Ok(())
+}
+
+#[test]
 fn lines_name_the_program(rt: HostRuntime) -> Result<(), AllocError> {
     let jump = text(rt.alloc(), &["jump"])?;
     assert!(rt;
@@ -170,9 +184,9 @@ fn refused_in_turn(rt: HostRuntime) {
         job_of(alloc, &["check", "-h"]),
         job_of(alloc, &["check", "--help"]),
     ) {
-        (Err(JobFault::Help(short)), Err(JobFault::Help(long))) => assert_eq!(rt; short, long),
-        (Err(JobFault::Memory), Err(JobFault::Help(_))) => (),
-        (Err(JobFault::Help(_)), Err(JobFault::Memory)) => (),
+        (Err(JobFault::Print(short)), Err(JobFault::Print(long))) => assert_eq!(rt; short, long),
+        (Err(JobFault::Memory), Err(JobFault::Print(_))) => (),
+        (Err(JobFault::Print(_)), Err(JobFault::Memory)) => (),
         _ => assert!(rt; false, "neither help nor want of memory"),
     }
     match (job_of(alloc, &["jump"]), job_of(alloc, &["jump"])) {

@@ -1,0 +1,59 @@
+-- What the words of some command lines are answered.
+use Rattle.std.proofs.Common.{◌≡◌, ◌≢◌, ◌⊎◌, [], ◌∷◌, refl, inl, inr, subst, codes}
+use Rattle.clap.specs.Faults.{walk_fault}
+use Rattle.clap.specs.Walk.{walked}
+use Rattle.clap.specs.Words.{fault_of}
+use Rattle.clap.specs.declared.error.kind.ErrorKind.{ErrorKind}
+use Rattle.clap.specs.declared.error.kind.ErrorKind.TheVariants as kind
+use Rattle.hg_job.specs.CommandLine.{heapguard}
+use Rattle.hg_job.specs.Jobs.{RefusedBy}
+use Rattle.hg_job.specs.JobLaws.{WordsAreJobs, RequestsArePrinted, IsPrinted, IsTold}
+use Rattle.hg_job.specs.declared.job.Job.TheVariants.{Joined, Check, Replay}
+use Rattle.hg_job.specs.declared.job.JobFault.{JobFault}
+use Rattle.hg_job.specs.declared.job.JobFault.TheVariants.{Print, Line, Memory}
+
+pub words_are_jobs : WordsAreJobs
+unfolding walked
+words_are_jobs Joined = ((λ e. e), (λ h. h), (λ h. h))
+words_are_jobs (Check policy) = ((λ e. e), (λ h. h.1), (λ h. let e = h.0 in absurd (cc)))
+words_are_jobs (Replay policy trace) = ((λ e. e), (λ h. let e = h.0 in absurd (cc)), (λ h. (h.1, h.2)))
+
+-- where a request is all that the words may be refused for
+only_printed : (k : ErrorKind) → (k ≡ kind.DisplayHelp) ⊎ (k ≡ kind.DisplayVersion) → (fault : JobFault) → RefusedBy (k ∷ []) fault → IsPrinted fault
+only_printed k request Memory refused = tt
+only_printed k request (Print text) refused = tt
+only_printed k request (Line text) (inl e) = absurd (cc)
+only_printed k (inl help) (Line text) (inr (other, inl e, tells)) = absurd (tells.0 (cc))
+only_printed k (inr version) (Line text) (inr (other, inl e, tells)) = absurd (tells.1 (cc))
+only_printed k request (Line text) (inr (other, inr none, tells)) = absurd none
+
+-- where they can't be refused for a request
+only_told : (k other : ErrorKind) → k ≢ kind.DisplayHelp → k ≢ kind.DisplayVersion → other ≢ kind.DisplayHelp → other ≢ kind.DisplayVersion
+    → (fault : JobFault) → RefusedBy (k ∷ other ∷ []) fault → IsTold fault
+only_told k other a b c d Memory refused = tt
+only_told k other a b c d (Line text) refused = tt
+only_told k other a b c d (Print text) (inl e) = absurd (cc)
+only_told k other a b c d (Print text) (inr (one, inl e, inl help)) = absurd (a (cc))
+only_told k other a b c d (Print text) (inr (one, inl e, inr version)) = absurd (b (cc))
+only_told k other a b c d (Print text) (inr (one, inr (inl e), inl help)) = absurd (c (cc))
+only_told k other a b c d (Print text) (inr (one, inr (inl e), inr version)) = absurd (d (cc))
+only_told k other a b c d (Print text) (inr (one, inr (inr none), tells)) = absurd none
+
+fault_of-help : fault_of heapguard (codes "--help" ∷ []) ≡ kind.DisplayHelp ∷ []
+unfolding walk_fault
+fault_of-help = refl
+
+fault_of-version : fault_of heapguard (codes "--version" ∷ []) ≡ kind.DisplayVersion ∷ []
+unfolding walk_fault
+fault_of-version = refl
+
+fault_of-jump : fault_of heapguard (codes "jump" ∷ []) ≡ kind.UnknownArgument ∷ kind.InvalidSubcommand ∷ []
+unfolding walk_fault
+fault_of-jump = refl
+
+pub requests_are_printed : RequestsArePrinted
+requests_are_printed fault = (
+  (λ h. only_printed kind.DisplayHelp (inl refl) fault (subst (λ ks. RefusedBy ks fault) fault_of-help h)),
+  (λ h. only_printed kind.DisplayVersion (inr refl) fault (subst (λ ks. RefusedBy ks fault) fault_of-version h)),
+  (λ h. only_told kind.UnknownArgument kind.InvalidSubcommand (λ e. cc) (λ e. cc) (λ e. cc) (λ e. cc) fault (subst (λ ks. RefusedBy ks fault) fault_of-jump h)),
+)

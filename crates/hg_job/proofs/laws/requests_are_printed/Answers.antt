@@ -1,0 +1,5 @@
+use Rattle.hg_job.proofs.JobLaws.{requests_are_printed as law}
+use Rattle.hg_job.proofs.laws.requests_are_printed.Goals as goal
+
+pub returns : goal.returns
+returns c = law

@@ -1,0 +1,47 @@
+-- Laws of what words are answered.
+use Rattle.std.specs.Prelude.{⊤, ◌≡◌, [], ◌∷◌, codes}
+use Rattle.clap.specs.Words.{Text, subcommand_of, fault_of}
+use Rattle.hg_job.specs.CommandLine.{heapguard}
+use Rattle.hg_job.specs.Jobs.{IsJobAt, RefusedBy}
+use Rattle.hg_job.specs.declared.job.Job.{Job}
+use Rattle.hg_job.specs.declared.job.Job.TheVariants.{Joined, Check, Replay}
+use Rattle.hg_job.specs.declared.job.JobFault.{JobFault}
+use Rattle.hg_job.specs.declared.job.JobFault.TheVariants.{Print, Line}
+
+-- a check of the policy of this file
+abbrev pub IsCheckOf : Text → Job → Type 0
+IsCheckOf file (Check policy) = policy.now ≡ file
+IsCheckOf file _ = ⊥
+
+-- a replay of the second file under the first
+abbrev pub IsReplayOf : Text → Text → Job → Type 0
+IsReplayOf first second (Replay policy trace) = (policy.now ≡ first) × (trace.now ≡ second)
+IsReplayOf first second _ = ⊥
+
+-- where there are no words, and where these words are given, this and no other job is asked for
+abbrev pub WordsAreJobs : Type 0
+WordsAreJobs =
+    (job : Job)
+    → (IsJobAt (subcommand_of heapguard []) job → job ≡ Joined)
+    × (IsJobAt (subcommand_of heapguard (codes "check" ∷ codes "p" ∷ [])) job
+    → IsCheckOf (codes "p") job)
+    × (IsJobAt (subcommand_of heapguard (codes "replay" ∷ codes "p" ∷ codes "t" ∷ [])) job
+    → IsReplayOf (codes "p") (codes "t") job)
+
+-- a text to print, or want of memory
+abbrev pub IsPrinted : JobFault → Type 0
+IsPrinted (Line text) = ⊥
+IsPrinted _ = ⊤
+
+-- a line, or want of memory
+abbrev pub IsTold : JobFault → Type 0
+IsTold (Print text) = ⊥
+IsTold _ = ⊤
+
+-- help and the version are printed, and a word that is no command is told
+abbrev pub RequestsArePrinted : Type 0
+RequestsArePrinted =
+    (fault : JobFault)
+    → (RefusedBy (fault_of heapguard (codes "--help" ∷ [])) fault → IsPrinted fault)
+    × (RefusedBy (fault_of heapguard (codes "--version" ∷ [])) fault → IsPrinted fault)
+    × (RefusedBy (fault_of heapguard (codes "jump" ∷ [])) fault → IsTold fault)

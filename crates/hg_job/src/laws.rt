@@ -1,0 +1,15 @@
+//! Laws of the definitions. Each function does nothing: what it promises is the law.
+
+ghost use Rattle.hg_job.specs.JobLaws.{RequestsArePrinted, WordsAreJobs};
+
+/// No words ask for a replay of standard input, `check p` for a check of that file, and `replay p t`
+/// for a replay of the second file under the first.
+pub fn words_are_jobs()
+    ensures { WordsAreJobs }
+{}
+
+/// `--help` and `--version` are answered by a text to print, and never by a line; a word that is no
+/// command by a line, and never by a text to print.
+pub fn requests_are_printed()
+    ensures { RequestsArePrinted }
+{}
