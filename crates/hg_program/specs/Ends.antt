@@ -1,0 +1,83 @@
+-- How the program ends, by the words of its command line: its status, and what it writes.
+use Rattle.std.specs.Prelude.{◌≡◌, ◌≢◌, ◌≤◌, ◌⊎◌, ℕ, List, Option, Result, Ok, Err, IfSome}
+use Rattle.std.specs.Prelude.{length, string_bytes}
+use Rattle.std.specs.declared.io.ErrorKind.{ErrorKind}
+use Rattle.std.specs.declared.io.ErrorKind.TheVariants as kind
+use Rattle.hg_replay.specs.Checks.{EndsCheck}
+use Rattle.hg_replay.specs.Sinks.{Seen}
+use Rattle.hg_replay.specs.Statuses.{EndsAs, EndsJoined}
+use Rattle.hg_replay.specs.Writes.{Wrote, StopsIn}
+use Rattle.hg_replay.specs.declared.run.input.TheConstants.{LIMIT}
+use Rattle.hg_replay.specs.declared.run.status.Status.{Status}
+use Rattle.hg_replay.specs.declared.run.status.Status.TheVariants as status
+use Rattle.hg_job.specs.Jobs.{IsAnswerTo}
+use Rattle.hg_job.specs.declared.job.Job.{Job}
+use Rattle.hg_job.specs.declared.job.Job.TheVariants as job
+use Rattle.hg_job.specs.declared.job.JobFault.{JobFault}
+use Rattle.hg_job.specs.declared.job.JobFault.TheVariants as fault
+
+-- bytes of a file that holds these, where what it holds is known, and not more than the limit
+abbrev pub IsOf : Option (List ℕ) → List ℕ → Type 0
+IsOf held bytes = IfSome held (λ known. bytes ≡ known) × (length bytes ≤ LIMIT)
+
+-- a file is not read, and nothing is written
+abbrev pub ReadsNone : Status → Seen → Seen → Type 0
+ReadsNone ended old new = (ended ≡ status.Failed) × (new ≡ old)
+
+-- the file is not read, or a check of its bytes ends so
+abbrev pub EndsOnFile : Option (List ℕ) → Status → Seen → Seen → Type 0
+EndsOnFile held ended old new =
+    ReadsNone ended old new ⊎ ((bytes : List ℕ) × IsOf held bytes × EndsCheck ended bytes old new)
+
+-- a file is not read, or a replay of the second's bytes under the first's ends so
+abbrev pub EndsOnFiles : Option (List ℕ) → Option (List ℕ) → Status → Seen → Seen → Type 0
+EndsOnFiles first second ended old new =
+    ReadsNone ended old new
+    ⊎ ((policy : List ℕ) × (trace : List ℕ) × IsOf first policy × IsOf second trace
+    × EndsAs ended policy trace old new)
+
+-- a job ends so, where these are what the file of a path holds and what the input has left
+abbrev pub EndsJob
+    : (List ℕ → Option (List ℕ)) → Option (List ℕ) → Job → Status → Seen → Seen → Type 0
+EndsJob holds input job.Joined ended old new = EndsJoined ended input old new
+EndsJob holds input (job.Check policy) ended old new = EndsOnFile (holds policy.now) ended old new
+EndsJob holds input (job.Replay policy trace) ended old new =
+    EndsOnFiles (holds policy.now) (holds trace.now) ended old new
+
+-- the text is written, or its writing stopped
+abbrev pub Tries : Seen → Seen → List ℕ → Type 0
+Tries old new text = Wrote old new text ⊎ StopsIn old new text
+
+-- a text that was asked for is printed, with status Done, or with Failed where a write stopped in it;
+-- a line is told on standard error, with status BadLine; and else memory was refused
+abbrev pub EndsRefusal : JobFault → Status → Seen → Seen → Seen → Seen → Type 0
+EndsRefusal (fault.Print text) ended old new err_old err_new =
+    ((ended ≡ status.Done) × Wrote old new (string_bytes text))
+    ⊎ ((ended ≡ status.Failed) × StopsIn old new (string_bytes text))
+EndsRefusal (fault.Line text) ended old new err_old err_new =
+    (ended ≡ status.BadLine) × (new ≡ old) × Tries err_old err_new (string_bytes text)
+EndsRefusal fault.Memory ended old new err_old err_new =
+    (ended ≡ status.Failed) × (new ≡ old)
+
+-- a job is done, or the words are refused
+abbrev pub EndsAnswer
+    : (List ℕ → Option (List ℕ)) → Option (List ℕ) → Result Job JobFault → Status
+    → Seen → Seen → Seen → Seen → Type 0
+EndsAnswer holds input (Ok job) ended old new err_old err_new = EndsJob holds input job ended old new
+EndsAnswer holds input (Err fault) ended old new err_old err_new =
+    EndsRefusal fault ended old new err_old err_new
+
+-- what the words are answered is done
+abbrev pub EndsProgram
+    : List (List ℕ) → (List ℕ → Option (List ℕ)) → Option (List ℕ) → Status
+    → Seen → Seen → Seen → Seen → Type 0
+EndsProgram words holds input ended old new err_old err_new =
+    (answer : Result Job JobFault) × IsAnswerTo words answer
+    × EndsAnswer holds input answer ended old new err_old err_new
+
+-- the system gives no words, and nothing is written: for want of memory the status is Failed, and
+-- else the words are no text
+abbrev pub EndsWordless : ErrorKind → Status → Seen → Seen → Type 0
+EndsWordless why ended old new =
+    (new ≡ old) × (why ≡ kind.OutOfMemory → ended ≡ status.Failed)
+    × (why ≢ kind.OutOfMemory → ended ≡ status.BadLine)

@@ -1,0 +1,156 @@
+//! The program, from the words of its command line to its exit status.
+
+ghost use Rattle.std.specs.Prelude.{◌≡◌, false, IfOk, MatchResult, map, string_bytes};
+ghost use Rattle.std.specs.Process.{exit_status};
+ghost use Rattle.std.specs.IoError.{error_kind};
+ghost use Rattle.hg_replay.specs.Numbers.{number_of};
+ghost use Rattle.hg_replay.specs.Statuses.{EndsJoined};
+ghost use Rattle.hg_replay.specs.declared.run.status.Status.{Status};
+ghost use Rattle.hg_program.specs.Ends.{EndsJob, EndsProgram, EndsWordless};
+
+use crate::files::{check_file, replay_files};
+use crate::host::Host;
+use crate::refusal::{fails, refuse};
+use hg_job::{Job, job_of};
+use hg_replay::{ReadFault, Sink, Status, run_joined};
+use std::alloc::{AllocError, Global};
+use std::io;
+use std::io::{Read, Write};
+use std::process::ExitCode;
+
+/// What a job on standard input waits for, told where that is a terminal.
+const READS: &str = "heapguard reads a policy, a line ---, and a trace; see heapguard --help";
+
+/// Replays what stands on the input. Where that is a terminal, what is read is told first.
+fn replay_input<H: Host, R: Read, W: Sink, E: Write>(
+    alloc: Global,
+    host: &H,
+    input: &mut R,
+    out: &mut W,
+    err: &mut E,
+) -> Status
+    ensures ends { EndsJoined result (R.remaining input.old) (W.seen out.old) (W.seen out.new) }
+    ensures quiet { H.may_be_terminal host.now ≡ false → result ≡ Status.Done → err.new ≡ err.old }
+{
+    if host.is_at_terminal() {
+        let _ = writeln!(err, "{READS}");
+    }
+    run_joined(alloc, input, out, err)
+}
+
+/// Does a job.
+fn do_job<H: Host, R: Read, W: Sink, E: Write>(
+    alloc: Global,
+    job: &Job,
+    host: &H,
+    input: &mut R,
+    out: &mut W,
+    err: &mut E,
+) -> Status
+    ensures ends { EndsJob (H.holds host.now) (R.remaining input.old) job.now result
+        (W.seen out.old) (W.seen out.new) }
+    ensures quiet { H.may_be_terminal host.now ≡ false → result ≡ Status.Done → err.new ≡ err.old }
+{
+    match job {
+        Job::Joined => replay_input(alloc, host, input, out, err),
+        Job::Check(policy) => check_file(alloc, host, policy, out, err),
+        Job::Replay(policy, trace) => replay_files(alloc, host, policy, trace, out, err),
+    }
+}
+
+/// Does what the words after the program's name ask for: a job, with its output on `out` and what
+/// goes wrong in one line on `err`; help or the version, on `out`; or it tells on `err` what is
+/// wrong with the words. Faults of `err` are ignored.
+pub fn program<H: Host, R: Read, W: Sink, E: Sink + Write>(
+    alloc: Global,
+    words: &[&str],
+    host: &H,
+    input: &mut R,
+    out: &mut W,
+    err: &mut E,
+) -> Status
+    ensures ends { EndsProgram (map (λ w. w.now) words.now) (H.holds host.now)
+        (R.remaining input.old) result
+        (W.seen out.old) (W.seen out.new) (E.seen err.old) (E.seen err.new) }
+    ensures quiet { H.may_be_terminal host.now ≡ false → result ≡ Status.Done → err.new ≡ err.old }
+{
+    match job_of(alloc, words) {
+        Ok(job) => do_job(alloc, &job, host, input, out, err),
+        Err(fault) => refuse(&fault, out, err),
+    }
+}
+
+/// The texts of words.
+fn texts<'a>(alloc: Global, words: &'a [String]) -> Result<Vec<&'a str>, AllocError>
+    ensures { IfOk result (λ texts. map (λ w. w.now) texts.items ≡ map string_bytes words.now) }
+{
+    let mut texts = Vec::with_capacity(alloc, words.len())?;
+    for word in words {
+        texts.push(word.as_str())?;
+    }
+    Ok(texts)
+}
+
+/// The same, on words that the system gave.
+fn program_of<H: Host, R: Read, W: Sink, E: Sink + Write>(
+    alloc: Global,
+    words: &[String],
+    host: &H,
+    input: &mut R,
+    out: &mut W,
+    err: &mut E,
+) -> Status
+    ensures { EndsProgram (map string_bytes words.now) (H.holds host.now)
+        (R.remaining input.old) result
+        (W.seen out.old) (W.seen out.new) (E.seen err.old) (E.seen err.new) }
+{
+    match texts(alloc, words) {
+        Ok(texts) => program(alloc, texts.as_slice(), host, input, out, err),
+        Err(_) => fails(ReadFault::Memory, err),
+    }
+}
+
+/// The same, where the system may have given no words.
+fn program_on<H: Host, R: Read, W: Sink, E: Sink + Write>(
+    alloc: Global,
+    words: io::Result<Vec<String>>,
+    host: &H,
+    input: &mut R,
+    out: &mut W,
+    err: &mut E,
+) -> Status
+    ensures { MatchResult words
+        (λ words. EndsProgram (map string_bytes words.items) (H.holds host.now)
+        (R.remaining input.old) result
+        (W.seen out.old) (W.seen out.new) (E.seen err.old) (E.seen err.new))
+        (λ error. EndsWordless (error_kind error) result (W.seen out.old) (W.seen out.new)) }
+{
+    match words {
+        Ok(words) => program_of(alloc, words.as_slice(), host, input, out, err),
+        Err(fault) if fault.kind() == io::ErrorKind::OutOfMemory => fails(ReadFault::Memory, err),
+        Err(_) => {
+            let _ = writeln!(err, "the arguments are no text: see heapguard --help");
+            Status::BadLine
+        }
+    }
+}
+
+/// The whole program, from what the system gives as its words to its exit status. Words that are no
+/// text are a fault of the command line.
+pub fn start<H: Host, R: Read, W: Sink, E: Sink + Write>(
+    alloc: Global,
+    words: io::Result<Vec<String>>,
+    host: &H,
+    input: &mut R,
+    out: &mut W,
+    err: &mut E,
+) -> ExitCode
+    ensures { (ended : Status) × (exit_status result ≡ number_of ended)
+        × MatchResult words
+        (λ words. EndsProgram (map string_bytes words.items) (H.holds host.now)
+        (R.remaining input.old) ended
+        (W.seen out.old) (W.seen out.new) (E.seen err.old) (E.seen err.new))
+        (λ error. EndsWordless (error_kind error) ended (W.seen out.old) (W.seen out.new)) }
+{
+    ExitCode::from(program_on(alloc, words, host, input, out, err))
+}

@@ -1,0 +1,64 @@
+//! Policies and traces from files. A file that can't be read, or that is too long, is a read fault.
+
+ghost use Rattle.std.specs.Prelude.{◌≡◌, ◌≤◌, IfOk, IfSome, vec_len};
+ghost use Rattle.hg_replay.specs.declared.run.input.TheConstants.{LIMIT};
+ghost use Rattle.hg_program.specs.Ends.{EndsOnFile, EndsOnFiles, IsOf};
+
+use crate::host::Host;
+use crate::refusal::fails;
+use hg_replay::{ReadFault, Sink, Status, run_check, run_texts};
+use std::alloc::Global;
+use std::io::Write;
+
+/// Both files, the policy's first.
+fn read_files<H: Host>(
+    alloc: Global,
+    host: &H,
+    policy: &str,
+    trace: &str,
+) -> Result<(Vec<u8>, Vec<u8>), ReadFault>
+    ensures policy { IfOk result (λ files. IsOf (H.holds host.now policy.now) files.0.items) }
+    ensures trace { IfOk result (λ files. IsOf (H.holds host.now trace.now) files.1.items) }
+{
+    let policy = host.read_file(alloc, policy)?;
+    let trace = host.read_file(alloc, trace)?;
+    Ok((policy, trace))
+}
+
+/// Checks the policy of a file.
+pub(crate) fn check_file<H: Host, W: Sink, E: Write>(
+    alloc: Global,
+    host: &H,
+    policy: &str,
+    out: &mut W,
+    err: &mut E,
+) -> Status
+    ensures ends { EndsOnFile (H.holds host.now policy.now) result
+        (W.seen out.old) (W.seen out.new) }
+    ensures quiet { result ≡ Status.Done → err.new ≡ err.old }
+{
+    match host.read_file(alloc, policy) {
+        Ok(policy) => run_check(alloc, policy.as_slice(), out, err),
+        Err(fault) => fails(fault, err),
+    }
+}
+
+/// Replays the trace of a file under the policy of another. Both are read before any fault of
+/// either is told.
+pub(crate) fn replay_files<H: Host, W: Sink, E: Write>(
+    alloc: Global,
+    host: &H,
+    policy: &str,
+    trace: &str,
+    out: &mut W,
+    err: &mut E,
+) -> Status
+    ensures ends { EndsOnFiles (H.holds host.now policy.now) (H.holds host.now trace.now) result
+        (W.seen out.old) (W.seen out.new) }
+    ensures quiet { result ≡ Status.Done → err.new ≡ err.old }
+{
+    match read_files(alloc, host, policy, trace) {
+        Ok((policy, trace)) => run_texts(alloc, policy.as_slice(), trace.as_slice(), out, err),
+        Err(fault) => fails(fault, err),
+    }
+}

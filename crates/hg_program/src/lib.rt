@@ -1,0 +1,13 @@
+//! What the program `heapguard` does, over any files, input and outputs.
+#![tactic(auto)]
+
+mod entry;
+mod files;
+mod host;
+mod refusal;
+
+pub use entry::{program, start};
+pub use host::Host;
+
+#[cfg(test)]
+mod tests;
