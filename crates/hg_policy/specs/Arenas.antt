@@ -3,6 +3,7 @@ use Rattle.std.specs.Prelude.{ℕ, ◌+◌, Bool, true, List, [], ◌∷◌, ◌
 use Rattle.std.specs.Prelude.{◌==◌, map, Ok, Err, nat_lt, if◌then◌else◌}
 use Rattle.std.specs.List.{list_any, range_with_len}
 use Rattle.toml.specs.Data.{Data, Members}
+use Rattle.hg_place.specs.declared.geometry.TheConstants.{MAX_SEGMENTS}
 use Rattle.hg_machine.specs.Policy.{Tenant}
 use Rattle.hg_policy.specs.declared.key.Key.TheVariants as key
 use Rattle.hg_policy.specs.declared.key.Counted.TheVariants as counted
@@ -29,11 +30,11 @@ and_arena done name segments admitted = record {
   segments = done.segments ++ replicate segments (length done.names);
 }
 
--- its name is no arena's before it, and all segments together are at most 64
+-- its name is no arena's before it, and all segments together are not too many
 abbrev pub with_arena : Arenas → List ℕ → ℕ → List Bool → Read Arenas
 with_arena done name segments admitted =
     if is_among name done.names then Err (repeated name) else
-    (if nat_lt 64 (length done.segments + segments) then Err (too_many counted.Segments)
+    (if nat_lt MAX_SEGMENTS (length done.segments + segments) then Err (too_many counted.Segments)
     else Ok (and_arena done name segments admitted))
 
 -- one more tenant that is named

@@ -11,6 +11,7 @@ use crate::fault::PolicyFault;
 use crate::key::{Counted, Key, Level};
 use crate::name_form::name;
 use crate::values::{known, whole};
+use hg_place::MAX_SEGMENTS;
 use indexmap::IndexMap;
 use std::alloc::Global;
 use toml::Table;
@@ -36,7 +37,7 @@ pub(crate) fn arenas(
 {
     let mut arenas = ArenaTables {
         named: IndexMap::with_capacity(alloc, entries.len())?,
-        segments: Vec::with_capacity(alloc, 64)?,
+        segments: Vec::with_capacity(alloc, MAX_SEGMENTS)?,
     };
     for entry in entries {
         arena(alloc, tenants, &mut arenas, *entry)?;
@@ -80,7 +81,7 @@ fn add_arena(
         return Err(PolicyFault::Repeated(name));
     }
     let total = arenas.segments.len() as u64 + segments;
-    if total > 64 {
+    if total > MAX_SEGMENTS as u64 {
         return Err(PolicyFault::TooMany(Counted::Segments));
     }
     let number = arenas.named.len() as u8;

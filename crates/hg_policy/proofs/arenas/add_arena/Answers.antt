@@ -14,8 +14,8 @@ returns-then-contains_key c =
     sym (among-names c.args.name.now c.args.arenas.now.named.entries) ∙ (rw (c.as_str.ensures.value, c.in_ok-name.ensures.ok) at (sym c.if-contains_key.ensures)) in
     rw (there, c.in_ok-name.ensures.ok) refl
 
-pub returns-then-total-gt64 : goal.returns-then-total-gt64
-returns-then-total-gt64 c =
+pub returns-then-total : goal.returns-then-total
+returns-then-total c =
     let absent : is_among c.args.name.now (names_of c.args.arenas.now.named.entries) ≡ false =
     sym (among-names c.args.name.now c.args.arenas.now.named.entries) ∙ (rw (c.as_str.ensures.value, c.in_ok-name.ensures.ok) at (sym c.if-contains_key.ensures)) in
     let over : nat_lt 64 (length c.args.arenas.now.segments.items + c.args.segments) ≡ true = lt-ltb 64 (length c.args.arenas.now.segments.items + c.args.segments) (omega arith) in
