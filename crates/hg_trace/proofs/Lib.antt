@@ -7,7 +7,7 @@ pub mod WordCuts
 pub mod NameBytes
 pub mod Numerals
 pub mod Decimals
-pub mod Parts
+pub mod AroundMark
 pub mod Dots
 pub mod HandleParts
 pub mod LabelNames
@@ -20,3 +20,4 @@ pub mod PlainReads
 pub mod PlainLines
 pub mod PlainBytes
 pub mod PlainTraces
+pub mod ReadLines

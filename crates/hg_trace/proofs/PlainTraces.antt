@@ -14,7 +14,7 @@ use Rattle.hg_trace.specs.Lines.{lines_of, ends_line, ends_text, is_allowed}
 use Rattle.hg_trace.specs.Labels.{with_label}
 use Rattle.hg_trace.specs.Trace.{line_at, lines_from}
 use Rattle.hg_trace.specs.Printed.{line_words, line_text, lines_text}
-use Rattle.hg_trace.specs.Plain.{AreLabels, IsPlainCommand, IsPlain, ArePlain}
+use Rattle.hg_trace.specs.Plain.{AreLabels, IsPlainCommand, IsPlain, ArePlain, AreNumbered}
 use Rattle.hg_trace.specs.PlainLaws.{PlainTracesAreReadBack}
 use Rattle.hg_trace.proofs.Binds.{bytes_eq-same}
 use Rattle.hg_trace.proofs.PlainLines.{words_at-plain}
@@ -78,7 +78,10 @@ not_among text labels k d h within = λ same.
     let found : is_among text labels ≡ true = list_any_at (λ other. bytes_eq text other) labels k d within (bytes_eq-same text (get_or labels k d) (sym same)) in
     absurd (cc)
 
-with_label_are : (labels : List (List ℕ)) (c : Command) → AreLabels labels → IsPlainCommand labels c → AreLabels (with_label labels c)
+pub no_labels : AreLabels []
+no_labels = record { names = λ k d within. absurd (omega arith); once = λ i j d less within. absurd (omega arith) }
+
+pub with_label_are : (labels : List (List ℕ)) (c : Command) → AreLabels labels → IsPlainCommand labels c → AreLabels (with_label labels c)
 with_label_are labels (command.Alloc actor arena bytes None) are plain = are
 with_label_are labels (command.Alloc actor arena bytes (Some label)) are plain =
     record {
@@ -96,19 +99,20 @@ with_label_are labels (command.List actor) are plain = are
 with_label_are labels (command.Abandon segment) are plain = are
 with_label_are labels (command.Refill arena) are plain = are
 
-lines_from-plain : (lines : List Line) (number : ℕ) (labels : List (List ℕ)) → AreLabels labels → ArePlain number labels lines
+lines_from-plain : (lines : List Line) (number : ℕ) (labels : List (List ℕ)) → AreLabels labels → ArePlain labels lines → AreNumbered number lines
     → lines_from number labels (lines_of (lines_text labels lines)) ≡ Ok lines
-lines_from-plain [] number labels are plain = refl
-lines_from-plain (line ∷ lines) number labels are plain =
+lines_from-plain [] number labels are plain numbers = refl
+lines_from-plain (line ∷ lines) number labels are plain numbers =
     let text = line_text labels line.worker line.command in
     let rest = lines_text (with_label labels line.command) lines in
-    let bytes = line_bytes (line_words labels line.worker line.command) (line_are_words labels line.worker line.command are plain.1) in
+    let bytes = line_bytes (line_words labels line.worker line.command) (line_are_words labels line.worker line.command are plain.0) in
     let cut : lines_of (lines_text labels (line ∷ lines)) ≡ (text ++ 10 ∷ []) ∷ lines_of rest =
     ap lines_of (append_assoc text (10 ∷ []) rest) ∙ lines_of-end text rest bytes in
-    let others = lines_from-plain lines (number + 1) (with_label labels line.command) (with_label_are labels line.command are plain.1.command_plain) plain.2 in
+    let others = lines_from-plain lines (number + 1) (with_label labels line.command) (with_label_are labels line.command are plain.0.command_plain) plain.1 numbers.1 in
     ap (lines_from number labels) cut
-    ∙ rw (line_at-plain labels line.worker line.command are plain.1, others)
-    (ap (λ n. Ok (record { number = n; worker = line.worker; command = line.command } ∷ lines)) (sym plain.0))
+    ∙ rw (line_at-plain labels line.worker line.command are plain.0, others)
+    (ap (λ n. Ok (record { number = n; worker = line.worker; command = line.command } ∷ lines)) (sym numbers.0))
 
 pub plain_traces_are_read_back : PlainTracesAreReadBack
-plain_traces_are_read_back lines plain = lines_from-plain lines 1 [] (record { names = λ k d within. absurd (omega arith); once = λ i j d less within. absurd (omega arith) }) plain
+plain_traces_are_read_back lines plain numbers =
+    lines_from-plain lines 1 [] no_labels plain numbers

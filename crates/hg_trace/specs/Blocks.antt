@@ -15,7 +15,7 @@ label_of labels word =
     if is_name word then Ok (position (λ label. bytes_eq word label) labels)
     else Err fault.Operand
 
--- the block that a word means: an `@` and a handle, or a label; None for one that no line gave before
+-- the block that a word means: an `@` and a handle, or a label; None for one that no line gave
 unfoldable pub block_of : List (List ℕ) → List ℕ → Result (Option BlockName) LineFault
 block_of labels [] = Err fault.Operand
 block_of labels (b ∷ bs) =

@@ -20,7 +20,7 @@ worker_of [] = Err fault.Command
 worker_of (b ∷ digits) =
     if b == 119 then ok_or (number_below 16 digits) fault.Command else Err fault.Command
 
--- a block whose label no earlier line gave is told only of a line whose operands all have their form
+-- a label that no earlier line gave is told only of a line whose operands all have their form
 abbrev pub known : Option BlockName → Result BlockName LineFault
 known block = ok_or block fault.UnknownLabel
 

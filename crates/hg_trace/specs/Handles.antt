@@ -19,8 +19,8 @@ is_dot b = b == 46
 abbrev pub parts_of : List ℕ → List (List ℕ)
 parts_of text = slice_split is_dot text
 
--- the handle of a place and a number. That a generation is at least 1 is part of a handle; of such a
--- number it is the number itself
+-- the handle of a place and a number. That a generation is at least 1 is part of a handle; of such
+-- a number it is the number itself
 abbrev pub handle_from : Place → ℕ → Handle
 handle_from place generation = record {
   place = place;

@@ -10,14 +10,14 @@ is_mark line =
     || bytes_eq (before_first ends_line line) (codes "---\r")
 
 -- the lines before the first mark, and those after it
-abbrev pub parts_of : List (List ℕ) → List (List ℕ) × List (List ℕ)
-parts_of [] = ([], [])
-parts_of (line ∷ lines) =
-    if is_mark line then ([], lines) else (line ∷ (parts_of lines).0, (parts_of lines).1)
+abbrev pub around_mark : List (List ℕ) → List (List ℕ) × List (List ℕ)
+around_mark [] = ([], [])
+around_mark (line ∷ lines) =
+    if is_mark line then ([], lines) else (line ∷ (around_mark lines).0, (around_mark lines).1)
 
 -- the policy's bytes, and the trace's
 abbrev pub policy_in : List ℕ → List ℕ
-policy_in bytes = concat (parts_of (lines_of bytes)).0
+policy_in bytes = concat (around_mark (lines_of bytes)).0
 
 abbrev pub trace_in : List ℕ → List ℕ
-trace_in bytes = concat (parts_of (lines_of bytes)).1
+trace_in bytes = concat (around_mark (lines_of bytes)).1

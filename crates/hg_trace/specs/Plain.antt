@@ -1,5 +1,4 @@
--- When a line has a plain form: its names have a name's form, its numbers are in their ranges, and the
--- labels that it names are known.
+-- Which lines are plain: names of a name's form, numbers in their ranges, labels that are known.
 use Rattle.std.specs.Prelude.{◌≡◌, ◌≢◌, ℕ, ◌+◌, ◌<◌, ◌^◌, true, false, List, [], ◌∷◌}
 use Rattle.std.specs.Prelude.{Option, Some, None, length}
 use Rattle.std.specs.List.{AllPass, AllPairs}
@@ -56,9 +55,13 @@ pub record IsPlain (labels : List (List ℕ)) (worker : ℕ) (command : Command)
   pub worker_below : worker < 16
   pub command_plain : IsPlainCommand labels command
 
--- lines, numbered from this one on, where earlier lines gave these labels
-abbrev pub ArePlain : ℕ → List (List ℕ) → List Line → Type 0
-ArePlain number labels [] = Unit {0}
-ArePlain number labels (line ∷ lines) =
-    (line.number ≡ number) × IsPlain labels line.worker line.command
-    × ArePlain (number + 1) (with_label labels line.command) lines
+-- each line is plain, where earlier lines gave these labels
+abbrev pub ArePlain : List (List ℕ) → List Line → Type 0
+ArePlain labels [] = Unit {0}
+ArePlain labels (line ∷ lines) =
+    IsPlain labels line.worker line.command × ArePlain (with_label labels line.command) lines
+
+-- lines one after another, the first of which has this number
+abbrev pub AreNumbered : ℕ → List Line → Type 0
+AreNumbered number [] = Unit {0}
+AreNumbered number (line ∷ lines) = (line.number ≡ number) × AreNumbered (number + 1) lines

@@ -16,7 +16,8 @@ use Rattle.hg_trace.specs.Commands.{words_at}
 -- what a line means, if anything, where earlier lines gave these labels
 unfoldable pub line_at : List (List ℕ) → List ℕ → Result (Option (ℕ × Command)) LineFault
 line_at labels line =
-    if list_all is_allowed (before_comment line) then words_at labels (split_words (before_comment line))
+    if list_all is_allowed (before_comment line)
+    then words_at labels (split_words (before_comment line))
     else Err fault.Byte
 
 -- a line with its number, if it means something
@@ -26,8 +27,8 @@ numbered number (Ok None) = Ok []
 numbered number (Ok (Some (worker, command))) =
     Ok (record { number = number; worker = worker; command = command } ∷ [])
 
--- what the lines from this number on mean, where earlier ones gave these labels, or the fault of the
--- first faulty one
+-- what the lines from this number on mean, where earlier ones gave these labels, or the fault of
+-- the first faulty one
 abbrev pub lines_from : ℕ → List (List ℕ) → List (List ℕ) → Result (List Line) TraceFault
 lines_from number labels [] = Ok []
 lines_from number labels (line ∷ lines) = do

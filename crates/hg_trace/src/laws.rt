@@ -3,6 +3,7 @@
 ghost use Rattle.hg_trace.specs.NumberLaws.{NumbersAreDecimals};
 ghost use Rattle.hg_trace.specs.PlainLaws.{PlacesAreTheirTexts, HandlesAreTheirTexts};
 ghost use Rattle.hg_trace.specs.PlainLaws.{LinesAreTheirWords, PlainTracesAreReadBack};
+ghost use Rattle.hg_trace.specs.PlainLaws.{ReadLinesArePlain};
 
 /// A word is read as a number exactly where it is how that number is written.
 pub fn numbers_are_decimals()
@@ -14,15 +15,15 @@ pub fn places_are_their_texts()
     ensures { PlacesAreTheirTexts }
 {}
 
-/// A word is read as a handle exactly where it is how that handle is written, with a generation of at
-/// most 32 bits.
+/// A word is read as a handle exactly where it is how that handle is written, and its generation has
+/// at most 32 bits.
 pub fn handles_are_their_texts()
     ensures { HandlesAreTheirTexts }
 {}
 
-/// The words of a line are read as a worker's command exactly where they are how it is written, with
-/// names of a name's form, numbers in their ranges, a block's label that an earlier line gave, and a
-/// label of its own that none gave.
+/// The words of a line are read as a worker's command exactly where they are how it is written and
+/// it is plain: its names have a name's form, its numbers are in their ranges, a block's label is one
+/// that an earlier line gave, and the label of its line is none of those.
 pub fn lines_are_their_words()
     ensures { LinesAreTheirWords }
 {}
@@ -31,4 +32,10 @@ pub fn lines_are_their_words()
 /// them, is read back as itself.
 pub fn plain_traces_are_read_back()
     ensures { PlainTracesAreReadBack }
+{}
+
+/// The lines of a trace that was read are plain, each behind those before it, and the labels that
+/// they give are names, each given once.
+pub fn read_lines_are_plain()
+    ensures { ReadLinesArePlain }
 {}

@@ -19,19 +19,22 @@ fn blocks_are_named_by_label(rt: HostRuntime) -> Result<(), Fail> {
         &rt,
         a,
         b"w0 alloc a b 8 as x\nw0 alloc a b 8\n# as z\nw0 alloc a b 8 as y\nw1 read c y 3\n",
-        "1: w0 alloc a b 8 as x; 2: w0 alloc a b 8; 4: w0 alloc a b 8 as y; 5: w1 read c label 1 3; ",
+        "1: w0 alloc a b 8 as x; 2: w0 alloc a b 8; 4: w0 alloc a b 8 as y; \
+5: w1 read c label 1 3; ",
     )?;
     reads(
         &rt,
         a,
         b"w0 alloc a b 8 as y\nw0 alloc a b 8 as x\nw0 write d x 1 2\nw0 free d y",
-        "1: w0 alloc a b 8 as y; 2: w0 alloc a b 8 as x; 3: w0 write d label 1 1 2; 4: w0 free d label 0; ",
+        "1: w0 alloc a b 8 as y; 2: w0 alloc a b 8 as x; 3: w0 write d label 1 1 2; \
+4: w0 free d label 0; ",
     )?;
     // A label is the whole word.
     reads(
         &rt,
         a,
-        b"w0 alloc a b 8 as x\nw0 alloc a b 8 as xx\nw0 alloc a b 8 as x-\nw0 free a xx\nw0 free a x-",
+        b"w0 alloc a b 8 as x\nw0 alloc a b 8 as xx\nw0 alloc a b 8 as x-\n\
+w0 free a xx\nw0 free a x-",
         "1: w0 alloc a b 8 as x; 2: w0 alloc a b 8 as xx; 3: w0 alloc a b 8 as x-; \
 4: w0 free a label 1; 5: w0 free a label 2; ",
     )?;

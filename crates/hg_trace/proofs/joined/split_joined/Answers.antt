@@ -1,8 +1,8 @@
 use Rattle.std.proofs.Common.{rules, ap, ◌∙◌}
 use Rattle.std.specs.List.{concat}
-use Rattle.hg_trace.specs.Joined.{parts_of, policy_in, trace_in}
+use Rattle.hg_trace.specs.Joined.{around_mark, policy_in, trace_in}
 use Rattle.hg_trace.proofs.LineCuts.{concat-lines_of}
-use Rattle.hg_trace.proofs.Parts.{left_more, within_more, policy_more, trace_more}
+use Rattle.hg_trace.proofs.AroundMark.{left_more, within_more, policy_more, trace_more}
 use Rattle.hg_trace.proofs.joined.split_joined.Goals as goal
 
 pub loop-line-init : goal.loop-line-init
@@ -11,8 +11,8 @@ loop-line-init c =
     record {
       within = search rules;
       left = ap concat is ∙ concat-lines_of c.args.bytes.now;
-      policy = ap (λ lines. concat (parts_of lines).0) is;
-      trace = ap (λ lines. concat (parts_of lines).1) is;
+      policy = ap (λ lines. concat (around_mark lines).0) is;
+      trace = ap (λ lines. concat (around_mark lines).1) is;
     }
 
 pub loop-line-preserved : goal.loop-line-preserved
