@@ -4,6 +4,7 @@
 mod entry;
 mod files;
 mod host;
+pub mod laws;
 mod refusal;
 
 pub use entry::{program, start};
