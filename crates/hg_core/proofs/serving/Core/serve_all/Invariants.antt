@@ -4,7 +4,7 @@ use Rattle.hg_machine.specs.Lists.{IsPartition}
 use Rattle.hg_machine.specs.Steps.{Run}
 use Rattle.hg_core.proofs.serving.Core.serve_all.Given as goal
 
--- the answers so far are a run over the events so far, and there is room for the others
+-- the answers so far are a run over the events so far, and their room is as it was
 abbrev pub invariant-loop-event : goal.invariant-loop-event
 invariant-loop-event l = record {
   run : Run l.fn.self.state (take l.event-index l.events) l.answers.items l.self.state;
