@@ -1,13 +1,11 @@
 -- The lines of a trace that was read are plain.
-use Rattle.std.proofs.Common.{◌≡◌, ℕ, ◌+◌, List, [], ◌∷◌, ◌++◌, Option, Some, None, Result, Ok, Err, refl, sym, ap, subst, ◌∙◌, inl, inr}
-use Rattle.std.specs.Prelude.{if◌then◌else◌}
+use Rattle.std.proofs.Common.{◌≡◌, ℕ, ◌+◌, List, [], ◌∷◌, ◌++◌, Option, Some, None, Result, Ok, Err, refl, subst, inl, inr}
 use Rattle.std.specs.List.{list_all}
 use Rattle.hg_trace.specs.declared.line.Command.{Command}
 use Rattle.hg_trace.specs.declared.line.Line.{Line}
 use Rattle.hg_trace.specs.declared.fault.LineFault.{LineFault}
 use Rattle.hg_trace.specs.declared.fault.LineFault.TheVariants as fault
 use Rattle.hg_trace.specs.declared.fault.TraceFault.{TraceFault}
-use Rattle.hg_trace.specs.Faults.{◌>>=◌}
 use Rattle.hg_trace.specs.Lines.{lines_of, before_comment, split_words, is_allowed}
 use Rattle.hg_trace.specs.Labels.{with_label, labels_after}
 use Rattle.hg_trace.specs.Commands.{words_at}
