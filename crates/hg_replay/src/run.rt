@@ -52,7 +52,8 @@ fn run_input<R: Read, W: Sink>(alloc: Global, input: &mut R, out: &mut W) -> Res
 }
 
 /// Reads the policy, then the trace whole, and then writes the answers to the trace. What went
-/// wrong is one line on `err`, whose own faults are ignored; where nothing did, `err` isn't touched.
+/// wrong is one line on `err`, whose own faults are ignored; where nothing did, `err` isn't
+/// touched.
 pub fn run_texts<W: Sink, E: Write>(
     alloc: Global,
     policy: &[u8],

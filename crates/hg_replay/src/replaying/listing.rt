@@ -38,7 +38,8 @@ fn look<W: Sink>(
     requires segment { segment < MAX_SEGMENTS }
     requires number { number < SEGMENT_PLACES }
     ensures same { core.new.state ≡ core.old.state }
-    ensures looked { Looked core.old.state worker actor ((segment * SEGMENT_PLACES + number) ∷ []) result
+    ensures looked { Looked core.old.state worker actor
+        ((segment * SEGMENT_PLACES + number) ∷ []) result
         (W.seen out.old) output.old (W.seen out.new) output.new }
     ensures few { result ≤ 1 }
 {
@@ -63,7 +64,8 @@ fn list_segment<W: Sink>(
     requires worker { worker < core.old.state.policy.workers }
     requires segment { segment < MAX_SEGMENTS }
     ensures same { core.new.state ≡ core.old.state }
-    ensures looked { Looked core.old.state worker actor (range_with_len (segment * SEGMENT_PLACES) SEGMENT_PLACES)
+    ensures looked { Looked core.old.state worker actor
+        (range_with_len (segment * SEGMENT_PLACES) SEGMENT_PLACES)
         result (W.seen out.old) output.old (W.seen out.new) output.new }
     ensures few { result ≤ SEGMENT_PLACES }
 {
@@ -87,7 +89,8 @@ fn list_held<W: Sink>(
     requires segment { segment < MAX_SEGMENTS }
     ensures same { core.new.state ≡ core.old.state }
     ensures looked { Looked core.old.state worker actor
-        (held_among core.old.state worker (range_with_len (segment * SEGMENT_PLACES) SEGMENT_PLACES))
+        (held_among core.old.state worker
+        (range_with_len (segment * SEGMENT_PLACES) SEGMENT_PLACES))
         result (W.seen out.old) output.old (W.seen out.new) output.new }
     ensures few { result ≤ SEGMENT_PLACES }
 {

@@ -2,8 +2,7 @@
 
 ghost use Rattle.std.specs.Prelude.{true};
 ghost use Rattle.std.specs.Io.{WritesAtMost};
-ghost use Rattle.std.specs.Io.KnownBytes.{WriteAppends};
-ghost use Rattle.hg_replay.specs.Sinks.{Seen, MarksStop};
+ghost use Rattle.hg_replay.specs.Sinks.{Seen, MarksStop, WritesSome};
 
 use std::io;
 use std::io::Write;
@@ -17,7 +16,7 @@ pub trait Sink {
     /// `Write::write`.
     fn write_some(&mut self, buf: &[u8]) -> io::Result<usize>
         ensures bound { WritesAtMost result buf.now }
-        ensures bytes { WriteAppends (seen self.old).contents (seen self.new).contents result buf.now }
+        ensures bytes { WritesSome (seen self.old) (seen self.new) result buf.now }
         ensures stops { MarksStop result (seen self.new) };
 }
 
