@@ -7,12 +7,12 @@ ghost use Rattle.hg_policy.specs.FaultLines.{fault_line};
 use crate::key::{Counted, Key};
 use crate::one_line::OneLine;
 use std::alloc::{AllocError, AllocFailed};
-use std::error::Error;
 use std::fmt;
+use thiserror::Error;
 
 /// Why a document is no policy: its first fault, with the key or name whole, as it stands there.
 /// As text it is one line, in which control characters are written out.
-#[derive(Debug, Drop)]
+#[derive(Debug, Drop, Error)]
 pub enum PolicyFault {
     NotToml,
     Missing(Key),
@@ -52,8 +52,6 @@ impl fmt::Display for PolicyFault {
         }
     }
 }
-
-impl Error for PolicyFault {}
 
 impl From<AllocError> for PolicyFault {
     ghost from_gives = { λ _ e. e ≡ Memory };
