@@ -1,11 +1,13 @@
 ghost use Rattle.std.specs.Prelude.{◌≡◌, ℕ, ◌<◌, ◌↔◌, [], ◌∷◌, slice_get, slice_set, map};
 ghost use Rattle.std.specs.Prelude.{None, Some, Contains, IsTrue, IfOk, IfSome};
 ghost use Rattle.hg_lists.specs.Lists.{without, follower};
-ghost use Rattle.hg_queue.specs.Keys.{key_of};
+ghost use Rattle.hg_size.specs.Sizes.{number_of_size};
+ghost use Rattle.hg_size.specs.SizeLaws.{key_of};
 ghost use Rattle.hg_queue.specs.Queues.{queue_of, IsQueued, AreQueues};
 
 use hg_lists::IndexLists;
 use hg_place::{MAX_SEGMENTS, SEGMENT_PAGES};
+use hg_size::{CLASSES, Class, class_number};
 use std::alloc::{AllocError, Global};
 use std::marker::Model;
 
@@ -14,9 +16,6 @@ pub const PAGES: u16 = (MAX_SEGMENTS * SEGMENT_PAGES) as u16;
 
 /// How many arenas there may be.
 pub const ARENAS: u8 = 16;
-
-/// How many size classes there are.
-pub const CLASSES: u8 = 32;
 
 /// How many keys there are.
 const KEYS: u16 = ARENAS as u16 * CLASSES as u16;
@@ -52,12 +51,11 @@ impl PageQueues {
     }
 
     /// Puts a page that is in no queue in front of its key's.
-    pub fn push_front(&mut self, arena: u8, class: u8, page: u16)
+    pub fn push_front(&mut self, arena: u8, class: Class, page: u16)
         requires arena { arena < ARENAS }
-        requires class { class < CLASSES }
         requires page { page < PAGES }
         requires nowhere { ¬ IsQueued self.old page }
-        ensures pushed { let key = key_of arena class in
+        ensures pushed { let key = key_of arena (number_of_size class) in
             self.new ≡ slice_set self.old key (page ∷ queue_of self.old key) }
         ensures queues { AreQueues self.new }
     {
@@ -88,10 +86,9 @@ impl PageQueues {
     }
 
     /// The page at the front of a key's queue.
-    pub fn front(&self, arena: u8, class: u8) -> Option<u16>
-        requires arena { arena < ARENAS }
-        requires class { class < CLASSES }
-        ensures first { result ≡ slice_get (queue_of self.now (key_of arena class)) 0 }
+    pub fn front(&self, arena: u8, class: Class) -> Option<u16>
+        requires { arena < ARENAS }
+        ensures first { result ≡ slice_get (queue_of self.now (key_of arena (number_of_size class))) 0 }
         ensures page { IfSome result (λ page. page < PAGES) }
         ensures queues { AreQueues self.now }
     {
@@ -120,11 +117,10 @@ impl PageQueues {
 }
 
 /// The number of a key.
-fn key(arena: u8, class: u8) -> u16
-    requires arena { arena < ARENAS }
-    requires class { class < CLASSES }
-    ensures value { result ≡ key_of arena class }
+fn key(arena: u8, class: Class) -> u16
+    requires { arena < ARENAS }
+    ensures value { result ≡ key_of arena (number_of_size class) }
     ensures below { result < KEYS }
 {
-    arena as u16 * CLASSES as u16 + class as u16
+    arena as u16 * CLASSES as u16 + class_number(class) as u16
 }

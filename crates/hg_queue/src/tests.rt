@@ -1,14 +1,19 @@
 ghost use Rattle.std.specs.Prelude.{◌<◌, ◌≤◌, length};
 ghost use Rattle.hg_queue.specs.Queues.{AreQueues};
 
-use crate::{ARENAS, CLASSES, PAGES, PageQueues};
+use crate::{ARENAS, PAGES, PageQueues};
+use hg_size::{Class, class_of};
 use std::alloc::Global;
 use std::process::Abort;
 
+/// The class of a request of so many words.
+fn class(rt: &impl Abort, words: u64) -> Class {
+    class_of(words).expect(rt, "a class")
+}
+
 /// Puts a page that is in no queue yet in front of its key's.
-fn push(rt: &impl Abort, queues: &mut PageQueues, arena: u8, class: u8, page: u16)
+fn push(rt: &impl Abort, queues: &mut PageQueues, arena: u8, class: Class, page: u16)
     requires arena { arena < ARENAS }
-    requires class { class < CLASSES }
     requires page { page < PAGES }
 {
     assert!(rt; !queues.has(page));
@@ -16,9 +21,8 @@ fn push(rt: &impl Abort, queues: &mut PageQueues, arena: u8, class: u8, page: u1
 }
 
 /// Takes out the page at the front of a queue.
-fn part(queues: &mut PageQueues, arena: u8, class: u8) -> Option<u16>
-    requires arena { arena < ARENAS }
-    requires class { class < CLASSES }
+fn part(queues: &mut PageQueues, arena: u8, class: Class) -> Option<u16>
+    requires { arena < ARENAS }
 {
     let page = queues.front(arena, class)?;
     queues.part_full(page);
@@ -29,33 +33,35 @@ fn part(queues: &mut PageQueues, arena: u8, class: u8) -> Option<u16>
 #[test]
 fn queue_lists(rt: HostRuntime) {
     let mut queues = PageQueues::new(rt.alloc()).expect(&rt, "memory");
-    push(&rt, &mut queues, 2, 5, 3);
-    push(&rt, &mut queues, 2, 5, 7);
-    push(&rt, &mut queues, 2, 5, 1023);
-    assert_eq!(&rt; queues.front(2, 5), Some(1023));
+    let class = class(&rt, 10);
+    push(&rt, &mut queues, 2, class, 3);
+    push(&rt, &mut queues, 2, class, 7);
+    push(&rt, &mut queues, 2, class, 1023);
+    assert_eq!(&rt; queues.front(2, class), Some(1023));
     assert_eq!(&rt; queues.next(1023), Some(7));
     queues.remove(7);
     assert_eq!(&rt; queues.next(1023), Some(3));
-    assert_eq!(&rt; part(&mut queues, 2, 5), Some(1023));
-    assert_eq!(&rt; queues.front(2, 5), Some(3));
+    assert_eq!(&rt; part(&mut queues, 2, class), Some(1023));
+    assert_eq!(&rt; queues.front(2, class), Some(3));
     queues.remove(7);
     assert_eq!(&rt; queues.next(7), None);
     assert_eq!(&rt; queues.next(3), None);
-    assert_eq!(&rt; queues.front(5, 2), None);
+    assert_eq!(&rt; queues.front(1, class), None);
 }
 
 // The queues are there, or memory was refused: for a run in which requests are refused in turn.
 #[test]
 fn queues_refused_in_turn(rt: HostRuntime) {
     if let Ok(mut queues) = PageQueues::new(rt.alloc()) {
-        assert_eq!(&rt; queues.front(ARENAS - 1, CLASSES - 1), None);
-        push(&rt, &mut queues, ARENAS - 1, CLASSES - 1, PAGES - 1);
-        assert_eq!(&rt; queues.front(ARENAS - 1, CLASSES - 1), Some(PAGES - 1));
+        let class = class(&rt, 512);
+        assert_eq!(&rt; queues.front(ARENAS - 1, class), None);
+        push(&rt, &mut queues, ARENAS - 1, class, PAGES - 1);
+        assert_eq!(&rt; queues.front(ARENAS - 1, class), Some(PAGES - 1));
     }
 }
 
-/// The keys that many calls are made on.
-static KEYS: [(u8, u8); 6] = [(0, 0), (0, 31), (1, 0), (7, 13), (15, 0), (15, 31)];
+/// The arenas and the words of the classes that many calls are made on.
+static KEYS: [(u8, u64); 6] = [(0, 1), (0, 512), (1, 1), (7, 24), (15, 1), (15, 512)];
 
 /// The queues of those keys as vectors, the front of each last.
 #[derive(Drop)]
@@ -100,8 +106,9 @@ impl Plain {
 /// One call on queues, and the same on vectors.
 fn step(rt: &impl Abort, queues: &mut PageQueues, plain: &mut Plain, number: usize) {
     let key = number % KEYS.len();
-    let (arena, class) = KEYS[key];
-    assert!(rt; arena < ARENAS && class < CLASSES);
+    let (arena, words) = KEYS[key];
+    let class = class(rt, words);
+    assert!(rt; arena < ARENAS);
     let page = (number / 64 % 32 * 33) as u16;
     if number / 8 % 4 == 0 {
         assert_eq!(rt; part(queues, arena, class), plain.pop(rt, key));
@@ -117,9 +124,8 @@ fn step(rt: &impl Abort, queues: &mut PageQueues, plain: &mut Plain, number: usi
 }
 
 /// A queue has these pages, the front last.
-fn check_queue(rt: &impl Abort, queues: &PageQueues, arena: u8, class: u8, pages: &[u16])
-    requires arena { arena < ARENAS }
-    requires class { class < CLASSES }
+fn check_queue(rt: &impl Abort, queues: &PageQueues, arena: u8, class: Class, pages: &[u16])
+    requires { arena < ARENAS }
 {
     let mut at = queues.front(arena, class);
     for page in pages.iter().rev() {
@@ -141,9 +147,9 @@ fn queues_as_vectors(rt: HostRuntime) {
             .wrapping_mul(6364136223846793005)
             .wrapping_add(1442695040888963407);
         step(&rt, &mut queues, &mut plain, (random >> 33) as usize);
-        for (key, (arena, class)) in KEYS.iter().enumerate() {
-            assert!(&rt; *arena < ARENAS && *class < CLASSES && key < plain.queues.len());
-            check_queue(&rt, &queues, *arena, *class, &plain.queues[key]);
+        for (key, (arena, words)) in KEYS.iter().enumerate() {
+            assert!(&rt; *arena < ARENAS && key < plain.queues.len());
+            check_queue(&rt, &queues, *arena, class(&rt, *words), &plain.queues[key]);
         }
     }
 }
