@@ -1,0 +1,101 @@
+//! Pages get a class, and lose it.
+
+ghost use Rattle.std.specs.Prelude.{◌≡◌, ◌<◌, ◌+◌, ◌*◌, ℕ, false, None, Some, slice_index_or};
+ghost use Rattle.std.specs.Prelude.{slice_set, IsTrue, IsFalse};
+ghost use Rattle.hg_place.specs.declared.geometry.TheConstants.{SEGMENT_PAGES, PAGE_PLACES};
+ghost use Rattle.hg_place.specs.Standings.{standing_at};
+ghost use Rattle.hg_size.specs.Sizes.{places_of};
+ghost use Rattle.hg_page.specs.PageLists.{fresh};
+ghost use Rattle.hg_segment.specs.Kept.{slot, class_at};
+ghost use Rattle.hg_segment.specs.Right.{is_worn, vacant_in};
+ghost use Rattle.hg_segment.specs.Retires.{Retired, Stayed, Retires};
+ghost use Rattle.hg_segment.specs.Blocks.{KeepsBlocks};
+
+use crate::Segment;
+use hg_page::Worn;
+use hg_place::{PAGE_PLACES, Place, SEGMENT_PAGES, SlotWords, Standing};
+use hg_size::{Class, block_words};
+
+impl<S: SlotWords> Segment<S> {
+    /// Gives a page without a class this one. Its places that are not worn are free, in rising
+    /// order.
+    pub fn assign_page(&mut self, page: u8, class: Class)
+        requires page { page < SEGMENT_PAGES }
+        requires unassigned { class_at self.old.classes page ≡ None }
+        ensures assigned { self.new ≡ record self.old {
+          words = self.new.words;
+          classes = slice_set self.old.classes page (Some class);
+          lists = slice_set self.old.lists page (fresh
+              (vacant_in self.old.greatest (S.records self.old.slots) page (places_of class)));
+        } }
+        ensures blocks { KeepsBlocks (S.records self.old.slots) self.old.classes
+            self.old.words self.new.words }
+    {
+        let worn = worn_in(&self.slots, page, self.greatest);
+        let _size = block_words(class);
+        let lists = &mut self.pages[page as usize];
+        lists.format(&mut self.memory, class, &worn);
+        self.classes.set(page, Some(class));
+    }
+
+    /// Takes the class from each page that has no open place, and tells from how many.
+    pub fn retire_idle(&mut self) -> u32
+        ensures { Retires S.records 16 self.old self.new result }
+    {
+        let mut count = 0;
+        for page in 0..SEGMENT_PAGES as u8 {
+            if self.retire(page) {
+                count += 1;
+            }
+        }
+        count
+    }
+
+    /// Takes the class from a page if it has one and no open place.
+    pub fn retire(&mut self, page: u8) -> bool
+        requires { page < SEGMENT_PAGES }
+        ensures retired { IsTrue result → Retired S.records page self.old self.new }
+        ensures stayed { IsFalse result → Stayed S.records page self.old self.new }
+    {
+        if self.classes.get(page).is_none() {
+            return false;
+        }
+        if !self.pages[page as usize].is_idle(&self.memory) {
+            return false;
+        }
+        let lists = &mut self.pages[page as usize];
+        lists.retire(&self.memory);
+        self.classes.set(page, None);
+        true
+    }
+}
+
+/// The places of a page that are worn.
+fn worn_in<S: SlotWords>(slots: &S, page: u8, greatest: u32) -> Worn
+    requires { page < SEGMENT_PAGES }
+    ensures worn { (index : ℕ) → index < PAGE_PLACES → slice_index_or result index false
+        ≡ is_worn greatest (standing_at (S.records slots.now) (slot page index)) }
+{
+    let mut worn = Worn::none();
+    for index in 0..PAGE_PLACES as u16 {
+        let place = Place {
+            segment: slots.segment(),
+            page,
+            index,
+        };
+        if is_worn(slots.standing(place), greatest) {
+            worn.mark(index);
+        }
+    }
+    worn
+}
+
+/// Whether a place is home at the greatest generation.
+fn is_worn(standing: Standing, greatest: u32) -> bool
+    ensures { result ≡ is_worn greatest standing }
+{
+    match standing {
+        Standing::Home(generation) => generation == greatest,
+        Standing::Open(_, _) => false,
+    }
+}
