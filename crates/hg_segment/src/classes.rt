@@ -32,6 +32,7 @@ impl<S: SlotWords> Segment<S> {
             self.old.words self.new.words }
     {
         let worn = worn_in(&self.slots, page, self.greatest);
+        // a class's size is one of the table's, as what is kept says
         let _size = block_words(class);
         let lists = &mut self.pages[page as usize];
         lists.format(&mut self.memory, class, &worn);

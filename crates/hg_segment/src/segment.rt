@@ -170,6 +170,7 @@ impl<S: SlotWords> Segment<S> {
         ensures all { (length self.now.lists ≡ 16) × (length self.now.classes ≡ 16)
             × (length self.now.words ≡ 8192) }
     {
+        // a use of any field hands out what is kept of all
         let _ = &self.pages;
     }
 }
