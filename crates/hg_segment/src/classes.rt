@@ -41,7 +41,7 @@ impl<S: SlotWords> Segment<S> {
 
     /// Takes the class from each page that has no open place, and tells from how many.
     pub fn retire_idle(&mut self) -> u32
-        ensures { Retires S.records 16 self.old self.new result }
+        ensures { Retires S.records SEGMENT_PAGES self.old self.new result }
     {
         let mut count = 0;
         for page in 0..SEGMENT_PAGES as u8 {

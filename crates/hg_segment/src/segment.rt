@@ -167,8 +167,9 @@ impl<S: SlotWords> Segment<S> {
             → is_home (standing_at (S.records self.now.slots) (slot page index)) ≡ false
             → class_at self.now.classes page ≡ Some size
             → length (block_at self.now.words self.now.classes page index) ≡ size }
-        ensures all { (length self.now.lists ≡ 16) × (length self.now.classes ≡ 16)
-            × (length self.now.words ≡ 8192) }
+        ensures all { (length self.now.lists ≡ SEGMENT_PAGES)
+            × (length self.now.classes ≡ SEGMENT_PAGES)
+            × (length self.now.words ≡ SEGMENT_WORDS) }
     {
         // a use of any field hands out what is kept of all
         let _ = &self.pages;
