@@ -54,14 +54,16 @@ fn a_long_text_arrives_in_order(rt: HostRuntime) -> Result<(), Fail> {
     Ok(())
 }
 
-/// These pieces, one behind the other, arrive whole, in so many writes.
+/// So many bytes of a long text, and these behind them, arrive whole, in so many writes.
 fn arrives(
     rt: &impl Abort,
     alloc: Global,
-    first: &[u8],
+    bytes: usize,
     second: &[u8],
     calls: usize,
 ) -> Result<(), Fail> {
+    let text = long_text(alloc)?;
+    let (first, _) = text.as_slice().split_at(text.len().min(bytes));
     let mut out = Counting {
         held: Vec::new(alloc),
         calls: 0,
@@ -70,9 +72,10 @@ fn arrives(
     output.put(&mut out, first);
     output.put(&mut out, second);
     assert!(rt; output.finish(&mut out).is_ok());
-    let (begins, ends) = out.held.split_at(first.len().min(out.held.len()));
+    let (begins, ends) = out.held.split_at(out.held.len().min(bytes));
     assert_eq!(rt; begins, first);
     assert_eq!(rt; ends, second);
+    assert_eq!(rt; begins.len(), bytes);
     assert_eq!(rt; out.calls, calls);
     Ok(())
 }
@@ -81,10 +84,8 @@ fn arrives(
 #[test]
 fn a_full_buffer_is_written_once(rt: HostRuntime) -> Result<(), Fail> {
     let a = rt.alloc();
-    let text = long_text(a)?;
-    let whole = text.as_slice();
-    arrives(&rt, a, &whole[..8_192], b"", 1)?;
-    arrives(&rt, a, &whole[..8_191], b"x", 1)?;
-    arrives(&rt, a, &whole[..8_192], b"x", 2)?;
-    arrives(&rt, a, &whole[..8_193], b"", 1)
+    arrives(&rt, a, 8_192, b"", 1)?;
+    arrives(&rt, a, 8_191, b"x", 1)?;
+    arrives(&rt, a, 8_192, b"x", 2)?;
+    arrives(&rt, a, 8_193, b"", 1)
 }
