@@ -1,3 +1,5 @@
+//! Abandon: a worker gives up a segment.
+
 ghost use Rattle.hg_machine.specs.Soundness.{IsSound};
 ghost use Rattle.hg_machine.specs.Steps.{Step};
 

@@ -1,3 +1,5 @@
+//! Alloc: a block is given out.
+
 ghost use Rattle.hg_machine.specs.Steps.{Step};
 
 use crate::store::Store;

@@ -1,3 +1,5 @@
+//! What counts against a tenant's limit.
+
 ghost use Rattle.std.specs.Prelude.{◌≡◌, ◌<◌, ◌^◌, length};
 ghost use Rattle.hg_machine.specs.Charge.{share, charge};
 

@@ -1,3 +1,5 @@
+//! Collect: idle pages lose their classes.
+
 ghost use Rattle.std.specs.Prelude.{◌≡◌, ◌&&◌, ◌<◌, length, is_some, slice_set};
 ghost use Rattle.hg_place.specs.Places.{segment_of_page};
 ghost use Rattle.hg_machine.specs.Life.{is_home};

@@ -1,3 +1,5 @@
+//! Deliver: what a worker has in hand is sent.
+
 ghost use Rattle.std.specs.Prelude.{◌<◌};
 ghost use Rattle.hg_machine.specs.Steps.{Step};
 

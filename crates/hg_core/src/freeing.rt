@@ -1,3 +1,5 @@
+//! Free: a block is given back, at home or into a hand.
+
 ghost use Rattle.std.specs.Prelude.{◌<◌};
 ghost use Rattle.hg_machine.specs.Steps.{Step};
 

@@ -1,3 +1,5 @@
+//! The verdict on a block, by the word that its place shows.
+
 ghost use Rattle.std.specs.Prelude.{◌≡◌, IfNone};
 ghost use Rattle.hg_place.specs.Places.{number_of};
 ghost use Rattle.hg_place.specs.Slots.{slot_in};

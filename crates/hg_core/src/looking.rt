@@ -1,3 +1,5 @@
+//! Look: a row of a block.
+
 ghost use Rattle.std.specs.Prelude.{◌≡◌};
 ghost use Rattle.hg_place.specs.Places.{number_of};
 ghost use Rattle.hg_machine.specs.State.{record_at};

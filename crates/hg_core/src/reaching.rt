@@ -1,3 +1,5 @@
+//! Read and Write: a word of a block.
+
 ghost use Rattle.std.specs.Prelude.{◌≡◌, IfNone};
 ghost use Rattle.hg_place.specs.Places.{number_of};
 ghost use Rattle.hg_machine.specs.Refusal.{reach_refusal};

@@ -1,3 +1,5 @@
+//! Refill: a worker takes the next segment of an arena.
+
 ghost use Rattle.std.specs.Prelude.{◌≡◌};
 ghost use Rattle.hg_machine.specs.Holders.{next_of};
 ghost use Rattle.hg_machine.specs.Steps.{Step};

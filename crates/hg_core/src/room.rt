@@ -1,3 +1,5 @@
+//! Places with room.
+
 ghost use Rattle.std.specs.Prelude.{◌≡◌, ◌<◌, ◌&&◌, not, length, find, false, MatchOption};
 ghost use Rattle.hg_machine.specs.Life.{is_home};
 ghost use Rattle.hg_machine.specs.State.{record_at, places_in};

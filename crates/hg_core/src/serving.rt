@@ -1,3 +1,5 @@
+//! The core, and which event is served how.
+
 ghost use Rattle.std.specs.Prelude.{◌≡◌, ◌≤◌, ◌<◌, [], IfOk, OnErr, All, length, vec_capacity};
 ghost use Rattle.hg_machine.specs.SoundPolicy.{IsSoundPolicy};
 ghost use Rattle.hg_machine.specs.Holders.{holds};

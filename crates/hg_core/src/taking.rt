@@ -1,3 +1,5 @@
+//! Take: what was sent to a segment comes home.
+
 ghost use Rattle.std.specs.Prelude.{◌≡◌, ◌<◌, length, map, count_by};
 ghost use Rattle.hg_machine.specs.State.{places_in, with_record};
 ghost use Rattle.hg_machine.specs.Sweeps.{is_sent, is_sent_to, settled};
