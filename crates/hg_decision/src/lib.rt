@@ -2,13 +2,13 @@
 //! what was observed: one slot word, or one charge.
 #![tactic(auto)]
 
-ghost use Rattle.std.specs.Prelude.{◌≡◌};
-ghost use Rattle.hg_place.specs.Slots.{slot_in, says};
+ghost use Rattle.std.specs.Prelude.{◌≡◌, ◌≤◌};
+ghost use Rattle.hg_place.specs.Slots.{slot_in};
 ghost use Rattle.hg_machine.specs.Denial.{denial_on, verdict_of};
 ghost use Rattle.hg_machine.specs.Request.{alloc_verdict};
 
 pub use hg_machine::{AllocVerdict, Rule, Verdict};
-use hg_place::{Actor, Handle, Right, SlotState, WORD_BYTES, unpack};
+use hg_place::{Actor, Handle, Right, WORD_BYTES, word_generation, word_owner};
 use hg_policy::Policy;
 use hg_size::{block_words, class_of};
 
@@ -21,52 +21,52 @@ pub fn judge(policy: &Policy, actor: Actor, right: Right, handle: Handle, word: 
     ensures { result ≡ verdict_of
         (denial_on policy.now actor.0 right handle.place.segment handle.generation (slot_in word)) }
 {
-    match denial(policy, actor, right, handle, word) {
-        Some(rule) => Verdict::Denied(rule),
-        None => Verdict::Allowed,
-    }
-}
-
-/// What a word says of its place; one that is no slot word says what a place says that was never
-/// given out.
-fn slot_of(word: u64) -> SlotState
-    ensures { says result ≡ slot_in word }
-{
-    match unpack(word) {
-        Some(slot) => slot,
-        None => SlotState {
-            generation: 0,
-            owner: 0,
-            live: false,
-        },
-    }
-}
-
-/// The first rule that denies it.
-fn denial(policy: &Policy, actor: Actor, right: Right, handle: Handle, word: u64) -> Option<Rule>
-    ensures { result ≡
-        denial_on policy.now actor.0 right handle.place.segment handle.generation (slot_in word) }
-{
     if policy.limit(actor.0).is_none() {
-        return Some(Rule::Stranger);
+        return Verdict::Denied(Rule::Stranger);
     }
     let Some(arena) = policy.arena_of(handle.place.segment) else {
-        return Some(Rule::Stale(0));
+        return Verdict::Denied(Rule::Stale(0));
     };
-    let slot = slot_of(word);
-    if slot.generation != handle.generation {
-        return Some(Rule::Stale(slot.generation));
+    let generation = shown_generation(word);
+    if generation != handle.generation {
+        return Verdict::Denied(Rule::Stale(generation));
     }
-    if !slot.live {
-        return Some(Rule::AlreadyFreed);
+    if !is_live(word) {
+        return Verdict::Denied(Rule::AlreadyFreed);
     }
     if !policy.admits(arena, actor) {
-        return Some(Rule::ForeignArena);
+        return Verdict::Denied(Rule::ForeignArena);
     }
-    if !policy.grants(slot.owner, actor, right) {
-        return Some(Rule::NotGranted);
+    if !policy.grants(owner_of(word), actor, right) {
+        return Verdict::Denied(Rule::NotGranted);
     }
-    None
+    Verdict::Allowed
+}
+
+/// The generation that a word shows, 0 where it is no slot word.
+fn shown_generation(word: u64) -> u32
+    ensures { result ≡ (slot_in word).generation }
+{
+    if word % 0x1_0000_0000 >= 128 {
+        return 0;
+    }
+    word_generation(word)
+}
+
+/// Whether the block of a word lives, which shows a generation.
+fn is_live(word: u64) -> bool
+    requires { 1 ≤ (slot_in word).generation }
+    ensures { result ≡ (slot_in word).live }
+{
+    word % 2 == 1
+}
+
+/// The owner of the block of a word, which shows a generation.
+fn owner_of(word: u64) -> u8
+    requires { 1 ≤ (slot_in word).generation }
+    ensures { result ≡ (slot_in word).owner }
+{
+    word_owner(word)
 }
 
 /// The verdict on an allocation of so many words, where the actor's charge in the worker's heap is

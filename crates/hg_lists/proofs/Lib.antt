@@ -6,5 +6,6 @@ pub mod Without
 pub mod Removed
 pub mod Followed
 pub mod Listed
+pub mod InsertsLemmas
 pub mod Counted
 pub mod TotalsLemmas

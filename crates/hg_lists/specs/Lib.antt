@@ -1,5 +1,6 @@
 pub mod Chains
 pub mod Repeats
+pub mod Inserts
 pub mod Lists
 pub mod Links
 pub mod Totals

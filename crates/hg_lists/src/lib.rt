@@ -6,6 +6,3 @@ pub mod laws;
 mod links;
 
 pub use index_lists::IndexLists;
-
-#[cfg(test)]
-mod tests;

@@ -16,7 +16,7 @@ zero_from : (n : ℕ) → (1 ≤ n → ⊥) → n ≡ 0
 zero_from zero none = refl
 zero_from (suc n) none = absurd (none (omega arith))
 
-bit_true : (b : Bool) → 1 ≤ bit_of b → b ≡ true
+pub bit_true : (b : Bool) → 1 ≤ bit_of b → b ≡ true
 bit_true true some = refl
 bit_true false some = absurd (omega arith)
 

@@ -7,6 +7,3 @@ mod worn;
 
 pub use page::Page;
 pub use worn::Worn;
-
-#[cfg(test)]
-mod tests;

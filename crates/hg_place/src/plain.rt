@@ -7,7 +7,7 @@ ghost use Rattle.hg_place.specs.Lives.{IsLiveWord, IsSlotWord};
 ghost use Rattle.hg_place.specs.Standings.{standing_at, slot_of, is_home, Fits};
 ghost use Rattle.hg_place.specs.declared.standing.Standing.TheVariants.{Home};
 
-use crate::filled::filled;
+use crate::fill::filled;
 use crate::geometry::{PAGE_PLACES, SEGMENT_PLACES};
 use crate::{Handle, PackedStanding, Place, SlotWords, Standing, pack, word_generation};
 use std::alloc::{AllocError, Global};

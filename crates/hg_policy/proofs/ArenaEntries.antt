@@ -10,12 +10,14 @@ use Rattle.hg_machine.specs.Policy.{Tenant}
 use Rattle.hg_policy.specs.declared.key.Key.TheVariants as key
 use Rattle.hg_policy.specs.declared.key.Counted.TheVariants as counted
 use Rattle.hg_policy.specs.declared.key.Level.TheVariants as level
-use Rattle.hg_policy.specs.Faults.{repeated, too_many}
-use Rattle.hg_policy.specs.Values.{field_at, known_keys, whole_at, or_else}
+use Rattle.hg_policy.specs.Faults.{repeated, too_many, in_turn}
+use Rattle.hg_policy.specs.Values.{field_at, known_keys, whole_at, or_else, elements_in}
+use Rattle.hg_policy.specs.Tenants.{number_in}
 use Rattle.hg_policy.specs.NameForm.{is_name, name_at, is_among}
-use Rattle.hg_policy.specs.Arenas.{Arenas, no_arenas, and_arena, with_arena, members_in, just, admitted_in, admitted_at, arena_at, arenas_in}
+use Rattle.hg_policy.specs.Arenas.{Arenas, no_arenas, and_arena, with_arena, with_member, members_in, just, admitted_in, admitted_at, arena_at, arenas_in}
 use Rattle.hg_policy.specs.DocumentLaws.{AreNames}
 use Rattle.hg_policy.proofs.DistinctNames.{name_at-formed, AreNames-nil, AreNames-push}
+use Rattle.hg_policy.proofs.GrantEntries.{number_in-below}
 use Rattle.hg_policy.proofs.Chains.{bind_at, in_turn-keeps, in_turn-counts}
 
 -- the items of a list that is made longer
@@ -50,6 +52,19 @@ length-admitted_else tenants (Some value) admitted e =
     let (members, at, rest) = bind_at (members_in tenants value) (λ members. Ok (just (length tenants) members)) admitted e in
     let f : just (length tenants) members ≡ admitted = cc in
     rw (← f) (length-map-range_with_len (λ tenant. list_any (λ member. member == tenant) members) 0 (length tenants))
+
+with_member-keeps : (tenants : List Tenant) (done : List ℕ) (d : Data) (next : List ℕ) → with_member tenants done d ≡ Ok next → All (λ member. member < length tenants) done → All (λ member. member < length tenants) next
+with_member-keeps tenants done d next e kept =
+    let (tenant, at, rest) = bind_at (number_in key.Exclusive tenants d) (λ tenant. Ok (done ++ tenant ∷ [])) next e in
+    let f : done ++ tenant ∷ [] ≡ next = cc in
+    rw (← f) (All-push (λ member. member < length tenants) done tenant kept (number_in-below key.Exclusive tenants d tenant at))
+
+-- an exclusive list names tenants
+pub members_in-among : (tenants : List Tenant) (value : Data) (members : List ℕ) → members_in tenants value ≡ Ok members → All (λ member. member < length tenants) members
+unfolding members_in
+members_in-among tenants value members e =
+    let (names, at, rest) = bind_at (elements_in key.Exclusive value) (λ names. in_turn (with_member tenants) [] names) members e in
+    in_turn-keeps (with_member tenants) (λ members. All (λ member. member < length tenants) members) (with_member-keeps tenants) [] names members rest (All-nil (λ member. member < length tenants))
 
 -- of each tenant it is said whether an arena admits it
 length-admitted_at : (tenants : List Tenant) (entry : Members) (admitted : List Bool) → admitted_at tenants entry ≡ Ok admitted → length admitted ≡ length tenants

@@ -19,7 +19,7 @@ or_fault-Ok : {A : Type 0} (f : Fault) (o : Option A) (x : A) → or_fault f o �
 or_fault-Ok f None x e = cc
 or_fault-Ok f (Some y) x e = cc
 
-number_in-below : (k : Key) (tenants : List Tenant) (d : Data) (n : ℕ) → number_in k tenants d ≡ Ok n → n < length tenants
+pub number_in-below : (k : Key) (tenants : List Tenant) (d : Data) (n : ℕ) → number_in k tenants d ≡ Ok n → n < length tenants
 number_in-below k tenants (string text) n e =
     (position-Some (λ (tenant : Tenant). bytes_eq text tenant.name) tenants n nobody (or_fault-Ok (no_such_name text) (position (λ (tenant : Tenant). bytes_eq text tenant.name) tenants) n e)).0
 number_in-below k tenants (integer z) n e = cc

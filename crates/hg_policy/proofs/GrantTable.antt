@@ -1,17 +1,17 @@
 -- The table of rights, with one grant more.
-use Rattle.std.proofs.Common.{◌≡◌, ◌≢◌, ℕ, ◌<◌, Bool, true, false, ◌||◌, ◌&&◌, ◌==◌, List, [], ◌∷◌, ◌++◌, ◌⊎◌, length, map, get_or, set, Vec, Global, refl, sym, ap, ◌∙◌, inl, inr, arith, eq-eqb}
+use Rattle.std.proofs.Common.{◌≡◌, ◌≢◌, ℕ, ◌<◌, ◌≤◌, Bool, true, false, ◌||◌, ◌&&◌, ◌==◌, List, [], ◌∷◌, ◌++◌, ◌⊎◌, length, map, take, replicate, get_or, set, suc, zero, refl, sym, ap, ◌∙◌, inl, inr, arith, eq-eqb}
 use Rattle.std.specs.List.{list_any}
-use Rattle.std.specs.Vec.{with_item}
 use Rattle.std.proofs.lemmas.Bool.{cases_eq, cases_Bool, eqb-true}
-use Rattle.std.proofs.lemmas.List.{get_or-set_same, get_or-set_other, map-set, get_or-map, length-set, length-map}
+use Rattle.std.proofs.lemmas.List.{get_or-set_same, get_or-set_other, map-set, get_or-map, get_or-take, get_or-replicate, length-set, length-map, length-take, length-replicate}
 use Rattle.std.proofs.lemmas.List.Folds.{list_any-append}
 use Rattle.std.proofs.lemmas.List.FromFn.{fill_by_all, get_or-map-range_with_len, length-map-range_with_len}
 use Rattle.hg_place.specs.declared.Right.{Right}
 use Rattle.hg_place.specs.declared.Right.TheVariants as right
+use Rattle.hg_machine.specs.Policy as meaning
 use Rattle.hg_machine.specs.Policy.{no_rights}
 use Rattle.hg_policy.specs.declared.rights.Rights.{Rights}
 use Rattle.hg_policy.specs.declared.grants.Grant.{Grant}
-use Rattle.hg_policy.specs.Rights.{rights_of, is_same, and_right}
+use Rattle.hg_policy.specs.Rights.{rights_of, is_same, and_right, all_rights}
 use Rattle.hg_policy.specs.Kept.{granted_of}
 use Rattle.hg_policy.specs.Granted.{is_grant, may, rights_on, granted_on, granted_among, by_actor, with_grant}
 
@@ -31,7 +31,7 @@ or_assoc : (a b c : Bool) → (a || (b || c)) ≡ ((a || b) || c)
 or_assoc true b c = refl
 or_assoc false b c = refl
 
-ne-eqb : (a b : ℕ) → a ≢ b → (a == b) ≡ false
+pub ne-eqb : (a b : ℕ) → a ≢ b → (a == b) ≡ false
 ne-eqb a b other =
     elim (cases_Bool (a == b)) [
       | inl same ↦ absurd (other (eqb-true a b same))
@@ -109,21 +109,61 @@ module _ (grants : List Grant) (n : ℕ) (grant : Grant) (in_owner : grant.owner
         | inr other ↦ get_or-set_other old grant.owner owner held [] other ∙ held-old owner h ∙ held-elsewhere owner other
       ])
 
--- what a write of one entry does to the table that is kept
-pub granted_of-set : (granted : List (Vec Rights Global)) (i j : ℕ) (held : Vec Rights Global) (rights next : Rights) (r : Right) → i < length granted → held ≡ get_or granted i held → j < length (by_actor (granted_of granted) i) → rights ≡ get_or held.items j rights → rights_of next ≡ and_right (rights_of rights) r → granted_of (set granted i (with_item held j next)) ≡ with_grant (granted_of granted) record { owner = i; to = j; right = r }
-granted_of-set granted i j held rights next r in_granted is_held in_held is_rights is_next =
-    let at : by_actor (granted_of granted) i ≡ map rights_of held.items = get_or-map (λ held. map rights_of held.items) granted i held [] in_granted ∙ ap (λ (held : Vec Rights Global). map rights_of held.items) (sym is_held) in
-    let long : j < length held.items = omega (arith, in_held, ap length at, length-map held.items rights_of) in
-    let old : get_or (map rights_of held.items) j no_rights ≡ rights_of rights = get_or-map rights_of held.items j rights no_rights long ∙ ap rights_of (sym is_rights) in
-    map-set (λ held. map rights_of held.items) granted i (with_item held j next)
-    ∙ rw (at, old, map-set rights_of held.items j next, is_next) refl
+take-set_any : {X : Type 0} (n : ℕ) (xs : List X) (i : ℕ) (x : X) → take n (set xs i x) ≡ set (take n xs) i x
+take-set_any zero xs i x = refl
+take-set_any (suc n) [] i x = refl
+take-set_any (suc n) (y ∷ ys) zero x = refl
+take-set_any (suc n) (y ∷ ys) (suc i) x = ap (λ l. y ∷ l) (take-set_any n ys i x)
 
--- the shape of the table that is kept
-module _ (granted : List (Vec Rights Global)) (grants : List Grant) (n : ℕ) (is : granted_of granted ≡ granted_among grants n) where
-  pub granted_of-length : length granted ≡ n
-  granted_of-length = sym (length-map granted (λ held. map rights_of held.items)) ∙ ap length is ∙ length-map-range_with_len (λ owner. granted_on grants n owner) 0 n
+get_or-map_any : {X Y : Type 0} (f : X → Y) (xs : List X) (i : ℕ) (d : X) → get_or (map f xs) i (f d) ≡ f (get_or xs i d)
+get_or-map_any f [] i d = refl
+get_or-map_any f (x ∷ xs) zero d = refl
+get_or-map_any f (x ∷ xs) (suc i) d = get_or-map_any f xs i d
 
-  pub granted_of-by_actor : (owner : ℕ) → owner < n → length (by_actor (granted_of granted) owner) ≡ n
-  granted_of-by_actor owner h =
-      rw (is, get_or-map-range_with_len (λ owner. granted_on grants n owner) 0 n owner owner [] h (omega arith))
-      (length-map-range_with_len (λ actor. rights_on grants owner actor) 0 n)
+row-at : (tenants : ℕ) (held : List Rights) (j : ℕ) → j < tenants → let none : Rights = record { 0 = 0 } in get_or (map rights_of (take tenants held)) j no_rights ≡ rights_of (get_or held j none)
+row-at tenants held j within =
+    let none : Rights = record { 0 = 0 } in
+    get_or-map_any rights_of (take tenants held) j none ∙ ap rights_of (get_or-take tenants held j none within)
+
+module _ (tenants : ℕ) (granted : List (List Rights)) (i j : ℕ) (held : List Rights) (in_granted : i < length granted) (is_held : held ≡ get_or granted i held) (in_tenants : j < tenants) where
+  row-of : by_actor (granted_of tenants granted) i ≡ map rights_of (take tenants held)
+  row-of =
+      let row : List Rights → List meaning.Rights = λ held. map rights_of (take tenants held) in
+      get_or-map row granted i held [] in_granted ∙ ap row (sym is_held)
+
+  -- what one entry of the table that is kept says
+  pub granted_of-at : let none : Rights = record { 0 = 0 } in get_or (by_actor (granted_of tenants granted) i) j no_rights ≡ rights_of (get_or held j none)
+  granted_of-at = ap (λ row. get_or row j no_rights) row-of ∙ row-at tenants held j in_tenants
+
+  -- what a write of one entry does to it
+  pub granted_of-set : (next : Rights) (r : Right) → let none : Rights = record { 0 = 0 } in rights_of next ≡ and_right (rights_of (get_or held j none)) r → granted_of tenants (set granted i (set held j next)) ≡ with_grant (granted_of tenants granted) record { owner = i; to = j; right = r }
+  granted_of-set next r is_next =
+      map-set (λ held. map rights_of (take tenants held)) granted i (set held j next)
+      ∙ rw (row-of, row-at tenants held j in_tenants, take-set_any tenants held j next, map-set rights_of (take tenants held) j next, is_next) refl
+
+-- how many rows there are
+pub granted_of-length : (granted : List (List Rights)) (grants : List Grant) (n : ℕ) → granted_of n granted ≡ granted_among grants n → length granted ≡ n
+granted_of-length granted grants n is = sym (length-map granted (λ held. map rights_of (take n held))) ∙ ap length is ∙ length-map-range_with_len (λ owner. granted_on grants n owner) 0 n
+
+-- the row of an owner that is granted nothing
+module _ (owner tenants : ℕ) (none each : Rights) (is_none : rights_of none ≡ no_rights) (is_each : rights_of each ≡ all_rights) (in_row : owner < 64) (few : tenants ≤ 64) where
+  abbrev pub own_row : List Rights
+  own_row = set (replicate 64 none) owner each
+
+  own_row-long : length own_row ≡ 64
+  own_row-long = length-set (replicate 64 none) owner each ∙ length-replicate 64 none
+
+  own_row-at : (actor : ℕ) → actor < tenants → rights_of (get_or own_row actor none) ≡ rights_on [] owner actor
+  own_row-at actor h =
+      elim (cases_eq actor owner) [
+        | inl same ↦ rw (same, get_or-set_same (replicate 64 none) owner each none (omega (arith, in_row, length-replicate 64 none)), eq-eqb owner owner refl) is_each
+        | inr other ↦ rw (get_or-set_other (replicate 64 none) owner actor each none other, get_or-replicate 64 actor none none (omega arith), ne-eqb actor owner other) is_none
+      ]
+
+  pub own_row-is : map rights_of (take tenants own_row) ≡ granted_on [] tenants owner
+  own_row-is =
+      let long : length (take tenants own_row) ≡ tenants = omega (arith, length-take tenants own_row, own_row-long) in
+      fill_by_all (λ actor. rights_on [] owner actor) (map rights_of (take tenants own_row)) tenants no_rights (length-map (take tenants own_row) rights_of ∙ long)
+      (λ actor h.
+      get_or-map rights_of (take tenants own_row) actor none no_rights (omega (arith, long, h))
+      ∙ ap rights_of (get_or-take tenants own_row actor none h) ∙ own_row-at actor h)

@@ -11,5 +11,6 @@ pub mod ArenaEntries
 pub mod Sound
 pub mod GrantEntries
 pub mod GrantTable
+pub mod TenantBits
 pub mod Parts
 pub mod PlainLines

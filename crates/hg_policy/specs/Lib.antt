@@ -1,4 +1,5 @@
 pub mod Rights
+pub mod TenantSets
 pub mod Names
 pub mod Kept
 pub mod Keys

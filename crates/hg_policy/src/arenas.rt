@@ -1,25 +1,27 @@
 //! The entries of arenas.
 
-ghost use Rattle.std.specs.Prelude.{◌≡◌, ◌≤◌, ◌<◌, ◌^◌, length, map};
+ghost use Rattle.std.specs.Prelude.{◌≡◌, ◌≤◌, ◌<◌, ◌^◌, ℕ, length, map};
 ghost use Rattle.toml.specs.View.{table_view};
 ghost use Rattle.hg_policy.specs.Faults.{Gives};
 ghost use Rattle.hg_policy.specs.Kept.{tenants_of, arenas_of};
 ghost use Rattle.hg_policy.specs.Arenas.{with_arena, arena_at, arenas_in};
+ghost use Rattle.hg_policy.specs.TenantSets.{flags_of};
 
 use crate::exclusive::admitted;
 use crate::fault::PolicyFault;
 use crate::key::{Counted, Key, Level};
 use crate::name_form::name;
+use crate::tenant_set::TenantSet;
 use crate::values::{known, whole};
 use hg_place::MAX_SEGMENTS;
 use indexmap::IndexMap;
 use std::alloc::Global;
 use toml::Table;
 
-/// By arena its name and which tenants it admits, and by segment its arena.
+/// By arena its name and the tenants that it admits, and by segment its arena.
 #[derive(Drop)]
 pub(crate) struct ArenaTables {
-    pub(crate) named: IndexMap<String, Vec<bool>>,
+    pub(crate) named: IndexMap<String, TenantSet>,
     pub(crate) segments: Vec<u8>,
 }
 
@@ -31,7 +33,7 @@ pub(crate) fn arenas(
 ) -> Result<ArenaTables, PolicyFault>
     requires few_tenants { length tenants.now.entries ≤ 64 }
     requires few_entries { length entries.now ≤ 16 }
-    ensures { Gives arenas_of result
+    ensures { Gives (arenas_of (length tenants.now.entries)) result
         (arenas_in (tenants_of tenants.now.entries)
         (map (λ entry. table_view entry.now) entries.now)) }
 {
@@ -54,8 +56,9 @@ fn arena(
 ) -> Result<(), PolicyFault>
     requires few_tenants { length tenants.now.entries ≤ 64 }
     requires few { length arenas.old.named.entries < 256 }
-    ensures { Gives (λ _. arenas_of arenas.new) result
-        (arena_at (tenants_of tenants.now.entries) (arenas_of arenas.old) (table_view entry.now)) }
+    ensures { Gives (λ _. arenas_of (length tenants.now.entries) arenas.new) result
+        (arena_at (tenants_of tenants.now.entries)
+        (arenas_of (length tenants.now.entries) arenas.old) (table_view entry.now)) }
 {
     known(alloc, Level::Arena, entry)?;
     let name = name(entry, Key::Name)?;
@@ -69,12 +72,12 @@ fn add_arena(
     arenas: &mut ArenaTables,
     name: &str,
     segments: u64,
-    admitted: Vec<bool>,
+    admitted: TenantSet,
 ) -> Result<(), PolicyFault>
     requires few { length arenas.old.named.entries < 256 }
     requires fits { segments < 2 ^ 63 }
-    ensures { Gives (λ _. arenas_of arenas.new) result
-        (with_arena (arenas_of arenas.old) name.now segments admitted.items) }
+    ensures { (tenants : ℕ) → Gives (λ _. arenas_of tenants arenas.new) result
+        (with_arena (arenas_of tenants arenas.old) name.now segments (flags_of tenants admitted)) }
 {
     let name = String::from_str(alloc, name)?;
     if arenas.named.contains_key(name.as_str()) {

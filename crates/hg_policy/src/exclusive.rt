@@ -1,34 +1,36 @@
 //! Which tenants an arena admits.
 
-ghost use Rattle.std.specs.Prelude.{◌≡◌, ◌==◌, ◌≤◌, [], length, map, IfOk};
+ghost use Rattle.std.specs.Prelude.{◌≡◌, ◌==◌, ◌≤◌, ◌<◌, ℕ, [], length, map, All};
 ghost use Rattle.std.specs.List.{list_any};
 ghost use Rattle.toml.specs.View.{view, table_view};
 ghost use Rattle.hg_policy.specs.Faults.{Gives, in_turn};
 ghost use Rattle.hg_policy.specs.Kept.{tenants_of};
-ghost use Rattle.hg_policy.specs.Arenas.{admitted_at, admitted_in, members_in, with_member, just};
+ghost use Rattle.hg_policy.specs.Arenas.{admitted_at, admitted_in, members_in, with_member};
+ghost use Rattle.hg_policy.specs.TenantSets.{has_tenant, flags_of};
 
 use crate::fault::PolicyFault;
 use crate::key::Key;
+use crate::tenant_set::TenantSet;
 use crate::tenants::number_in;
 use crate::values::{elements, field};
 use indexmap::IndexMap;
-use std::alloc::{AllocError, Global};
+use std::alloc::Global;
 use toml::{Table, Value};
 
-/// By tenant whether the arena of an entry admits it.
+/// The tenants that the arena of an entry admits.
 #[tactic(auto, unfolding(crate::specs::Arenas::admitted_at))]
 pub(crate) fn admitted(
     alloc: Global,
     tenants: &IndexMap<String, u32>,
     entry: &Table,
-) -> Result<Vec<bool>, PolicyFault>
+) -> Result<TenantSet, PolicyFault>
     requires { length tenants.now.entries ≤ 64 }
-    ensures { Gives (λ admitted. admitted.items) result
+    ensures { Gives (flags_of (length tenants.now.entries)) result
         (admitted_at (tenants_of tenants.now.entries) (table_view entry.now)) }
 {
     match field(entry, Key::Exclusive) {
         Some(value) => exclusive(alloc, tenants, value),
-        None => Ok(vec![in alloc; true; tenants.len()]?),
+        None => Ok(TenantSet::each()),
     }
 }
 
@@ -36,13 +38,13 @@ fn exclusive(
     alloc: Global,
     tenants: &IndexMap<String, u32>,
     value: &Value,
-) -> Result<Vec<bool>, PolicyFault>
+) -> Result<TenantSet, PolicyFault>
     requires { length tenants.now.entries ≤ 64 }
-    ensures { Gives (λ admitted. admitted.items) result
+    ensures { Gives (flags_of (length tenants.now.entries)) result
         (admitted_in (tenants_of tenants.now.entries) (view value.now)) }
 {
     let members = members(alloc, tenants, value)?;
-    Ok(just(alloc, tenants.len(), members.as_slice())?)
+    Ok(just(members.as_slice()))
 }
 
 /// The numbers of the tenants that a list names.
@@ -77,19 +79,15 @@ fn members_of(
     Ok(members)
 }
 
-/// By tenant whether it is a member.
-fn just(alloc: Global, tenants: usize, members: &[u8]) -> Result<Vec<bool>, AllocError>
-    ensures { IfOk result (λ admitted. admitted.items ≡ just tenants members.now) }
+/// The set of the members.
+fn just(members: &[u8]) -> TenantSet
+    requires { All (λ member. member < 64) members.now }
+    ensures { (tenant : ℕ) →
+        has_tenant result tenant ≡ list_any (λ member. member == tenant) members.now }
 {
-    let mut admitted = Vec::with_capacity(alloc, tenants)?;
-    for tenant in 0..tenants {
-        admitted.push(is_member(members, tenant))?;
+    let mut set = TenantSet::none();
+    for member in members {
+        set = set.with(*member);
     }
-    Ok(admitted)
-}
-
-fn is_member(members: &[u8], tenant: usize) -> bool
-    ensures { result ≡ list_any (λ member. member == tenant) members.now }
-{
-    members.iter().any(|member| usize::from(*member) == tenant)
+    set
 }

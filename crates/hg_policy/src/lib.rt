@@ -6,8 +6,6 @@ mod arenas;
 mod document;
 mod exclusive;
 mod fault;
-#[cfg(test)]
-mod fault_tests;
 mod granted;
 mod grants;
 mod key;
@@ -16,11 +14,8 @@ mod name_form;
 mod one_line;
 mod policy;
 mod rights;
-#[cfg(test)]
-mod size_tests;
+mod tenant_set;
 mod tenants;
-#[cfg(test)]
-mod tests;
 mod values;
 
 pub use document::read_policy;

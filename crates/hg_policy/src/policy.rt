@@ -1,31 +1,34 @@
 //! A policy.
 
-ghost use Rattle.std.specs.Prelude.{◌≡◌, ◌≤◌, ◌<◌, ◌^◌, true, length, IfSome, is_some, option_map};
+ghost use Rattle.std.specs.Prelude.{◌≡◌, ◌≤◌, ◌<◌, ◌^◌, true, length, IfSome, IsTrue, is_some};
+ghost use Rattle.std.specs.Prelude.{option_map};
 ghost use Rattle.hg_machine.specs.Policy as meaning;
 ghost use Rattle.hg_machine.specs.SoundPolicy.{IsSoundPolicy};
 ghost use Rattle.hg_policy.specs.Names.{tenant_number, tenant_name, arena_number};
 
-use crate::rights::Rights;
+use crate::granted::Held;
+use crate::tenant_set::TenantSet;
 use hg_place::{Actor, Right};
 use indexmap::IndexMap;
 use std::marker::Model;
 
 /// Who may do what, and how much of it. Tenants, arenas and segments go by number, from 0.
 ///
-/// What each request asks is a table, so that no answer costs more with more grants: whom an
-/// arena admits, by arena and tenant, and the rights on an owner's blocks, by owner and actor,
-/// among them all rights of each owner on its own.
+/// What each request asks is a flat table, so that no answer costs more with more grants: limits by
+/// tenant, whom an arena admits, one word by arena, the arena of each segment, and the rights on an
+/// owner's blocks, one byte by owner and actor, among them all rights of each owner on its own.
 #[derive(Drop)]
 pub struct Policy {
     pub(crate) workers: u8,
     pub(crate) max_generation: u32,
     /// Names and limits, in bytes.
     pub(crate) tenants: IndexMap<String, u32>,
-    /// Names, and whether each tenant is admitted.
-    pub(crate) arenas: IndexMap<String, Vec<bool>>,
+    /// Names, and which tenants are admitted.
+    pub(crate) arenas: IndexMap<String, TenantSet>,
     /// The arena of each segment.
     pub(crate) segments: Vec<u8>,
-    pub(crate) granted: Vec<Vec<Rights>>,
+    /// By owner the rights of each actor.
+    pub(crate) granted: Vec<Held>,
 }
 
 impl Model for Policy {
@@ -105,6 +108,14 @@ impl Policy {
         }
     }
 
+    /// Whether an actor is a tenant.
+    fn is_tenant(&self, actor: Actor) -> bool
+        ensures tenant { result ≡ meaning.is_tenant self.now actor.0 }
+        ensures few { IsTrue result → actor.0 < 64 }
+    {
+        usize::from(actor.0) < self.tenants.len()
+    }
+
     /// How many bytes a tenant may have in the heap of each worker.
     pub fn limit(&self, tenant: u8) -> Option<u64>
         ensures tenant { is_some result ≡ meaning.is_tenant self.now tenant }
@@ -140,7 +151,7 @@ impl Policy {
         ensures { result ≡ meaning.admits self.now arena actor.0 }
     {
         match self.arenas.get_index(usize::from(arena)) {
-            Some((_, admitted)) => admitted.get(usize::from(actor.0)).copied().unwrap_or(false),
+            Some((_, admitted)) => self.is_tenant(actor) && admitted.has(actor.0),
             None => false,
         }
     }
@@ -150,10 +161,7 @@ impl Policy {
         ensures { result ≡ meaning.grants self.now owner actor.0 right }
     {
         match self.granted.get(usize::from(owner)) {
-            Some(granted) => match granted.get(usize::from(actor.0)) {
-                Some(rights) => rights.has(right),
-                None => false,
-            },
+            Some(held) => self.is_tenant(actor) && held[usize::from(actor.0)].has(right),
             None => false,
         }
     }

@@ -4,6 +4,3 @@
 mod page_queues;
 
 pub use page_queues::{ARENAS, PAGES, PageQueues};
-
-#[cfg(test)]
-mod tests;

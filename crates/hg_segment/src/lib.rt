@@ -9,11 +9,7 @@ mod lives;
 mod page_classes;
 mod plain;
 mod segment;
+mod slots;
 
-pub use charges::TENANTS;
+pub use charges::{Charges, TENANTS};
 pub use segment::Segment;
-
-#[cfg(test)]
-mod seeded;
-#[cfg(test)]
-mod tests;

@@ -1,7 +1,7 @@
 //! A segment: the words of its pages, their lists, and the slot words of their places.
 
 ghost use Rattle.std.specs.Prelude.{◌≡◌, ◌<◌, ◌≤◌, ◌+◌, ◌*◌, ℕ, false, [], None, Some, Contains};
-ghost use Rattle.std.specs.Prelude.{length, IfOk};
+ghost use Rattle.std.specs.Prelude.{length, IfOk, IsTrue, ◌↔◌};
 ghost use Rattle.hg_place.specs.declared.geometry.TheConstants.{SEGMENT_PAGES, PAGE_PLACES};
 ghost use Rattle.hg_place.specs.declared.geometry.TheConstants.{SEGMENT_WORDS};
 ghost use Rattle.hg_place.specs.Standings.{standing_at, is_home, standing_generation};
@@ -138,6 +138,14 @@ impl<S: SlotWords> Segment<S> {
         ensures { result ≡ class_at self.now.classes page }
     {
         self.classes.get(page)
+    }
+
+    /// Whether a page has no place to give out.
+    pub fn is_full(&self, page: u8) -> bool
+        requires { page < SEGMENT_PAGES }
+        ensures { IsTrue result ↔ (listed (lists_at self.now.lists page) ≡ []) }
+    {
+        self.pages[page as usize].is_full(&self.memory)
     }
 
     /// What the places that are open count against the tenant's limit, in bytes.

@@ -1,6 +1,6 @@
 -- What a number's digits mean.
-use Rattle.std.specs.Prelude.{ℕ, ◌==◌, ◌&&◌, ◌+◌, ◌*◌, ◌-◌, Bool, false, nat_le, nat_lt, List, []}
-use Rattle.std.specs.Prelude.{◌∷◌, length, Option, Some, None, if◌then◌else◌}
+use Rattle.std.specs.Prelude.{ℕ, ◌==◌, ◌&&◌, ◌+◌, ◌*◌, ◌-◌, ◌^◌, Bool, false, nat_le, nat_lt, List}
+use Rattle.std.specs.Prelude.{[], ◌∷◌, length, Option, Some, None, if◌then◌else◌}
 use Rattle.std.specs.List.{list_all}
 
 abbrev pub is_digit : ℕ → Bool
@@ -19,6 +19,13 @@ value_on n (digit ∷ digits) = value_on (10 * n + (digit - 48)) digits
 
 abbrev pub decimal_value : List ℕ → ℕ
 decimal_value digits = value_on 0 digits
+
+-- the number whose digits are those of n and then these, where they are digits and it has at most
+-- 64 bits
+abbrev pub number_on : ℕ → List ℕ → Option ℕ
+number_on n digits =
+    if list_all is_digit digits && nat_lt (value_on n digits) (2 ^ 64)
+    then Some (value_on n digits) else None
 
 -- the number that a word is, where it is one below the limit
 abbrev pub number_below : ℕ → List ℕ → Option ℕ

@@ -20,6 +20,3 @@ pub use joined::split_joined;
 pub use line::{BlockName, Command, Line, Trace};
 pub use name::Name;
 pub use read::read_trace;
-
-#[cfg(test)]
-mod tests;

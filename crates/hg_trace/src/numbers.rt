@@ -1,45 +1,43 @@
 //! Numbers in decimal digits.
 
-ghost use Rattle.std.specs.Prelude.{◌≡◌, ◌^◌};
-ghost use Rattle.std.specs.List.{list_all};
-ghost use Rattle.hg_trace.specs.Numbers.{is_digit, is_numeral, number_below};
+ghost use Rattle.std.specs.Prelude.{◌≡◌, ◌^◌, ◌-◌, ◌<◌, MatchOption, true, false};
+ghost use Rattle.hg_trace.specs.Numbers.{is_digit, number_on, number_below};
 
-fn is_digit(b: u8) -> bool
-    ensures { result ≡ is_digit b }
+/// What a digit counts.
+fn digit_value(b: u8) -> Option<u64>
+    ensures { MatchOption result
+        (is_digit b ≡ false)
+        (λ value. (is_digit b ≡ true) × (value ≡ b - 48) × (value < 10)) }
 {
-    b.is_ascii_digit()
-}
-
-fn is_numeral(word: &[u8]) -> bool
-    ensures { result ≡ is_numeral word.now }
-{
-    match word {
-        [] => false,
-        [b'0', rest @ ..] => rest.is_empty(),
-        _ => are_digits(word),
+    match b {
+        b'0'..=b'9' => Some(u64::from(b - b'0')),
+        _ => None,
     }
 }
 
-fn are_digits(word: &[u8]) -> bool
-    ensures { result ≡ list_all is_digit word.now }
+/// The number whose digits are those of a number and then these, unless one of them is no digit or
+/// it has more than 64 bits. Each digit is looked at once.
+fn number_on(number: u64, digits: &[u8]) -> Option<u64>
+    ensures { result ≡ number_on number digits.now }
 {
-    word.iter().all(|b| is_digit(*b))
+    let mut number = number;
+    for b in digits {
+        let digit = digit_value(*b)?;
+        number = number.checked_mul(10)?.checked_add(digit)?;
+    }
+    Some(number)
 }
 
 /// The number that a word is, unless it has more than 64 bits.
 pub(crate) fn parse_number(word: &[u8]) -> Option<u64>
     ensures { result ≡ number_below (2 ^ 64) word.now }
 {
-    if !is_numeral(word) {
-        return None;
+    match word {
+        [] => None,
+        [b'0'] => Some(0),
+        [b'0', ..] => None,
+        _ => number_on(0, word),
     }
-    let mut number: u64 = 0;
-    for digit in word {
-        number = number
-            .checked_mul(10)?
-            .checked_add(u64::from(*digit - b'0'))?;
-    }
-    Some(number)
 }
 
 /// The number that a word is, where it is one below the limit.

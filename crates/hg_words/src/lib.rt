@@ -4,6 +4,3 @@
 mod memory;
 
 pub use memory::WordMemory;
-
-#[cfg(test)]
-mod tests;

@@ -15,7 +15,7 @@ use hg_machine::{Answer, Row};
 use hg_policy::Policy;
 
 /// How many bytes wait at most.
-const ROOM: usize = 8_192;
+const ROOM: usize = 65_536;
 
 /// Bytes that wait to be written, and whether a write has stopped: from then on nothing more is
 /// written.
@@ -54,24 +54,45 @@ impl Output {
         self.waiting.clear();
     }
 
-    /// Emits bytes to be written.
+    /// Lets bytes wait where there is room for them, and tells whether there was.
+    fn keep(&mut self, bytes: &[u8]) -> bool
+        ensures kept { result ≡ true
+            → (seen : Seen) → Emits seen self.old seen self.new bytes.now }
+        ensures unchanged { result ≡ false → self.new ≡ self.old }
+    {
+        self.waiting.try_extend_from_slice(bytes).is_ok()
+    }
+
+    /// Writes bytes at once, where none wait.
+    fn write_through<W: Sink>(&mut self, out: &mut W, bytes: &[u8])
+        requires { self.old.waiting.items ≡ [] }
+        ensures { Emits (W.seen out.old) self.old (W.seen out.new) self.new bytes.now }
+    {
+        if !self.stopped && put(out, bytes).is_err() {
+            self.stopped = true;
+        }
+    }
+
+    /// Emits bytes to be written. Those that don't fit beside what waits come after it was written,
+    /// and more than there is room for are written at once.
     pub(crate) fn put<W: Sink>(&mut self, out: &mut W, bytes: &[u8])
         ensures { Emits (W.seen out.old) self.old (W.seen out.new) self.new bytes.now }
     {
-        if self.waiting.try_extend_from_slice(bytes).is_err() {
-            self.flush(out);
-            if !self.stopped && put(out, bytes).is_err() {
-                self.stopped = true;
-            }
+        if self.keep(bytes) {
+            return;
+        }
+        self.flush(out);
+        if !self.keep(bytes) {
+            self.write_through(out, bytes);
         }
     }
 
     /// Writes what waits, as the last.
-    pub(crate) fn finish<W: Sink>(mut self, out: &mut W) -> Result<(), WriteStopped>
+    pub(crate) fn finish<W: Sink>(&mut self, out: &mut W) -> Result<(), WriteStopped>
         ensures ok { OnOk result ((start : Seen) (text : List ℕ)
-            → IsGiven start (W.seen out.old) self text → Wrote start (W.seen out.new) text) }
+            → IsGiven start (W.seen out.old) self.old text → Wrote start (W.seen out.new) text) }
         ensures stopped { OnErr result ((start : Seen) (text : List ℕ)
-            → IsGiven start (W.seen out.old) self text
+            → IsGiven start (W.seen out.old) self.old text
             → StopsIn start (W.seen out.new) text) }
     {
         self.flush(out);

@@ -8,7 +8,7 @@ use std::alloc::Global;
 use std::process::Abort;
 use std::test::Fail;
 
-const BYTES: usize = 20_000;
+const BYTES: usize = 150_000;
 
 fn long_text(alloc: Global) -> Result<Vec<u8>, Fail> {
     let mut text = Vec::new(alloc);
@@ -46,20 +46,20 @@ fn gives_the_first(rt: &impl Abort, alloc: Global, pieces: usize, left: usize) -
 #[test]
 fn a_long_text_arrives_in_order(rt: HostRuntime) -> Result<(), Fail> {
     let a = rt.alloc();
-    for pieces in [1, 2, 1_000] {
-        for left in [0, 8_191, 8_192, 8_193, 19_999, 20_000] {
+    for pieces in [1, 2, 4, 1_000] {
+        for left in [0, 65_535, 65_536, 65_537, 149_999, 150_000] {
             gives_the_first(&rt, a, pieces, left)?;
         }
     }
     Ok(())
 }
 
-/// So many bytes of a long text, and these behind them, arrive whole, in so many writes.
+/// So many bytes of a long text, and each of these behind them, arrive whole, in so many writes.
 fn arrives(
     rt: &impl Abort,
     alloc: Global,
     bytes: usize,
-    second: &[u8],
+    behind: &[u8],
     calls: usize,
 ) -> Result<(), Fail> {
     let text = long_text(alloc)?;
@@ -70,22 +70,26 @@ fn arrives(
     };
     let mut output = Output::new();
     output.put(&mut out, first);
-    output.put(&mut out, second);
+    for byte in behind {
+        output.put(&mut out, &[*byte]);
+    }
     assert!(rt; output.finish(&mut out).is_ok());
     let (begins, ends) = out.held.split_at(out.held.len().min(bytes));
     assert_eq!(rt; begins, first);
-    assert_eq!(rt; ends, second);
+    assert_eq!(rt; ends, behind);
     assert_eq!(rt; begins.len(), bytes);
     assert_eq!(rt; out.calls, calls);
     Ok(())
 }
 
-/// What fills the buffer exactly is written once, and one byte more with one write more.
+/// What fills the buffer exactly is written once, and what comes behind it waits: one more write.
+/// What is longer than the buffer is written at once.
 #[test]
 fn a_full_buffer_is_written_once(rt: HostRuntime) -> Result<(), Fail> {
     let a = rt.alloc();
-    arrives(&rt, a, 8_192, b"", 1)?;
-    arrives(&rt, a, 8_191, b"x", 1)?;
-    arrives(&rt, a, 8_192, b"x", 2)?;
-    arrives(&rt, a, 8_193, b"", 1)
+    arrives(&rt, a, 65_536, b"", 1)?;
+    arrives(&rt, a, 65_535, b"x", 1)?;
+    arrives(&rt, a, 65_536, b"xy", 2)?;
+    arrives(&rt, a, 65_537, b"", 1)?;
+    arrives(&rt, a, 65_537, b"xy", 2)
 }

@@ -4,25 +4,26 @@ use Rattle.std.proofs.lemmas.List.{map_push, length-map}
 use Rattle.indexmap.proofs.CallerLemmas.{insert_entry-new}
 use Rattle.hg_policy.specs.Kept.{names_of}
 use Rattle.hg_policy.specs.NameForm.{is_among}
+use Rattle.hg_policy.specs.TenantSets.{flags_of}
 use Rattle.hg_policy.proofs.ArenaEntries.{items-resize}
 use Rattle.hg_policy.proofs.Names.{among-names, none_from}
 use Rattle.hg_policy.proofs.arenas.add_arena.Goals as goal
 
 pub returns-then-contains_key : goal.returns-then-contains_key
-returns-then-contains_key c =
+returns-then-contains_key c tenants =
     let there : is_among c.args.name.now (names_of c.args.arenas.now.named.entries) ≡ true =
     sym (among-names c.args.name.now c.args.arenas.now.named.entries) ∙ (rw (c.as_str.ensures.value, c.in_ok-name.ensures.ok) at (sym c.if-contains_key.ensures)) in
     rw (there, c.in_ok-name.ensures.ok) refl
 
 pub returns-then-total : goal.returns-then-total
-returns-then-total c =
+returns-then-total c tenants =
     let absent : is_among c.args.name.now (names_of c.args.arenas.now.named.entries) ≡ false =
     sym (among-names c.args.name.now c.args.arenas.now.named.entries) ∙ (rw (c.as_str.ensures.value, c.in_ok-name.ensures.ok) at (sym c.if-contains_key.ensures)) in
     let over : nat_lt 64 (length c.args.arenas.now.segments.items + c.args.segments) ≡ true = lt-ltb 64 (length c.args.arenas.now.segments.items + c.args.segments) (omega arith) in
     rw (absent, over) refl
 
 pub returns : goal.returns
-returns c =
+returns c tenants =
     let absent : is_among c.args.name.now (names_of c.args.arenas.now.named.entries) ≡ false =
     sym (among-names c.args.name.now c.args.arenas.now.named.entries) ∙ (rw (c.as_str.ensures.value, c.in_ok-name.ensures.ok) at (sym c.if-contains_key.ensures)) in
     let fits : nat_lt 64 (length c.args.arenas.now.segments.items + c.args.segments) ≡ false = le-ltb 64 (length c.args.arenas.now.segments.items + c.args.segments) (omega arith) in
@@ -37,7 +38,7 @@ returns c =
       fits,
       entries,
       map_push (λ one. string_bytes one.0) c.args.arenas.now.named.entries (name, c.args.admitted),
-      map_push (λ one. one.1.items) c.args.arenas.now.named.entries (name, c.args.admitted),
+      map_push (λ one. flags_of tenants one.1) c.args.arenas.now.named.entries (name, c.args.admitted),
       c.in_ok-name.ensures.ok,
       c.in_ok-resize.ensures.items,
       longer,

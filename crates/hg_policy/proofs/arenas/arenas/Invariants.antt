@@ -7,6 +7,6 @@ use Rattle.hg_policy.proofs.arenas.arenas.Given as goal
 
 abbrev pub invariant-loop-entry : goal.invariant-loop-entry
 invariant-loop-entry l = record {
-  so_far : in_turn (arena_at (tenants_of l.tenants.entries)) (arenas_of l.arenas) (map (λ entry. table_view entry.now) (drop l.entry-index l.entries)) ≡ arenas_in (tenants_of l.tenants.entries) (map (λ entry. table_view entry.now) l.entries);
+  so_far : in_turn (arena_at (tenants_of l.tenants.entries)) (arenas_of (length l.tenants.entries) l.arenas) (map (λ entry. table_view entry.now) (drop l.entry-index l.entries)) ≡ arenas_in (tenants_of l.tenants.entries) (map (λ entry. table_view entry.now) l.entries);
   few : length l.arenas.named.entries ≤ l.entry-index;
 }

@@ -21,8 +21,13 @@ grants-requires c =
     let read = tenants_in-length (map (λ entry. table_view entry.now) c.as_slice.result.now) (tenants_of c.in_ok-tenants.tenants.entries) c.in_ok-tenants.ensures in
     omega (arith, read, length-tenants c.in_ok-tenants.tenants.entries, length-map c.as_slice.result.now (λ entry. table_view entry.now), ap length c.as_slice.ensures.value, c.in_ok-tenant_entries.ensures.few)
 
-pub granted-requires : goal.granted-requires
-granted-requires c =
+pub granted-requires-clause-few : goal.granted-requires-clause-few
+granted-requires-clause-few c =
+    let read = tenants_in-length (map (λ entry. table_view entry.now) c.as_slice.result.now) (tenants_of c.in_ok-tenants.tenants.entries) c.in_ok-tenants.ensures in
+    omega (arith, c.len.ensures.len, read, length-tenants c.in_ok-tenants.tenants.entries, length-map c.as_slice.result.now (λ entry. table_view entry.now), ap length c.as_slice.ensures.value, c.in_ok-tenant_entries.ensures.few)
+
+pub granted-requires-clause-among : goal.granted-requires-clause-among
+granted-requires-clause-among c =
     let tenants = tenants_of c.in_ok-tenants.tenants.entries in
     let many : length tenants ≡ c.len.result = length-tenants c.in_ok-tenants.tenants.entries ∙ sym c.len.ensures.len in
     let among = grants_in-among tenants (map (λ entry. table_view entry.now) c.as_slice-3.result.now) c.in_ok-grants.grants.items c.in_ok-grants.ensures in
@@ -31,11 +36,13 @@ granted-requires c =
 pub invariant_of-result : goal.invariant_of-result
 invariant_of-result c =
     let tenants = tenants_of c.in_ok-tenants.tenants.entries in
-    let arenas = arenas_of c.in_ok-arenas.arenas in
+    let arenas = arenas_of (length c.in_ok-tenants.tenants.entries) c.in_ok-arenas.arenas in
     let tenant_entries = map (λ entry. table_view entry.now) c.as_slice.result.now in
     let arena_entries = map (λ entry. table_view entry.now) c.as_slice-2.result.now in
-    let many : c.len.result ≡ length tenants = c.len.ensures.len ∙ sym (length-tenants c.in_ok-tenants.tenants.entries) in
-    let own : granted_of c.in_ok-granted.granted.items ≡ granted_among c.as_slice-4.result.now (length tenants) = c.in_ok-granted.ensures ∙ ap (granted_among c.as_slice-4.result.now) many in
+    let entries = c.in_ok-tenants.tenants.entries in
+    let many : c.len.result ≡ length entries = c.len.ensures.len in
+    let same : length entries ≡ length tenants = sym (length-tenants entries) in
+    let own : granted_of (length entries) c.in_ok-granted.granted.items ≡ granted_among c.as_slice-4.result.now (length tenants) = (rw many at c.in_ok-granted.ensures) ∙ ap (granted_among c.as_slice-4.result.now) same in
     let workers = workers_at-range (table_view c.args.table.now) c.in_ok-workers.workers c.in_ok-workers.ensures in
     let greatest = max_generation_at-range (table_view c.args.table.now) c.in_ok-max_generation.max_generation c.in_ok-max_generation.ensures in
     let few_tenants : length tenants ≤ 64 = omega (arith, tenants_in-length tenant_entries tenants c.in_ok-tenants.ensures, length-map c.as_slice.result.now (λ entry. table_view entry.now), ap length c.as_slice.ensures.value, c.in_ok-tenant_entries.ensures.few) in

@@ -1,0 +1,9 @@
+mod lists;
+mod page;
+mod plain_words;
+mod queue;
+mod seeded;
+mod segment;
+mod sizes;
+mod slot_word;
+mod words;

@@ -1,0 +1,155 @@
+ghost use Rattle.std.specs.Prelude.{◌<◌, ◌≤◌, length};
+ghost use Rattle.hg_queue.specs.Queues.{AreQueues};
+
+use hg_queue::{ARENAS, PAGES, PageQueues};
+use hg_size::{Class, class_of};
+use std::alloc::Global;
+use std::process::Abort;
+
+/// The class of a request of so many words.
+fn class(rt: &impl Abort, words: u64) -> Class {
+    class_of(words).expect(rt, "a class")
+}
+
+/// Puts a page that is in no queue yet in front of its key's.
+fn push(rt: &impl Abort, queues: &mut PageQueues, arena: u8, class: Class, page: u16)
+    requires arena { arena < ARENAS }
+    requires page { page < PAGES }
+{
+    assert!(rt; !queues.has(page));
+    queues.push_front(arena, class, page);
+}
+
+/// Takes out the page at the front of a queue.
+fn part(queues: &mut PageQueues, arena: u8, class: Class) -> Option<u16>
+    requires { arena < ARENAS }
+{
+    let page = queues.front(arena, class)?;
+    queues.part_full(page);
+    Some(page)
+}
+
+// Three pages of one key, one taken from the middle and one from the front.
+#[test]
+fn queue_lists(rt: HostRuntime) {
+    let mut queues = PageQueues::new(rt.alloc()).expect(&rt, "memory");
+    let class = class(&rt, 10);
+    push(&rt, &mut queues, 2, class, 3);
+    push(&rt, &mut queues, 2, class, 7);
+    push(&rt, &mut queues, 2, class, 1023);
+    assert_eq!(&rt; queues.front(2, class), Some(1023));
+    assert_eq!(&rt; queues.next(1023), Some(7));
+    queues.remove(7);
+    assert_eq!(&rt; queues.next(1023), Some(3));
+    assert_eq!(&rt; part(&mut queues, 2, class), Some(1023));
+    assert_eq!(&rt; queues.front(2, class), Some(3));
+    queues.remove(7);
+    assert_eq!(&rt; queues.next(7), None);
+    assert_eq!(&rt; queues.next(3), None);
+    assert_eq!(&rt; queues.front(1, class), None);
+}
+
+// The queues are there, or memory was refused: for a run in which requests are refused in turn.
+#[test]
+fn queues_refused_in_turn(rt: HostRuntime) {
+    if let Ok(mut queues) = PageQueues::new(rt.alloc()) {
+        let class = class(&rt, 512);
+        assert_eq!(&rt; queues.front(ARENAS - 1, class), None);
+        push(&rt, &mut queues, ARENAS - 1, class, PAGES - 1);
+        assert_eq!(&rt; queues.front(ARENAS - 1, class), Some(PAGES - 1));
+    }
+}
+
+/// The arenas and the words of the classes that many calls are made on.
+static KEYS: [(u8, u64); 6] = [(0, 1), (0, 512), (1, 1), (7, 24), (15, 1), (15, 512)];
+
+/// The queues of those keys as vectors, the front of each last.
+#[derive(Drop)]
+struct Plain {
+    queues: Vec<Vec<u16>>,
+}
+
+impl Plain {
+    /// Queues without pages.
+    fn new(rt: &impl Abort, alloc: Global) -> Plain {
+        let mut queues = Vec::new(alloc);
+        for _ in &KEYS {
+            queues.push(Vec::new(alloc)).expect(rt, "memory");
+        }
+        Plain { queues }
+    }
+
+    /// Puts a page in front.
+    fn push(&mut self, rt: &impl Abort, key: usize, page: u16) {
+        assert!(rt; key < self.queues.len());
+        self.queues[key].push(page).expect(rt, "memory");
+    }
+
+    /// Takes the page in front.
+    fn pop(&mut self, rt: &impl Abort, key: usize) -> Option<u16> {
+        assert!(rt; key < self.queues.len());
+        self.queues[key].pop()
+    }
+
+    /// Takes a page out of its queue, and tells whether it was in one.
+    fn remove(&mut self, page: u16) -> bool {
+        for queue in &mut self.queues {
+            if let Some(at) = queue.iter().position(|other| *other == page) {
+                queue.remove(at);
+                return true;
+            }
+        }
+        false
+    }
+}
+
+/// One call on queues, and the same on vectors.
+fn step(rt: &impl Abort, queues: &mut PageQueues, plain: &mut Plain, number: usize) {
+    let key = number % KEYS.len();
+    let (arena, words) = KEYS[key];
+    let class = class(rt, words);
+    assert!(rt; arena < ARENAS);
+    let page = (number / 64 % 32 * 33) as u16;
+    if number / 8 % 4 == 0 {
+        assert_eq!(rt; part(queues, arena, class), plain.pop(rt, key));
+        return;
+    }
+    let had = plain.remove(page);
+    assert_eq!(rt; queues.has(page), had);
+    queues.remove(page);
+    if !had || number / 8 % 4 == 1 {
+        push(rt, queues, arena, class, page);
+        plain.push(rt, key, page);
+    }
+}
+
+/// A queue has these pages, the front last.
+fn check_queue(rt: &impl Abort, queues: &PageQueues, arena: u8, class: Class, pages: &[u16])
+    requires { arena < ARENAS }
+{
+    let mut at = queues.front(arena, class);
+    for page in pages.iter().rev() {
+        assert_eq!(rt; at, Some(*page));
+        assert!(rt; *page < PAGES);
+        at = queues.next(*page);
+    }
+    assert_eq!(rt; at, None);
+}
+
+// Queues do as vectors do.
+#[test]
+fn queues_as_vectors(rt: HostRuntime) {
+    let mut queues = PageQueues::new(rt.alloc()).expect(&rt, "memory");
+    let mut plain = Plain::new(&rt, rt.alloc());
+    let mut random = 1u64;
+    for _ in 0..4000u16 {
+        random = random
+            .wrapping_mul(6364136223846793005)
+            .wrapping_add(1442695040888963407);
+        step(&rt, &mut queues, &mut plain, (random >> 33) as usize);
+        for (key, (arena, words)) in KEYS.iter().enumerate() {
+            assert!(&rt; *arena < ARENAS && key < plain.queues.len());
+            check_queue(&rt, &queues, *arena, class(&rt, *words), &plain.queues[key]);
+        }
+    }
+}

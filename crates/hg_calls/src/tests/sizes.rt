@@ -1,0 +1,80 @@
+use hg_size::{CLASSES, block_words, class_number, class_of, per_page, words_of};
+
+/// The words of each class, and the places of a page of it, as the table of the documentation
+/// has them.
+static CLASS_ROWS: [(u16, u16); CLASSES] = [
+    (1, 512),
+    (2, 256),
+    (3, 170),
+    (4, 128),
+    (5, 102),
+    (6, 85),
+    (7, 73),
+    (8, 64),
+    (10, 51),
+    (12, 42),
+    (14, 36),
+    (16, 32),
+    (20, 25),
+    (24, 21),
+    (28, 18),
+    (32, 16),
+    (40, 12),
+    (48, 10),
+    (56, 9),
+    (64, 8),
+    (80, 6),
+    (96, 5),
+    (112, 4),
+    (128, 4),
+    (160, 3),
+    (192, 2),
+    (224, 2),
+    (256, 2),
+    (320, 1),
+    (384, 1),
+    (448, 1),
+    (512, 1),
+];
+
+/// Every number of words from 1 on takes the first class that holds it.
+#[test]
+fn classes(rt: HostRuntime) {
+    let mut words = 1u64;
+    for (number, (size, places)) in CLASS_ROWS.iter().enumerate() {
+        for wanted in words..=u64::from(*size) {
+            match class_of(wanted) {
+                Some(class) => {
+                    assert_eq!(rt; block_words(class), *size, "words for {wanted}");
+                    assert_eq!(rt; usize::from(class_number(class)), number, "for {wanted}");
+                    assert_eq!(rt; per_page(class), *places, "places for {wanted}");
+                }
+                None => assert!(rt; false, "no class for {wanted} words"),
+            }
+        }
+        words = u64::from(*size) + 1;
+    }
+    assert!(rt; class_of(words).is_none());
+}
+
+/// Bytes of a request, and its words.
+static REQUESTS: [(u64, u64); 9] = [
+    (0, 1),
+    (1, 1),
+    (8, 1),
+    (9, 2),
+    (24, 3),
+    (65, 9),
+    (4_096, 512),
+    (4_097, 513),
+    (u64::MAX, 2_305_843_009_213_693_952),
+];
+
+#[test]
+fn requests(rt: HostRuntime) {
+    for (bytes, words) in &REQUESTS {
+        assert_eq!(rt; words_of(*bytes), *words, "words for {bytes} bytes");
+    }
+    assert!(rt; class_of(words_of(4_097)).is_none());
+    assert!(rt; class_of(words_of(u64::MAX)).is_none());
+}

@@ -1,0 +1,51 @@
+use Rattle.std.proofs.Common.{◌∙◌, sym, ap}
+use Rattle.std.proofs.lemmas.Bool.{true≢false}
+use Rattle.hg_heap.proofs.Founds.{found_of, found_held}
+use Rattle.hg_heap.proofs.Looking.{never_elsewhere, heap_lists, heap_right}
+use Rattle.hg_heap.proofs.ReadCall.{read_ends}
+use Rattle.hg_heap.proofs.heap.Heap.read.Goals as goal
+
+pub invariant_of-self : goal.invariant_of-self
+invariant_of-self g c = let w = g.S.SlotWords in let r = c.read_word-value.ensures.read in let s =
+    c.settled.ensures in
+    heap_right w.number w.records w.shows w.steps c.self.inside.segments.items c.in-Some.found r.0
+    c.args.handle.place c.index_mut-segment.result.now c.read_word-value.new.segment
+    (found_of w.number c.self.inside.segments.items c.args.handle.place.segment c.in-Some.found
+    c.index_mut-segment.result.now (rw (← c.self.view_is) at c.in-Some.ensures.some)
+    c.index_mut-segment.ensures.value)
+    r.1 _ _ _ _ c.self.invariant
+    (record {
+      lists = s.lists;
+      sizes = s.sizes;
+      bounded = s.bounded;
+      opened = s.open;
+      listed =
+          s.listed;
+      blocks = s.blocks;
+      pages = s.all.0;
+      classes = s.all.1;
+      words = s.all.2;
+    })
+
+pub returns : goal.returns
+returns g c = let w = g.S.SlotWords in let r = c.read_word-value.ensures.read in record {
+  elsewhere = λ e. absurd (true≢false
+      (sym (found_held w.number c.args.self.now.segments c.args.handle.place.segment c.in-Some.found
+      c.in-Some.ensures.some) ∙ e));
+  held = λ _. rw (← c.self.view_is)
+      (read_ends w.number w.records w.shows w.steps g.met.S.SlotWords.fits c.args.policy.now
+      c.self.inside.segments.items c.in-Some.found r.0 c.args.index c.args.actor c.args.handle
+      c.index_mut-segment.result.now c.read_word-value.new.segment
+      (found_of w.number c.self.inside.segments.items c.args.handle.place.segment c.in-Some.found
+      c.index_mut-segment.result.now (rw (← c.self.view_is) at c.in-Some.ensures.some)
+      c.index_mut-segment.ensures.value)
+      r.1 c.read_word-value.ensures.words c.read_word-value.result r.2);
+  lists = rw (← c.self.view_is)
+      (heap_lists w.number w.records w.shows w.steps c.self.inside.segments.items c.in-Some.found
+      r.0 c.args.handle.place c.index_mut-segment.result.now c.read_word-value.new.segment
+      (found_of w.number c.self.inside.segments.items c.args.handle.place.segment c.in-Some.found
+      c.index_mut-segment.result.now (rw (← c.self.view_is) at c.in-Some.ensures.some)
+      c.index_mut-segment.ensures.value) r.1);
+  queues = ap (λ h. h.queues) c.self.view_is;
+  here = λ _. never_elsewhere _ _ c.args.index _ c.read_word-value.result r.2;
+}

@@ -1,0 +1,15 @@
+use Rattle.std.proofs.Common.{◌∙◌, sym, ap, Some, get_or}
+use Rattle.hg_place.specs.Standings.{standing_at, slot_of}
+use Rattle.hg_segment.specs.Kept.{Kept}
+use Rattle.hg_heap.proofs.Founds.{told_of}
+use Rattle.hg_heap.proofs.heap.Heap.standing.Goals as goal
+
+pub returns : goal.returns
+returns g c =
+    told_of g.S.SlotWords.number
+    (λ (k : Kept g.row.S.Denot). standing_at (g.S.SlotWords.records k.slots)
+    (slot_of c.args.place)) c.args.self.now.segments c.args.place.segment c.in-Some.found
+    c.index.result.now c.in-Some.ensures.some
+    (c.index.ensures ∙ ap (λ h. get_or h.segments c.in-Some.found c.index.result.now)
+    c.self.view_is)
+    ∙ ap Some (sym c.standing.ensures)

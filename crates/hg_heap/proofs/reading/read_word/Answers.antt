@@ -1,0 +1,67 @@
+use Rattle.std.proofs.Common.{◌∙◌, sym, ap, arith, Ok}
+use Rattle.hg_place.specs.declared.Right.TheVariants as right
+use Rattle.hg_segment.specs.Kept.{Kept}
+use Rattle.hg_heap.proofs.OpenBlocks.{same_size}
+use Rattle.hg_heap.proofs.Looking.{looked_of, open_after, denied_by, allowed_by, reached_denied}
+use Rattle.hg_heap.proofs.Looking.{reached_outside, reached_inside}
+use Rattle.hg_heap.proofs.reading.read_word.Goals as goal
+
+pub size_of-requires-clause-open : goal.size_of-requires-clause-open
+size_of-requires-clause-open g c = let w = g.S.SlotWords in let l = c.look-word.ensures in
+    open_after w.number w.records w.shows w.steps g.met.S.SlotWords.fits c.args.policy.now
+    c.args.actor.0 right.Read c.args.handle c.look-word.result c.args.segment.now
+    c.look-word.new.self
+    (looked_of w.number w.records w.shows w.steps c.args.handle.place c.look-word.result
+    c.args.segment.now c.look-word.new.self l.shown l.step l.number l.records l.others)
+    (allowed_by _ (sym c.in_default.is ∙ c.judge.ensures))
+
+pub read-requires-clause-open : goal.read-requires-clause-open
+read-requires-clause-open g c = let w = g.S.SlotWords in let l = c.look-word.ensures in
+    open_after w.number w.records w.shows w.steps g.met.S.SlotWords.fits c.args.policy.now
+    c.args.actor.0 right.Read c.args.handle c.look-word.result c.args.segment.now
+    c.look-word.new.self
+    (looked_of w.number w.records w.shows w.steps c.args.handle.place c.look-word.result
+    c.args.segment.now c.look-word.new.self l.shown l.step l.number l.records l.others)
+    (allowed_by _ (sym c.in_default.is ∙ c.judge.ensures))
+
+pub read-requires-clause-inside : goal.read-requires-clause-inside
+read-requires-clause-inside g c size e =
+    same_size _ c.size_of.result size c.args.index c.size_of.ensures.class
+    (omega (arith, c.from.ensures, c.if-index-from.false)) e
+
+pub returns-in-Denied : goal.returns-in-Denied
+returns-in-Denied g c = let w = g.S.SlotWords in let l = c.look-word.ensures in record {
+  read = (
+    c.look-word.result,
+    looked_of w.number w.records w.shows w.steps c.args.handle.place c.look-word.result
+        c.args.segment.now c.look-word.new.self l.shown l.step l.number l.records l.others,
+    reached_denied _ c.in-Denied.rule
+        _ _ _ (denied_by _ c.in-Denied.rule (sym c.in-Denied.is ∙ c.judge.ensures)),
+  );
+  words = ap (λ (k : Kept g.row.S.Denot). k.words) l.others;
+}
+
+pub returns-then-index-from : goal.returns-then-index-from
+returns-then-index-from g c = let w = g.S.SlotWords in let l = c.look-word.ensures in record {
+  read = (
+    c.look-word.result,
+    looked_of w.number w.records w.shows w.steps c.args.handle.place c.look-word.result
+        c.args.segment.now c.look-word.new.self l.shown l.step l.number l.records l.others,
+    reached_outside _ _ c.args.index _ (allowed_by _ (sym c.in_default.is ∙ c.judge.ensures))
+        (omega (arith, c.from.ensures, c.size_of.ensures.words, c.if-index-from.true)),
+  );
+  words = ap (λ (k : Kept g.row.S.Denot). k.words) l.others;
+}
+
+pub returns : goal.returns
+returns g c = let w = g.S.SlotWords in let l = c.look-word.ensures in record {
+  read = (
+    c.look-word.result,
+    looked_of w.number w.records w.shows w.steps c.args.handle.place c.look-word.result
+        c.args.segment.now c.look-word.new.self l.shown l.step l.number l.records l.others,
+    ap Ok c.read.ensures ∙ reached_inside _ _ c.args.index
+        _ (allowed_by _ (sym c.in_default.is ∙ c.judge.ensures))
+        (omega (arith, c.from.ensures, c.size_of.ensures.words, c.if-index-from.false)),
+  );
+  words = ap (λ (k : Kept g.row.S.Denot). k.words) l.others;
+}

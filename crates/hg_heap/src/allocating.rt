@@ -1,0 +1,220 @@
+//! Places are given out, in the order of choice.
+
+ghost use Rattle.std.specs.Prelude.{◌≡◌, ◌<◌, ℕ, Option, Some, None, IfOk, IfErr, IfSome};
+ghost use Rattle.std.specs.Prelude.{IfNone, true, Contains};
+ghost use Rattle.hg_queue.specs.declared.page_queues.TheConstants.{PAGES, ARENAS};
+ghost use Rattle.hg_segment.specs.declared.charges.TheConstants.{TENANTS};
+ghost use Rattle.hg_place.specs.Lives.{live_word};
+ghost use Rattle.hg_place.specs.Places.{number_of, page_number};
+ghost use Rattle.hg_size.specs.Sizes.{number_of_size};
+ghost use Rattle.hg_size.specs.SizeLaws.{key_of};
+ghost use Rattle.hg_machine.specs.Request.{size_of};
+ghost use Rattle.hg_machine.specs.declared.Event.TheVariants as Event;
+ghost use Rattle.hg_machine.specs.declared.Answer.TheVariants as Answer;
+ghost use Rattle.hg_agreement.specs.Views.{Shown};
+ghost use Rattle.hg_page.specs.PageLists.{fresh};
+ghost use Rattle.hg_queue.specs.Queues.{queue_of};
+ghost use Rattle.hg_heap.specs.Held.{lists_on, class_on, has_place, is_some_place, KeepsOtherLists};
+ghost use Rattle.hg_heap.specs.Begun.{Begun};
+ghost use Rattle.hg_heap.specs.Opened.{Opened};
+ghost use Rattle.hg_heap.specs.Requeued.{requeued};
+ghost use Rattle.hg_heap.specs.Choice.{chosen_place, front_page, blank_page, blank_on};
+ghost use Rattle.hg_heap.specs.Ready.{IsReady};
+ghost use Rattle.hg_heap.specs.Allotted.{IsAllotted};
+ghost use Rattle.hg_heap.specs.Lists.{GivenOut};
+ghost use Rattle.hg_heap.specs.Policies.{AreOf};
+ghost use Rattle.hg_heap.specs.Ties.{HeapTies, Stepped, shown_at};
+ghost use Rattle.hg_heap.specs.Answers.{refused_answer};
+
+use crate::requeue::{block_bytes, requeue};
+use crate::{Heap, Refused};
+use hg_decision::{AllocVerdict, judge_alloc};
+use hg_place::{Actor, Handle, SEGMENT_PAGES, SlotWords};
+use hg_policy::Policy;
+use hg_queue::PAGES;
+use hg_size::{Class, block_words, words_of};
+
+impl<S: SlotWords> Heap<S> {
+    /// Gives out a block of so many bytes, all words 0, of a segment of this arena: the first that
+    /// the order of choice has. `Denied` and `TooLarge` come by the policy and the actor's charge,
+    /// `NoRoom` where no place is left for a block of the class; a refusal changes nothing.
+    pub fn alloc(
+        &mut self,
+        policy: &Policy,
+        actor: Actor,
+        arena: u8,
+        bytes: u64,
+    ) -> Result<Handle, Refused>
+        requires { AreOf S.number policy.now self.old.segments }
+        ensures given { IfOk result (λ handle. (given : IsAllotted S.number S.records S.shows
+            S.steps (size_of bytes) actor.0 handle self.old.segments self.new.segments)
+            × HeapTies S.number S.records policy.now (shown_at handle.place given.word)
+            (shown_at handle.place (live_word handle.generation actor.0))
+            (Event.Alloc actor arena bytes) (Answer.Block handle)
+            self.old.segments self.new.segments) }
+        ensures refused { IfErr result (λ refused. (self.new ≡ self.old)
+            × ((shown : Option Shown) → HeapTies S.number S.records policy.now shown shown
+            (Event.Alloc actor arena bytes) (refused_answer refused)
+            self.old.segments self.old.segments)) }
+        ensures chosen { IfOk result (λ handle.
+            chosen_place S.number S.records self.old arena (size_of bytes)
+            ≡ Some (number_of handle.place)) }
+        ensures lists { IfOk result (λ handle. GivenOut S.number S.records arena (size_of bytes)
+            (page_number handle.place) handle.place.index self.old.segments self.new.segments) }
+        ensures queues { IfOk result (λ handle. self.new.queues ≡ requeued
+            (key_of arena (number_of_size (size_of bytes))) (page_number handle.place)
+            (has_place (lists_on S.number self.new.segments (page_number handle.place)))
+            self.old.queues) }
+    {
+        // a policy hands out that it is sound, a class that it is a size of the table, and a use of
+        // any field what is kept of all
+        let _workers = policy.workers();
+        let _ = &self.queues;
+        let charge = self.charge(actor.0);
+        let class = match judge_alloc(policy, actor, arena, words_of(bytes), charge) {
+            AllocVerdict::Denied(rule) => return Err(Refused::Denied(rule)),
+            AllocVerdict::TooLarge => return Err(Refused::TooLarge),
+            AllocVerdict::Fits(class) => class,
+        };
+        let _size = block_words(class);
+        let Some(handle) = self.allot(arena, class, actor.0) else {
+            return Err(Refused::NoRoom);
+        };
+        Ok(handle)
+    }
+
+    /// Gives out the place of the order of choice, if there is one.
+    fn allot(&mut self, arena: u8, class: Class, owner: u8) -> Option<Handle>
+        requires arena { arena < ARENAS }
+        requires owner { owner < TENANTS }
+        ensures none { IfNone result ((self.new ≡ self.old)
+            × (front_page S.number S.records self.old arena class ≡ None)
+            × (blank_page S.number S.records self.old arena class ≡ None)) }
+        ensures allotted { IfSome result (λ handle. IsAllotted S.number S.records S.shows S.steps
+            class owner handle self.old.segments self.new.segments) }
+        ensures chosen { IfSome result (λ handle.
+            chosen_place S.number S.records self.old arena class ≡ Some (number_of handle.place)) }
+        ensures lists { IfSome result (λ handle. GivenOut S.number S.records arena class
+            (page_number handle.place) handle.place.index self.old.segments self.new.segments) }
+        ensures queues { IfSome result (λ handle. self.new.queues ≡ requeued
+            (key_of arena (number_of_size class)) (page_number handle.place)
+            (has_place (lists_on S.number self.new.segments (page_number handle.place)))
+            self.old.queues) }
+    {
+        // a use of any field hands out what is kept of all, and one of the class that it is a size
+        let _ = &self.queues;
+        let _size = block_words(class);
+        let Some(page) = self.page_for(arena, class) else {
+            return None;
+        };
+        Some(self.give_out(arena, class, page, owner))
+    }
+
+    /// The page to give a place out of: the front of the queue, else the first without a class that
+    /// has room for a block of this one, which it gets now.
+    fn page_for(&mut self, arena: u8, class: Class) -> Option<u16>
+        requires { arena < ARENAS }
+        ensures none { IfNone result ((self.new ≡ self.old)
+            × (front_page S.number S.records self.old arena class ≡ None)
+            × (blank_page S.number S.records self.old arena class ≡ None)) }
+        ensures below { IfSome result (λ page. page < PAGES) }
+        ensures queued { IfSome result (λ page.
+            Contains (queue_of self.new.queues (key_of arena (number_of_size class))) page) }
+        ensures ready { IfSome result (λ page.
+            IsReady S.number S.records arena class page self.old self.new) }
+    {
+        if let Some(page) = self.queues.front(arena, class) {
+            return Some(page);
+        }
+        let page = self.blank_page(arena, class)?;
+        self.begin(arena, class, page);
+        Some(page)
+    }
+
+    /// The first page, by segment and page, that has no class and a place for a block of this one.
+    fn blank_page(&self, arena: u8, class: Class) -> Option<u16>
+        ensures first { result ≡ blank_page S.number S.records self.now arena class }
+        ensures below { IfSome result (λ page. page < PAGES) }
+        ensures blank { IfSome result (λ page. is_some_place
+            (blank_on S.number S.records self.now.segments arena class page) ≡ true) }
+    {
+        for page in 0..PAGES {
+            if self.is_blank(page, arena, class) {
+                return Some(page);
+            }
+        }
+        None
+    }
+
+    /// Whether a page has no class, and a place for a block of this one.
+    fn is_blank(&self, page: u16, arena: u8, class: Class) -> bool
+        requires { page < PAGES }
+        ensures { result ≡ is_some_place (blank_on S.number S.records self.now.segments arena class page) }
+    {
+        let Some(found) = self.found((page / SEGMENT_PAGES as u16) as u8) else {
+            return false;
+        };
+        let segment = &self.segments[found as usize];
+        let page = (page % SEGMENT_PAGES as u16) as u8;
+        if segment.arena() != arena {
+            return false;
+        }
+        if segment.class_of(page).is_some() {
+            return false;
+        }
+        segment.has_vacant(page, class)
+    }
+
+    /// Gives a page without a class this one, and puts it to the front of its queue.
+    fn begin(&mut self, arena: u8, class: Class, page: u16)
+        requires page { page < PAGES }
+        requires blank { is_some_place
+            (blank_on S.number S.records self.old.segments arena class page) ≡ true }
+        ensures begun { Begun S.number S.records class page self.old.segments self.new.segments }
+        ensures class { class_on S.number self.new.segments page ≡ Some class }
+        ensures lists { lists_on S.number self.new.segments page
+            ≡ fresh (blank_on S.number S.records self.old.segments arena class page) }
+        ensures others { KeepsOtherLists S.number page self.old.segments self.new.segments }
+        ensures queues { self.new.queues
+            ≡ requeued (key_of arena (number_of_size class)) page true self.old.queues }
+        ensures queued { Contains
+            (queue_of self.new.queues (key_of arena (number_of_size class))) page }
+    {
+        let Some(found) = self.found((page / SEGMENT_PAGES as u16) as u8) else {
+            unreachable!()
+        };
+        let segment = &mut self.segments[found as usize];
+        segment.assign_page((page % SEGMENT_PAGES as u16) as u8, class);
+        segment.settled();
+        requeue(&mut self.queues, arena, class, page, false);
+    }
+
+    /// Gives out the next place of a page that stands in the queue of the arena and the class. Its
+    /// owner is charged for the block.
+    fn give_out(&mut self, arena: u8, class: Class, page: u16, owner: u8) -> Handle
+        requires page { page < PAGES }
+        requires owner { owner < TENANTS }
+        requires queued { Contains
+            (queue_of self.old.queues (key_of arena (number_of_size class))) page }
+        ensures opened { Opened S.number S.records S.shows S.steps page class owner result
+            self.old.segments self.new.segments }
+        ensures lists { GivenOut S.number S.records arena class page result.place.index
+            self.old.segments self.new.segments }
+        ensures queues { self.new.queues ≡ requeued (key_of arena (number_of_size class)) page
+            (has_place (lists_on S.number self.new.segments page)) self.old.queues }
+    {
+        let Some(found) = self.found((page / SEGMENT_PAGES as u16) as u8) else {
+            unreachable!()
+        };
+        let segment = &mut self.segments[found as usize];
+        let in_segment = (page % SEGMENT_PAGES as u16) as u8;
+        let Some(handle) = segment.open_in(in_segment, owner) else {
+            unreachable!()
+        };
+        segment.settled();
+        let is_full = segment.is_full(in_segment);
+        self.charges.raise(owner, block_bytes(class));
+        requeue(&mut self.queues, arena, class, page, is_full);
+        handle
+    }
+}

@@ -1,0 +1,16 @@
+//! The heap of a worker: the segments that it holds, their places given out by a queue of pages for
+//! each arena and size class.
+#![tactic(auto)]
+
+mod adopting;
+mod allocating;
+mod collecting;
+mod freeing;
+mod heap;
+pub mod laws;
+mod reading;
+mod refused;
+mod requeue;
+
+pub use heap::Heap;
+pub use refused::Refused;

@@ -1,0 +1,5 @@
+mod heaps;
+mod machine;
+mod one_heap;
+mod order;
+mod seeded;

@@ -1,0 +1,385 @@
+//! Thousands of calls on a heap beside two plain models: what may be answered, and the order in
+//! which places are given out.
+
+ghost use Rattle.std.specs.Prelude.{◌<◌};
+ghost use Rattle.hg_place.specs.Lives.{IsLiveWord};
+
+use crate::tests::heaps::{MAIN, Tried, VAULT, fresh};
+use crate::tests::machine::{Machine, page_of};
+use crate::tests::order::{Order, places};
+use hg_heap::Refused;
+use hg_machine::Row;
+use hg_place::{
+    Actor, Handle, PAGE_PLACES, Place, PlainWords, Right, SEGMENT_PAGES, pack, word_generation,
+};
+use hg_segment::Segment;
+use hg_size::{block_words, class_of};
+use std::alloc::Global;
+use std::process::Abort;
+
+/// The greatest generation of the places, and the limits, as `SEEDED` has them.
+pub const GREATEST: u32 = 4;
+
+pub const LIMITS: [u64; 2] = [90000, 9000];
+
+/// Two tenants, two arenas and three segments.
+static SEEDED: &str = "version = 1
+workers = 1
+max_generation = 4
+tenant = [ {name = \"alice\", limit = 90000}, {name = \"bob\", limit = 9000} ]
+arena = [ {name = \"main\", segments = 2},
+  {name = \"vault\", segments = 1, exclusive = [\"alice\"]} ]
+grant = [ {owner = \"alice\", to = \"bob\", rights = [\"read\", \"free\"]},
+  {owner = \"bob\", to = \"alice\", rights = [\"list\", \"write\"]} ]
+";
+
+/// The bytes that are asked for.
+static BYTES: [u64; 9] = [0, 24, 200, 512, 700, 1300, 2000, 4096, 5000];
+
+/// A heap, its models, and the handles that were given out.
+#[derive(Drop)]
+struct Run {
+    tried: Tried,
+    machine: Machine,
+    order: Order,
+    handles: Vec<Handle>,
+}
+
+/// The word of a live block.
+fn live(rt: &impl Abort, generation: u32, owner: u8) -> u64
+    ensures { IsLiveWord result }
+{
+    assert!(rt; generation > 0 && owner < 64);
+    pack(generation, owner, true)
+}
+
+/// A part of a seeded number, below a bound.
+fn pick(number: u64, shift: u32, below: usize) -> usize
+    ensures { 0 < below → result < below }
+{
+    if below == 0 {
+        return 0;
+    }
+    (number >> (shift % 64)) as usize % below
+}
+
+/// An actor: mostly one of the tenants.
+fn actor_of(number: u64) -> Actor {
+    match pick(number, 8, 32) {
+        0 => Actor(2),
+        1 => Actor(255),
+        2..20 => Actor(0),
+        _ => Actor(1),
+    }
+}
+
+/// An arena: mostly that of two segments, now and then none.
+fn arena_of(number: u64) -> u8 {
+    match pick(number, 16, 16) {
+        0 => 2,
+        1..4 => VAULT,
+        _ => MAIN,
+    }
+}
+
+impl Run {
+    fn new(rt: &impl Abort, alloc: Global) -> Run {
+        Run {
+            tried: Tried::new(rt, alloc, SEEDED),
+            machine: Machine::new(rt, alloc, 3),
+            order: Order::new(rt, alloc, 3),
+            handles: Vec::new(alloc),
+        }
+    }
+
+    /// A segment comes.
+    fn adopt(&mut self, rt: &impl Abort, alloc: Global, segment: Segment<PlainWords>) {
+        let (number, arena) = (segment.number(), segment.arena());
+        self.tried.adopt(rt, segment);
+        self.machine.adopt(rt, number, arena);
+        self.order.adopt(rt, alloc, number, arena);
+    }
+
+    /// A block was given out.
+    fn give(&mut self, rt: &impl Abort, alloc: Global, handle: Handle, owner: u8, words: u16) {
+        self.machine.give(rt, alloc, handle, owner, words);
+        self.handles.push(handle).expect(rt, "memory");
+    }
+
+    /// Gives out a block.
+    fn alloc(&mut self, rt: &impl Abort, alloc: Global, number: u64) {
+        let actor = actor_of(number);
+        let arena = arena_of(number);
+        let bytes = BYTES[pick(number, 24, BYTES.len())];
+        let answer = self.tried.alloc(rt, actor, arena, bytes);
+        let words = match self.machine.room_for(rt, actor, arena, bytes) {
+            Err(refused) => {
+                assert_eq!(rt; answer, Err(refused));
+                return;
+            }
+            Ok(words) => words,
+        };
+        assert!(rt; answer.is_ok());
+        let Ok(handle) = answer else {
+            return;
+        };
+        self.machine.check_room(rt, arena, words, handle);
+        let next = self.order.choose(rt, alloc, arena, words);
+        let next = next.expect(rt, "a place");
+        assert_eq!(rt; page_of(handle.place), next.page);
+        assert_eq!(rt; handle.place.index, next.index);
+        assert_eq!(rt; handle.generation, next.generation);
+        self.give(rt, alloc, handle, actor.0, words);
+    }
+
+    /// A handle: of a block that is out, or one that was given out at some time.
+    fn handle(&mut self, rt: &impl Abort, number: u64) -> Option<Handle> {
+        if pick(number, 20, 8) == 0 {
+            let at = pick(number, 32, self.handles.len());
+            return self.handles.get(at).copied();
+        }
+        if self.machine.blocks.is_empty() {
+            return None;
+        }
+        let at = pick(number, 32, self.machine.blocks.len());
+        Some(self.machine.block(rt, at).handle)
+    }
+
+    /// What a call on a handle must be refused for, before its block is reached.
+    fn refusal(
+        &mut self,
+        rt: &impl Abort,
+        actor: Actor,
+        right: Right,
+        handle: Handle,
+    ) -> Option<Refused> {
+        let segment = handle.place.segment;
+        let arena = self.machine.arena_of(rt, segment as usize);
+        assert_eq!(rt; self.tried.heap.holds(segment), arena.is_some());
+        if arena.is_none() {
+            return Some(Refused::Elsewhere);
+        }
+        let rule = self.machine.denial(rt, actor, right, handle)?;
+        Some(Refused::Denied(rule))
+    }
+
+    /// Frees a block.
+    fn free(&mut self, rt: &impl Abort, alloc: Global, number: u64) {
+        let Some(handle) = self.handle(rt, number) else {
+            return;
+        };
+        let actor = actor_of(number);
+        let answer = self.tried.free(actor, handle);
+        if let Some(refused) = self.refusal(rt, actor, Right::Free, handle) {
+            assert_eq!(rt; answer, Err(refused));
+            return;
+        }
+        assert_eq!(rt; answer, Ok(()));
+        let at = self.machine.block_at(handle.place).expect(rt, "a block");
+        assert!(rt; at < self.machine.blocks.len());
+        let _ = self.machine.blocks.swap_remove(at);
+        let place = handle.place;
+        self.order.free(rt, alloc, page_of(place), place.index);
+    }
+
+    /// Reads or writes a word of a block.
+    fn reach(&mut self, rt: &impl Abort, number: u64, is_write: bool) {
+        let Some(handle) = self.handle(rt, number) else {
+            return;
+        };
+        let actor = actor_of(number);
+        let at = self.machine.block_at(handle.place);
+        let many = match at {
+            Some(at) => self.machine.block(rt, at).words.len(),
+            None => 1,
+        };
+        let index = pick(number, 40, many.min(512) + 1) as u32;
+        if is_write {
+            self.write(rt, actor, handle, index, number);
+        } else {
+            self.read(rt, actor, handle, index);
+        }
+    }
+
+    /// Reads a word of a block.
+    fn read(&mut self, rt: &impl Abort, actor: Actor, handle: Handle, index: u32) {
+        let answer = self.tried.read(actor, handle, index);
+        if let Some(refused) = self.refusal(rt, actor, Right::Read, handle) {
+            assert_eq!(rt; answer, Err(refused));
+            return;
+        }
+        let at = self.machine.block_at(handle.place).expect(rt, "a block");
+        match self.machine.block(rt, at).words.get(index as usize) {
+            Some(word) => assert_eq!(rt; answer, Ok(*word)),
+            None => assert_eq!(rt; answer, Err(Refused::OutOfBlock)),
+        }
+    }
+
+    /// Writes a word of a block.
+    fn write(&mut self, rt: &impl Abort, actor: Actor, handle: Handle, index: u32, value: u64) {
+        let answer = self.tried.write(actor, handle, index, value);
+        if let Some(refused) = self.refusal(rt, actor, Right::Write, handle) {
+            assert_eq!(rt; answer, Err(refused));
+            return;
+        }
+        let at = self.machine.block_at(handle.place).expect(rt, "a block");
+        match self.machine.block(rt, at).words.get_mut(index as usize) {
+            Some(word) => {
+                assert_eq!(rt; answer, Ok(()));
+                *word = value;
+            }
+            None => assert_eq!(rt; answer, Err(Refused::OutOfBlock)),
+        }
+    }
+
+    /// Looks at a place of a held segment.
+    fn look(&mut self, rt: &impl Abort, number: u64) {
+        let place = match self.handle(rt, number) {
+            Some(handle) if pick(number, 44, 4) > 0 => handle.place,
+            _ => Place {
+                segment: pick(number, 32, 3) as u8,
+                page: pick(number, 36, SEGMENT_PAGES) as u8,
+                index: pick(number, 40, PAGE_PLACES) as u16,
+            },
+        };
+        if !self.tried.heap.holds(place.segment) {
+            return;
+        }
+        let actor = actor_of(number);
+        let mut shown = 0;
+        let row = self
+            .tried
+            .heap
+            .look(&self.tried.policy, actor, place, &mut shown);
+        let generation = self.machine.generation(rt, place);
+        assert_eq!(rt; word_generation(shown), generation);
+        let handle = Handle {
+            place,
+            generation: generation.max(1),
+        };
+        if self.refusal(rt, actor, Right::List, handle).is_some() {
+            assert_eq!(rt; row, None);
+            return;
+        }
+        let at = self.machine.block_at(place).expect(rt, "a block");
+        let block = self.machine.block(rt, at);
+        let bytes = 8 * block.words.len().min(512) as u32;
+        let owner = block.owner;
+        let expected = Row {
+            handle,
+            owner,
+            bytes,
+        };
+        assert_eq!(rt; row, Some(expected));
+    }
+
+    /// Pages without blocks lose their classes.
+    fn collect(&mut self, rt: &impl Abort, alloc: Global) {
+        let count = self.tried.heap.collect();
+        assert_eq!(rt; count, self.machine.collect(rt));
+        assert_eq!(rt; count, self.order.collect(rt, alloc));
+    }
+
+    /// One call.
+    fn step(&mut self, rt: &impl Abort, alloc: Global, number: u64) {
+        match pick(number, 0, 64) {
+            0 => self.collect(rt, alloc),
+            1..26 => self.alloc(rt, alloc, number),
+            26..46 => self.free(rt, alloc, number),
+            46..52 => self.reach(rt, number, false),
+            52..58 => self.reach(rt, number, true),
+            _ => self.look(rt, number),
+        }
+        assert_eq!(rt; self.tried.heap.charge(0), self.machine.charge(rt, 0));
+        assert_eq!(rt; self.tried.heap.charge(1), self.machine.charge(rt, 1));
+    }
+
+    /// Many calls, from a seed; the last number.
+    fn steps(&mut self, rt: &impl Abort, alloc: Global, seed: u64, many: u16) -> u64 {
+        let mut random = seed;
+        for _ in 0..many {
+            random = random
+                .wrapping_mul(6364136223846793005)
+                .wrapping_add(1442695040888963407);
+            self.step(rt, alloc, random >> 16);
+        }
+        random
+    }
+
+    /// Segment 1 with pages of three classes, as another heap left it: of two pages all blocks are
+    /// out, of two others some, and some are home again.
+    fn used(&mut self, rt: &impl Abort, alloc: Global) -> Segment<PlainWords> {
+        let mut segment = fresh(rt, alloc, &self.tried.policy, 1);
+        self.use_page(rt, alloc, &mut segment, 1, 25, 9);
+        self.use_page(rt, alloc, &mut segment, 3, 512, 1);
+        self.use_page(rt, alloc, &mut segment, 4, 25, 512);
+        self.use_page(rt, alloc, &mut segment, 6, 3, 50);
+        segment
+    }
+
+    /// Gives a page of a segment a class, and gives some places out; each third comes home.
+    fn use_page(
+        &mut self,
+        rt: &impl Abort,
+        alloc: Global,
+        segment: &mut Segment<PlainWords>,
+        page: u8,
+        words: u16,
+        many: u16,
+    ) {
+        assert!(rt; (page as usize) < SEGMENT_PAGES && segment.class_of(page).is_none());
+        let class = class_of(u64::from(words)).expect(rt, "a class");
+        let words = block_words(class);
+        let number = SEGMENT_PAGES + page as usize;
+        segment.assign_page(page, class);
+        self.machine.set_class(rt, number, words);
+        self.order.page(rt, number).assign(rt, words);
+        for _ in 0..many.min(places(words)) {
+            let handle = segment.open_in(page, 1).expect(rt, "a place");
+            let _ = self.order.page(rt, number).take(rt);
+            self.give(rt, alloc, handle, 1, words);
+            if handle.place.index % 3 == 1 && many < 512 {
+                self.end_life(rt, segment, handle);
+            }
+        }
+    }
+
+    /// The newest block comes home to a segment that isn't held yet.
+    fn end_life(&mut self, rt: &impl Abort, segment: &mut Segment<PlainWords>, handle: Handle) {
+        let place = handle.place;
+        assert!(rt; segment.number() == place.segment);
+        let word = live(rt, handle.generation, 1);
+        assert_eq!(rt; segment.close_here(place, word), Ok(()));
+        assert!(rt; self.machine.blocks.pop().is_some());
+        self.order
+            .page(rt, page_of(place))
+            .give_back(rt, place.index);
+    }
+}
+
+/// A run from a seed, during which segments come.
+fn run_from(rt: &impl Abort, alloc: Global, seed: u64) {
+    let mut run = Run::new(rt, alloc);
+    let seed = run.steps(rt, alloc, seed, 20);
+    let segment = fresh(rt, alloc, &run.tried.policy, 0);
+    run.adopt(rt, alloc, segment);
+    let seed = run.steps(rt, alloc, seed, 800);
+    let segment = run.used(rt, alloc);
+    run.adopt(rt, alloc, segment);
+    let seed = run.steps(rt, alloc, seed, 800);
+    let segment = fresh(rt, alloc, &run.tried.policy, 2);
+    run.adopt(rt, alloc, segment);
+    run.steps(rt, alloc, seed, 2400);
+    let heap = &run.tried.heap;
+    assert!(rt; heap.holds(0) && heap.holds(1) && heap.holds(2));
+    assert_eq!(rt; heap.arena(0), MAIN);
+    assert_eq!(rt; heap.arena(2), VAULT);
+    assert_eq!(rt; heap.greatest(1), GREATEST);
+}
+
+// A heap does as its models do.
+#[test]
+fn heap_as_models(rt: HostRuntime) {
+    run_from(&rt, rt.alloc(), 7);
+    run_from(&rt, rt.alloc(), 2026);
+}

@@ -1,9 +1,0 @@
-use Rattle.std.proofs.Common.{◌≡◌, vec_len, vec_capacity, replicate}
-use Rattle.hg_place.proofs.filled.copies.Given as goal
-
-abbrev pub invariant-loop : goal.invariant-loop
-invariant-loop g l = record {
-  items : l.all.items ≡ replicate l.counter l.value;
-  len : vec_len l.all ≡ l.counter;
-  room : vec_capacity l.all ≡ l.count;
-}

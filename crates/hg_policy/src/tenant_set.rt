@@ -1,0 +1,41 @@
+//! Sets of tenants.
+
+ghost use Rattle.std.specs.Prelude.{◌≡◌, ◌==◌, ◌<◌, ◌||◌, ℕ, true, false};
+ghost use Rattle.hg_policy.specs.TenantSets.{has_tenant};
+
+/// A set of tenants, one bit for each of up to 64.
+#[derive(Clone, Copy, Debug, PartialEq, Eq)]
+pub(crate) struct TenantSet(u64);
+
+impl TenantSet {
+    /// No tenant.
+    pub(crate) fn none() -> TenantSet
+        ensures { (tenant : ℕ) → has_tenant result tenant ≡ false }
+    {
+        TenantSet(0)
+    }
+
+    /// Each of 64 tenants.
+    pub(crate) fn each() -> TenantSet
+        ensures { (tenant : ℕ) → tenant < 64 → has_tenant result tenant ≡ true }
+    {
+        TenantSet(u64::MAX)
+    }
+
+    /// The set with one tenant more.
+    pub(crate) fn with(self, tenant: u8) -> TenantSet
+        requires { tenant < 64 }
+        ensures { (other : ℕ) →
+            has_tenant result other ≡ (has_tenant self other || tenant == other) }
+    {
+        TenantSet(self.0 | 1 << tenant)
+    }
+
+    /// Whether the set has a tenant.
+    pub(crate) fn has(self, tenant: u8) -> bool
+        requires { tenant < 64 }
+        ensures { result ≡ has_tenant self tenant }
+    {
+        self.0 >> tenant & 1 == 1
+    }
+}

@@ -1,0 +1,9 @@
+mod Retained
+mod Risings
+mod ShownLemmas
+mod Keeping
+mod Found
+mod Calls
+mod Puts
+mod Nexts
+mod Placed

@@ -1,0 +1,13 @@
+//! The pool of the segments that nobody holds: orphans, oldest first, and fresh ones.
+#![tactic(auto)]
+
+pub mod laws;
+mod numbers;
+mod pool;
+
+pub use pool::Pool;
+
+#[cfg(test)]
+mod seeded;
+#[cfg(test)]
+mod tests;

@@ -1,0 +1,114 @@
+use crate::Pool;
+use hg_place::{MAX_SEGMENTS, Place, PlainWords, Standing};
+use hg_segment::Segment;
+use hg_size::class_of;
+use std::alloc::Global;
+use std::process::Abort;
+
+/// A segment whose places have the greatest generation 9 and its number.
+pub fn segment(rt: &impl Abort, alloc: Global, number: u8, arena: u8) -> Segment<PlainWords> {
+    assert!(rt; (number as usize) < MAX_SEGMENTS);
+    let slots = PlainWords::new(alloc, number).expect(rt, "memory");
+    let greatest = 9 + u32::from(number);
+    Segment::new(alloc, number, arena, greatest, slots).expect(rt, "memory")
+}
+
+/// Puts a segment with the fresh ones, or behind the orphans.
+pub fn put(rt: &impl Abort, pool: &mut Pool<PlainWords>, segment: Segment<PlainWords>, held: bool) {
+    let number = segment.number();
+    assert!(rt; (number as usize) < MAX_SEGMENTS);
+    if pool.has(number) {
+        panic!(rt; "segment {number} is there already");
+    }
+    if held {
+        pool.put_orphan(segment);
+    } else {
+        pool.put_fresh(segment);
+    }
+}
+
+/// The number of the segment of an arena that comes next.
+pub fn next(pool: &mut Pool<PlainWords>, arena: u8) -> Option<u8> {
+    Some(pool.next_of(arena)?.number())
+}
+
+// Orphans go before fresh ones, the oldest first, and fresh ones by number; each arena has its own.
+#[test]
+fn pool_order(rt: HostRuntime) {
+    let mut pool = Pool::new(rt.alloc()).expect(&rt, "memory");
+    for (number, arena, held) in [(9, 1, false), (3, 1, false), (63, 2, false), (5, 1, true)] {
+        put(
+            &rt,
+            &mut pool,
+            segment(&rt, rt.alloc(), number, arena),
+            held,
+        );
+    }
+    put(&rt, &mut pool, segment(&rt, rt.alloc(), 0, 2), true);
+    put(&rt, &mut pool, segment(&rt, rt.alloc(), 4, 1), true);
+    assert_eq!(&rt; next(&mut pool, 0), None);
+    assert_eq!(&rt; next(&mut pool, 1), Some(5));
+    assert!(&rt; !pool.has(5));
+    assert!(&rt; pool.has(4));
+    assert_eq!(&rt; next(&mut pool, 1), Some(4));
+    assert_eq!(&rt; next(&mut pool, 1), Some(3));
+    assert_eq!(&rt; next(&mut pool, 1), Some(9));
+    assert_eq!(&rt; next(&mut pool, 1), None);
+    assert!(&rt; pool.pick(63).is_some());
+    assert!(&rt; pool.pick(63).is_none());
+    assert_eq!(&rt; next(&mut pool, 2), Some(0));
+    assert_eq!(&rt; next(&mut pool, 2), None);
+}
+
+// A segment is told of while it is there, and is as it was when it is taken.
+#[test]
+fn pool_keeps_segments(rt: HostRuntime) {
+    let mut pool = Pool::new(rt.alloc()).expect(&rt, "memory");
+    let mut held = segment(&rt, rt.alloc(), 7, 3);
+    let class = class_of(512).expect(&rt, "a class");
+    assert!(&rt; held.class_of(2).is_none());
+    held.assign_page(2, class);
+    let handle = held.open_in(2, 5).expect(&rt, "a place");
+    put(&rt, &mut pool, held, true);
+    assert!(&rt; pool.has(7));
+    tells(&rt, &pool, handle.place);
+    let mut taken = pool.next_of(3).expect(&rt, "the segment");
+    assert_eq!(&rt; taken.class_of(2), Some(class));
+    assert_eq!(&rt; taken.charge(5), 4096);
+    assert!(&rt; taken.open_in(2, 5).is_none());
+}
+
+/// What the pool tells of the segment of this place, which is open, as the first one isn't.
+fn tells(rt: &impl Abort, pool: &Pool<PlainWords>, place: Place) {
+    let segment = place.segment;
+    if !pool.has(segment) {
+        panic!(rt; "segment {segment} isn't there");
+    }
+    assert_eq!(rt; pool.arena(segment), 3);
+    assert_eq!(rt; pool.greatest(segment), 16);
+    assert_eq!(rt; pool.standing(place), Standing::Open(1, 5));
+    let home = Place {
+        segment,
+        page: 0,
+        index: 0,
+    };
+    assert_eq!(rt; pool.standing(home), Standing::Home(0));
+}
+
+// The pool is there, or memory was refused: for a run in which requests are refused in turn.
+#[test]
+fn pool_refused_in_turn(rt: HostRuntime) {
+    let Ok(mut pool) = Pool::new(rt.alloc()) else {
+        return;
+    };
+    assert!(&rt; !pool.has(63));
+    let Ok(slots) = PlainWords::new(rt.alloc(), 63) else {
+        return;
+    };
+    if let Ok(segment) = Segment::new(rt.alloc(), 63, 1, 9, slots) {
+        put(&rt, &mut pool, segment, false);
+        assert!(&rt; pool.has(63));
+        assert_eq!(&rt; next(&mut pool, 1), Some(63));
+        assert!(&rt; !pool.has(63));
+    }
+}

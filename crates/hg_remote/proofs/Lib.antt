@@ -1,0 +1,7 @@
+mod RemoteBy
+mod Delayed
+mod Sent
+mod Drained
+mod Kept
+mod Calls
+mod DrainLaws

@@ -1,0 +1,4 @@
+pub mod Remote
+pub mod Sends
+pub mod RemoteLaws
+pub mod Kept

@@ -1,0 +1,187 @@
+-- Splits and joins keep the life rule.
+use Rattle.std.proofs.Common.{◌≡◌, ◌≢◌, ◌⊎◌, ℕ, zero, suc, ◌+◌, ◌<◌, List, [], ◌∷◌, ◌++◌, map, take, drop, length, get_or, set, sym, refl, ap, ◌∙◌, subst, inl, inr, ⊎_elim, arith, length-take, length-drop, get_or-take, get_or-drop}
+use mathlib.Core.Option.{some, some-injective, some-ne-none}
+use lib.ListN.{get_elem?}
+use Rattle.atomic_table.specs.Table.{Splits, Joins}
+use Rattle.atomic_table.proofs.Lists.{at_set, set_else}
+use Rattle.hg_place.specs.declared.standing.Standing.{Standing}
+use Rattle.hg_place.specs.declared.standing.Standing.TheVariants.{Home}
+use Rattle.hg_place.specs.declared.geometry.TheConstants.{SEGMENT_PLACES}
+use Rattle.hg_place.specs.Standings.{standing_at, Fits}
+use Rattle.hg_table.specs.declared.view.Part.{Part}
+use Rattle.hg_table.specs.View.{View, Table, Has, blank, part_of, first_records, later_records}
+use Rattle.hg_table.specs.LifeRule.{LifeRule}
+use Rattle.hg_table.specs.Told.{AreApart}
+use Rattle.hg_table.specs.Steps.{Cut, second_part, first_segment, nothing, kept_by, given_by, MayCut}
+use Rattle.hg_table.proofs.Knowing.{Knows, known}
+
+-- b knows no more than a, and its records are records of a
+pub record From (a b : Part) : Type 0 where
+  pub seen : (k p w : ℕ) → get_elem? b.seen k ≡ some (p, w) → (l : ℕ) × (get_elem? a.seen l ≡ some (p, w))
+  pub ended : (k p g : ℕ) → get_elem? b.ended k ≡ some (p, g) → (l : ℕ) × (get_elem? a.ended l ≡ some (p, g))
+  pub recorded : (k : ℕ) → k < length b.records → (l : ℕ) × (l < length a.records) × (a.first + l ≡ b.first + k) × (standing_at b.records k ≡ standing_at a.records l)
+
+pub whole : (a : Part) → From a a
+whole a = record { seen = λ k p w e. (k, e); ended = λ k p g e. (k, e); recorded = λ k l. (k, l, refl, refl) }
+
+knows_less : (ws : List ℕ) (a b : Part) → From a b → Knows ws a → Knows ws b
+knows_less ws a b f k = record {
+  seen = λ n p w e. let t = f.seen n p w e in k.seen t.0 p w t.1;
+  ended = λ n p g e. let t = f.ended n p g e in k.ended t.0 p g t.1;
+  recorded = λ n l. let t = f.recorded n l in subst (λ (x : Standing). Fits x (get_or ws (b.first + n) 0)) (sym t.3) (subst (λ (x : ℕ). Fits (standing_at a.records t.0) (get_or ws x 0)) t.2 (k.recorded t.0 t.1));
+}
+
+-- W i0 j0 i j b says how the part b, which stands at i, j now, came from one that stood at i0, j0
+module _ (n : ℕ) (s : Table) (r : LifeRule n s) (views' : List View) (W : ℕ → ℕ → ℕ → ℕ → Part → Type 0)
+    (cases : (i j : ℕ) (b : Part) → Has views' i j b → (i0 : ℕ) × (j0 : ℕ) × (a : Part) × Has s.views i0 j0 a × From a b × W i0 j0 i j b)
+    (unique : (i0 j0 i j i' j' : ℕ) (a b : Part) → W i0 j0 i j a → W i0 j0 i' j' b → (¬ AreApart a b) → (i ≡ i') × (j ≡ j')) where
+  still_known : (i j : ℕ) (b : Part) → Has views' i j b → Knows s.words b
+  still_known i j b has = let o = cases i j b has in knows_less s.words o.2 b o.4 (known n s r o.0 o.1 o.2 o.3)
+
+  pub reshaped : LifeRule n record { words = s.words; homes = s.homes; views = views' }
+  reshaped = record {
+    all_words = r.all_words;
+    spare = r.spare;
+    well_formed = r.well_formed;
+    seen_is_past = λ i j b has. (still_known i j b has).seen;
+    ended_is_over = λ i j b has. (still_known i j b has).ended;
+    records_are_true = λ i j b has. (still_known i j b has).recorded;
+    ended_once = λ i j k i' j' k' p g a b ha hb ea eb. let o = cases i j a ha in let o' = cases i' j' b hb in let t = o.4.ended k p g ea in let t' = o'.4.ended k' p g eb in
+        let e = r.ended_once o.0 o.1 t.0 o'.0 o'.1 t'.0 p g o.2 o'.2 o.3 o'.3 t.1 t'.1 in
+        unique o.0 o.1 i j i' j' a b o.5 (subst (λ (z : ℕ × ℕ). W z.0 z.1 i' j' b) (λ i. (sym e.0 i, sym e.1 i)) o'.5) (λ apart. apart.ended k k' p g ea eb);
+    one_view = λ i j k i' j' k' a b ha hb la lb e. let o = cases i j a ha in let o' = cases i' j' b hb in let t = o.4.recorded k la in let t' = o'.4.recorded k' lb in
+        let f = r.one_view o.0 o.1 t.0 o'.0 o'.1 t'.0 o.2 o'.2 o.3 o'.3 t.1 t'.1 (t.2 ∙ (e ∙ sym t'.2)) in
+        unique o.0 o.1 i j i' j' a b o.5 (subst (λ (z : ℕ × ℕ). W z.0 z.1 i' j' b) (λ i. (sym f.0 i, sym f.1 i)) o'.5) (λ apart. apart.records k k' la lb e);
+  }
+
+at_end : {A : Type 0} (l : List A) (a b : A) (j : ℕ) → get_elem? (l ++ a ∷ []) j ≡ some b → (get_elem? l j ≡ some b) ⊎ ((j ≡ length l) × (a ≡ b))
+at_end [] a b zero e = inr (refl, some-injective a b e)
+at_end [] a b (suc j) e = absurd (some-ne-none b (sym e))
+at_end (x ∷ xs) a b zero e = inl e
+at_end (x ∷ xs) a b (suc j) e = ⊎_elim inl (λ (t : (j ≡ length xs) × (a ≡ b)). inr (ap suc t.0, t.1)) (at_end xs a b j e)
+
+pub at_one : {A : Type 0} (a b : A) (j : ℕ) → get_elem? (a ∷ []) j ≡ some b → (j ≡ 0) × (a ≡ b)
+at_one a b zero e = (refl, some-injective a b e)
+at_one a b (suc j) e = absurd (some-ne-none b (sym e))
+
+apart_flips : (a b : Part) → AreApart a b → AreApart b a
+apart_flips a b x = record { ended = λ k l p g e f. x.ended l k p g f e; records = λ k l m m' e. x.records l k m' m (sym e) }
+
+-- the view is cut in the part x, which is from its part l, and the part y, which is from its part m
+module _ (n id : ℕ) (view : View) (x y a a' : Part) (l m : ℕ) (al : get_elem? view l ≡ some a) (am : get_elem? view m ≡ some a') (fx : From a x) (fy : From a' y) (apart : AreApart x y) where
+  pub splits : Splits (LifeRule n) id view (x ∷ []) (y ∷ [])
+  splits s r at =
+      let one : List View = set s.views id (x ∷ []) in let views' : List View = one ++ (y ∷ []) ∷ [] in
+      let Left : ℕ → ℕ → ℕ → ℕ → Part → Type 0 = λ i0 j0 i j b. (i0 ≡ id) × (i ≡ id) × (j ≡ 0) × (x ≡ b) in
+      let Right : ℕ → ℕ → ℕ → ℕ → Part → Type 0 = λ i0 j0 i j b. (i0 ≡ id) × (i ≡ length one) × (j ≡ 0) × (y ≡ b) in
+      let Other : ℕ → ℕ → ℕ → ℕ → Part → Type 0 = λ i0 j0 i j b. (i0 ≢ id) × (i ≡ i0) × (j ≡ j0) in
+      let W : ℕ → ℕ → ℕ → ℕ → Part → Type 0 = λ i0 j0 i j b. Left i0 j0 i j b ⊎ (Right i0 j0 i j b ⊎ Other i0 j0 i j b) in
+      let both : (b c : Part) → x ≡ b → y ≡ c → AreApart b c = λ b c e f. subst (λ (z : Part). AreApart z c) e (subst (AreApart x) f apart) in
+      reshaped n s r views' W
+      (λ i j b has. ⊎_elim
+      (λ (e : get_elem? one i ≡ some has.0). ⊎_elim
+      (λ (t : (i ≡ id) × ((x ∷ []) ≡ has.0)). let o = at_one x b j (subst (λ (z : View). get_elem? z j ≡ some b) (sym t.1) has.2) in
+      (id, l, a, (view, at, al), subst (From a) o.1 fx, inl (refl, t.0, o.0, o.1)))
+      (λ (t : (i ≢ id) × (get_elem? s.views i ≡ some has.0)). (i, j, b, (has.0, t.1, has.2), whole b, inr (inr (t.0, refl, refl)))) (at_set s.views id i (x ∷ []) has.0 e))
+      (λ (t : (i ≡ length one) × ((y ∷ []) ≡ has.0)). let o = at_one y b j (subst (λ (z : View). get_elem? z j ≡ some b) (sym t.1) has.2) in
+      (id, m, a', (view, at, am), subst (From a') o.1 fy, inr (inl (refl, t.0, o.0, o.1))))
+      (at_end one (y ∷ []) has.0 i has.1))
+      (λ i0 j0 i j i' j' b c w w' not. ⊎_elim
+      (λ (t : Left i0 j0 i j b). ⊎_elim
+      (λ (t' : Left i0 j0 i' j' c). (t.1 ∙ sym t'.1, t.2 ∙ sym t'.2))
+      (⊎_elim (λ (t' : Right i0 j0 i' j' c). absurd (not (both b c t.3 t'.3))) (λ (t' : Other i0 j0 i' j' c). absurd (t'.0 t.0))) w')
+      (⊎_elim
+      (λ (t : Right i0 j0 i j b). ⊎_elim
+      (λ (t' : Left i0 j0 i' j' c). absurd (not (apart_flips c b (both c b t'.3 t.3))))
+      (⊎_elim (λ (t' : Right i0 j0 i' j' c). (t.1 ∙ sym t'.1, t.2 ∙ sym t'.2)) (λ (t' : Other i0 j0 i' j' c). absurd (t'.0 t.0))) w')
+      (λ (t : Other i0 j0 i j b). ⊎_elim
+      (λ (t' : Left i0 j0 i' j' c). absurd (t.0 t'.0))
+      (⊎_elim (λ (t' : Right i0 j0 i' j' c). absurd (t.0 t'.0)) (λ (t' : Other i0 j0 i' j' c). (t.1 ∙ sym t'.1, t.2 ∙ sym t'.2))) w'))
+      w)
+
+-- a seat takes in another's one part
+at_two : (x y b : Part) (j : ℕ) → get_elem? (x ∷ y ∷ []) j ≡ some b → ((j ≡ 0) × (x ≡ b)) ⊎ ((j ≡ 1) × (y ≡ b))
+at_two x y b zero e = inl (refl, some-injective x b e)
+at_two x y b (suc zero) e = inr (refl, some-injective y b e)
+at_two x y b (suc (suc j)) e = absurd (some-ne-none b (sym e))
+
+at_none : (b : Part) (j : ℕ) (v : View) → [] ≡ v → get_elem? v j ≡ some b → ⊥
+at_none b j v is e = some-ne-none b (sym (subst (λ (z : View). get_elem? z j ≡ some b) (sym is) e))
+
+module _ (n id other : ℕ) (x y : Part) where
+  pub joins : Joins (LifeRule n) id (x ∷ []) other (y ∷ []) (x ∷ y ∷ []) []
+  joins s r at differ at' =
+      let one : List View = set s.views id (x ∷ y ∷ []) in let views' : List View = set one other [] in
+      let theirs : get_elem? s.views other ≡ some (y ∷ []) = sym (set_else s.views id other (x ∷ y ∷ []) differ) ∙ at' in
+      let Left : ℕ → ℕ → ℕ → ℕ → Part → Type 0 = λ i0 j0 i j b. (i0 ≡ id) × (i ≡ id) × (j ≡ 0) in
+      let Right : ℕ → ℕ → ℕ → ℕ → Part → Type 0 = λ i0 j0 i j b. (i0 ≡ other) × (i ≡ id) × (j ≡ 1) in
+      let Other : ℕ → ℕ → ℕ → ℕ → Part → Type 0 = λ i0 j0 i j b. ((i0 ≢ id) × (i0 ≢ other)) × (i ≡ i0) × (j ≡ j0) in
+      let W : ℕ → ℕ → ℕ → ℕ → Part → Type 0 = λ i0 j0 i j b. Left i0 j0 i j b ⊎ (Right i0 j0 i j b ⊎ Other i0 j0 i j b) in
+      reshaped n s r views' W
+      (λ i j b has. ⊎_elim
+      (λ (t : (i ≡ other) × ([] ≡ has.0)). absurd (at_none b j has.0 t.1 has.2))
+      (λ (u : (i ≢ other) × (get_elem? one i ≡ some has.0)). ⊎_elim
+      (λ (t : (i ≡ id) × ((x ∷ y ∷ []) ≡ has.0)). ⊎_elim
+      (λ (o : (j ≡ 0) × (x ≡ b)). (id, 0, x, (x ∷ [], at, refl), subst (From x) o.1 (whole x), inl (refl, t.0, o.0)))
+      (λ (o : (j ≡ 1) × (y ≡ b)). (other, 0, y, (y ∷ [], theirs, refl), subst (From y) o.1 (whole y), inr (inl (refl, t.0, o.0))))
+      (at_two x y b j (subst (λ (z : View). get_elem? z j ≡ some b) (sym t.1) has.2)))
+      (λ (t : (i ≢ id) × (get_elem? s.views i ≡ some has.0)). (i, j, b, (has.0, t.1, has.2), whole b, inr (inr ((t.0, u.0), refl, refl)))) (at_set s.views id i (x ∷ y ∷ []) has.0 u.1))
+      (at_set one other i [] has.0 has.1))
+      (λ i0 j0 i j i' j' b c w w' not. ⊎_elim
+      (λ (t : Left i0 j0 i j b). ⊎_elim
+      (λ (t' : Left i0 j0 i' j' c). (t.1 ∙ sym t'.1, t.2 ∙ sym t'.2))
+      (⊎_elim (λ (t' : Right i0 j0 i' j' c). absurd (differ (sym t'.0 ∙ t.0))) (λ (t' : Other i0 j0 i' j' c). absurd (t'.0.0 t.0))) w')
+      (⊎_elim
+      (λ (t : Right i0 j0 i j b). ⊎_elim
+      (λ (t' : Left i0 j0 i' j' c). absurd (differ (sym t.0 ∙ t'.0)))
+      (⊎_elim (λ (t' : Right i0 j0 i' j' c). (t.1 ∙ sym t'.1, t.2 ∙ sym t'.2)) (λ (t' : Other i0 j0 i' j' c). absurd (t'.0.1 t.0))) w')
+      (λ (t : Other i0 j0 i j b). ⊎_elim
+      (λ (t' : Left i0 j0 i' j' c). absurd (t.0.0 t'.0))
+      (⊎_elim (λ (t' : Right i0 j0 i' j' c). absurd (t.0.1 t'.0)) (λ (t' : Other i0 j0 i' j' c). (t.1 ∙ sym t'.1, t.2 ∙ sym t'.2))) w'))
+      w)
+
+-- the parts of one view are apart
+pub are_apart : (n : ℕ) (s : Table) → LifeRule n s → (id : ℕ) (view : View) → get_elem? s.views id ≡ some view
+    → (j k : ℕ) (a b : Part) → get_elem? view j ≡ some a → get_elem? view k ≡ some b → j ≢ k → AreApart a b
+are_apart n s r id view at j k a b ea eb differ = record {
+  ended = λ x y q g e f. differ (r.ended_once id j x id k y q g a b (view, at, ea) (view, at, eb) e f).1;
+  records = λ x y lx ly e. differ (r.one_view id j x id k y a b (view, at, ea) (view, at, eb) lx ly e).1;
+}
+
+module _ (size : ℕ) (a : Part) where
+  first_from : From a (first_records size a)
+  first_from = record {
+    seen = λ k p w e. absurd (some-ne-none (p, w) (sym e));
+    ended = λ k p g e. absurd (some-ne-none (p, g) (sym e));
+    recorded = λ k l. let m = length-take size a.records in (k, omega arith, refl, get_or-take size a.records k (Home 0) (omega arith));
+  }
+
+  later_from : From a (later_records size a)
+  later_from = record {
+    seen = λ k p w e. (k, e);
+    ended = λ k p g e. (k, e);
+    recorded = λ k l. let m = length-drop size a.records in (size + k, omega arith, omega arith, get_or-drop size a.records k (Home 0));
+  }
+
+  cut_apart : AreApart (later_records size a) (first_records size a)
+  cut_apart = record {
+    ended = λ k l p g e f. some-ne-none (p, g) (sym f);
+    records = λ k l lk ll e. let m = length-take size a.records in omega arith;
+  }
+
+-- each cut of a view
+pub cuts : (n id : ℕ) (cut : Cut) (view : View) → MayCut cut view → Splits (LifeRule n) id view (kept_by cut view) (given_by cut view)
+cuts n id second_part view may s r at =
+    let apart : AreApart may.0 may.1 = are_apart n s r id view at 0 1 may.0 may.1 (ap (λ (z : View). get_elem? z 0) may.2) (ap (λ (z : View). get_elem? z 1) may.2) (λ z. omega arith) in
+    subst (λ (z : View). Splits (LifeRule n) id z (take 1 z) (drop 1 z)) (sym may.2)
+    (splits n id (may.0 ∷ may.1 ∷ []) may.0 may.1 may.0 may.1 0 1 refl refl (whole may.0) (whole may.1) apart) s r at
+cuts n id first_segment view one s r at = let a : Part = part_of view in let size : ℕ = SEGMENT_PLACES in
+    subst (λ (z : View). Splits (LifeRule n) id z (map (later_records size) z) (map (first_records size) z)) (sym one)
+    (splits n id (a ∷ []) (later_records size a) (first_records size a) a a 0 0 refl refl (later_from size a) (first_from size a) (cut_apart size a)) s r at
+cuts n id nothing view one s r at = let a : Part = part_of view in subst (λ (z : View). Splits (LifeRule n) id z z (blank ∷ [])) (sym one)
+    (splits n id (a ∷ []) a blank a a 0 0 refl refl (whole a)
+    record { seen = λ k p w e. absurd (some-ne-none (p, w) (sym e)); ended = λ k p g e. absurd (some-ne-none (p, g) (sym e)); recorded = λ k l. absurd (omega arith) }
+    record { ended = λ k l p g e f. some-ne-none (p, g) (sym f); records = λ k l lk ll e. absurd (omega arith) }) s r at
+
+pub joins_as : (n id other : ℕ) (v w : View) → v ≡ part_of v ∷ [] → w ≡ part_of w ∷ [] → Joins (LifeRule n) id v other w (v ++ w) []
+joins_as n id other v w one one' = subst (λ (z : View × View). Joins (LifeRule n) id z.0 other z.1 (z.0 ++ z.1) []) (λ i. (sym one i, sym one' i)) (joins n id other (part_of v) (part_of w))

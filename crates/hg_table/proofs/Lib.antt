@@ -1,0 +1,10 @@
+pub mod Knowing
+pub mod Forward
+pub mod WordSteps
+pub mod Cuts
+pub mod Allowed
+pub mod Told
+pub mod Meeting
+pub mod Initial
+pub mod Owned
+pub mod LifeLaws

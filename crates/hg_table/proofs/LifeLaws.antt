@@ -1,0 +1,95 @@
+-- What holds of each table that steps lead to.
+use Rattle.std.proofs.Common.{◌≡◌, ℕ, zero, suc, ◌+◌, ◌-◌, ◌<◌, ◌==◌, if◌then◌else◌, Bool, List, get_or, replicate, sym, refl, ap, ◌∙◌, subst, arith, eq-eqb, ne_eqb}
+use Rattle.std.proofs.Math.ListN.{length-replicate}
+use mathlib.Core.Logic.{dite}
+use mathlib.Core.Option.{some}
+use native.Mathlib.Decide.{ℕ_discrete}
+use lib.ListN.{get_elem?}
+use Rattle.atomic_table.proofs.Lists.{set_else}
+use Rattle.hg_place.specs.Lives.{IsAtOrBefore, IsLiveWord}
+use Rattle.hg_table.specs.View.{View, Table}
+use Rattle.hg_table.specs.LifeRule.{LifeRule}
+use Rattle.hg_table.specs.Steps.{WordStep, look, open_as, close_from, part_from, take_home, left_by, MayMake, Kind, at_word, split, join, Makes, Steps}
+use Rattle.hg_table.specs.LifeLaws.{new_table, LeadTo, none, next, StepsKeepTheRule, WordsGoForward, EndedStaysEnded, EndedByOneSeat, SeenIsNeverAhead, RecordsHold}
+use Rattle.hg_table.proofs.Knowing.{itself, between, over_after}
+use Rattle.hg_table.proofs.Forward.{word_at_set}
+use Rattle.hg_table.proofs.WordSteps.{freed_word_after, keeps_rule, opened_forward}
+use Rattle.hg_table.proofs.Cuts.{cuts, joins_as}
+use Rattle.hg_table.proofs.Initial.{opens_table}
+
+all_zero : (n i : ℕ) → get_or (replicate {A = ℕ} n 0) i 0 ≡ 0
+all_zero zero i = refl
+all_zero (suc n) zero = refl
+all_zero (suc n) (suc i) = all_zero n i
+
+pub begins : (places : ℕ) → LifeRule places (new_table places)
+begins places = opens_table places (replicate (places + 1) 0) (length-replicate (places + 1) 0) (all_zero (places + 1))
+
+made : (places : ℕ) (s t : Table) → LifeRule places s → (kind : Kind) (id : ℕ) (view : View) → get_elem? s.views id ≡ some view → Makes kind id view s t → LifeRule places t
+made places s t r (at_word step at) id view here m = let wide = r.all_words in subst (LifeRule places) (sym m.2) (keeps_rule places s r at id view here (omega (arith, m.0)) step m.1)
+made places s t r (split cut) id view here m = subst (LifeRule places) (sym m.1) (cuts places id cut view m.0 s r here)
+made places s t r (join other) id view here m = subst (LifeRule places) (sym m.5)
+    (joins_as places id other view m.0 m.3 m.4 s r here m.2 (set_else s.views id other _ m.2 ∙ m.1))
+
+pub kept : (places : ℕ) (s t : Table) → LifeRule places s → Steps s t → LifeRule places t
+kept places s t r m = made places s t r m.0 m.1 m.2 m.3 m.4
+
+pub rule_kept : StepsKeepTheRule
+rule_kept = record { begins = begins; kept = kept }
+
+pub reached : (places : ℕ) (s t : Table) → LifeRule places s → LeadTo s t → LifeRule places t
+reached places s t r none = r
+reached places s t r (next {after = u} m more) = reached places u t (kept places s u r m) more
+
+-- an exchange goes forward
+exchanged : (w old : ℕ) → IsLiveWord old → IsAtOrBefore w (if w == old then old - 1 else w)
+exchanged w old live = dite (ℕ_discrete w old)
+    (λ hit. subst (λ (b : Bool). IsAtOrBefore w (if b then old - 1 else w)) (sym (eq-eqb w old hit)) (subst (λ (z : ℕ). IsAtOrBefore z (old - 1)) (sym hit) (freed_word_after old live).0))
+    (λ miss. subst (λ (b : Bool). IsAtOrBefore w (if b then old - 1 else w)) (sym (ne_eqb w old miss)) (itself w))
+
+forward : (places : ℕ) (s : Table) → LifeRule places s → (at id : ℕ) (view : View) → get_elem? s.views id ≡ some view → at < places + 1 → (step : WordStep) → MayMake step at view
+    → IsAtOrBefore (get_or s.words at 0) (left_by step (get_or s.words at 0))
+forward places s r at id view here below look may = itself _
+forward places s r at id view here below (open_as live) may = opened_forward places s r at id view here below live may
+forward places s r at id view here below (close_from old) may = exchanged _ old may.1
+forward places s r at id view here below (part_from old) may = exchanged _ old may.1
+forward places s r at id view here below take_home may = itself _
+
+same_words : (s t : Table) (at : ℕ) → t.words ≡ s.words → IsAtOrBefore (get_or s.words at 0) (get_or t.words at 0)
+same_words s t at e = subst (λ (l : List ℕ). IsAtOrBefore (get_or s.words at 0) (get_or l at 0)) (sym e) (itself _)
+
+makes_forward : (places at : ℕ) (s t : Table) → LifeRule places s → (kind : Kind) (id : ℕ) (view : View) → get_elem? s.views id ≡ some view → Makes kind id view s t
+    → IsAtOrBefore (get_or s.words at 0) (get_or t.words at 0)
+makes_forward places at s t r (at_word step p) id view here m = subst (λ (l : List ℕ). IsAtOrBefore (get_or s.words at 0) (get_or l at 0)) (sym (ap (λ (z : Table). z.words) m.2))
+    (word_at_set s.words p (left_by step (get_or s.words p 0)) at (λ z. IsAtOrBefore (get_or s.words at 0) z) m.0
+    (λ e. subst (λ (z : ℕ). IsAtOrBefore (get_or s.words z 0) (left_by step (get_or s.words p 0))) e (forward places s r p id view here (let wide = r.all_words in omega (arith, m.0)) step m.1))
+    (λ _. itself _))
+makes_forward places at s t r (split cut) id view here m = same_words s t at (ap (λ (z : Table). z.words) m.1)
+makes_forward places at s t r (join other) id view here m = same_words s t at (ap (λ (z : Table). z.words) m.5)
+
+pub step_forward : (places at : ℕ) (s t : Table) → LifeRule places s → Steps s t → IsAtOrBefore (get_or s.words at 0) (get_or t.words at 0)
+step_forward places at s t r m = makes_forward places at s t r m.0 m.1 m.2 m.3 m.4
+
+pub run_forward : (places at : ℕ) (s t : Table) → LifeRule places s → LeadTo s t → IsAtOrBefore (get_or s.words at 0) (get_or t.words at 0)
+run_forward places at s t r none = itself _
+run_forward places at s t r (next {after = u} m more) = between _ _ _ (step_forward places at s u r m) (run_forward places at u t (kept places s u r m) more)
+
+from_new : (places : ℕ) (s : Table) → LeadTo (new_table places) s → LifeRule places s
+from_new places s to = reached places (new_table places) s (begins places) to
+
+pub words_forward : WordsGoForward
+words_forward places at s t to m = step_forward places at s t (from_new places s to) m
+
+pub stays_ended : EndedStaysEnded
+stays_ended places i j s t part to on has k at generation e = let r = from_new places s to in
+    over_after generation _ _ (run_forward places at s t r on) (r.ended_is_over i j part has k at generation e)
+
+pub by_one_seat : EndedByOneSeat
+by_one_seat places i j k i' j' k' at generation s a b to ha hb ea eb = (from_new places s to).ended_once i j k i' j' k' at generation a b ha hb ea eb
+
+pub never_ahead : SeenIsNeverAhead
+never_ahead places i j s t part to on has k at word e = let r = from_new places s to in
+    between word _ _ (r.seen_is_past i j part has k at word e) (run_forward places at s t r on)
+
+pub hold : RecordsHold
+hold places i j s part to has = (from_new places s to).records_are_true i j part has

@@ -1,0 +1,227 @@
+-- Each step at a word keeps the life rule.
+use Rattle.std.proofs.Common.{◌≡◌, ◌≢◌, ◌⊎◌, ℕ, zero, suc, ◌+◌, ◌-◌, ◌<◌, ◌≤◌, if◌then◌else◌, Bool, List, [], ◌∷◌, ◌++◌, map, length, get_or, set, sym, refl, ap, ◌∙◌, subst, inl, inr, ⊎_elim, arith, length-set, get_or-set_other, get_or-set_same, eq-eqb, ne_eqb}
+use Rattle.std.proofs.lemmas.Bool.{true≢false}
+use mathlib.Core.Logic.{dite}
+use mathlib.Core.Option.{some, some-injective, some-ne-none}
+use native.Mathlib.Decide.{ℕ_discrete}
+use lib.ListN.{get_elem?}
+use Rattle.atomic_table.proofs.Lists.{at_snoc}
+use Rattle.hg_place.specs.declared.standing.Standing.{Standing}
+use Rattle.hg_place.specs.declared.standing.Standing.TheVariants.{Home, Open}
+use Rattle.hg_place.specs.Lives.{word_generation, word_owner, word_life, IsSlotWord, IsLiveWord, IsAtOrBefore}
+use Rattle.hg_place.specs.Standings.{standing_at, standing_generation, Fits}
+use Rattle.hg_table.specs.declared.view.Part.{Part}
+use Rattle.hg_table.specs.View.{View, Table, HasRecord, saw, ending, recording, part_of}
+use Rattle.hg_table.specs.LifeRule.{LifeRule, IsOver}
+use Rattle.hg_table.specs.Steps.{WordStep, look, open_as, close_from, part_from, take_home, left_by, known_after, record_of, IsAlone, MayMake}
+use Rattle.hg_table.specs.Told.{IsShown, IsShownTo}
+use Rattle.hg_table.proofs.Knowing.{known, itself}
+use Rattle.hg_table.proofs.Forward.{Change, moved}
+
+pub map_at : {A B : Type 0} (f : A → B) (l : List A) (j : ℕ) (b : B) → get_elem? (map f l) j ≡ some b → (a : A) × (get_elem? l j ≡ some a) × (f a ≡ b)
+map_at f [] j b e = absurd (some-ne-none b (sym e))
+map_at f (x ∷ xs) zero b e = (x, refl, some-injective (f x) b e)
+map_at f (x ∷ xs) (suc j) b e = map_at f xs j b e
+
+pair_is : (a b c d : ℕ) → ◌≡◌ {A = ℕ × ℕ} (a, b) (c, d) → (a ≡ c) × (b ≡ d)
+pair_is a b c d e = (ap (λ (x : ℕ × ℕ). x.0) e, ap (λ (x : ℕ × ℕ). x.1) e)
+
+-- what the rule says of a word to a seat
+pub shown_to : (n : ℕ) (s : Table) (r : LifeRule n s) (p id : ℕ) (view : View) → get_elem? s.views id ≡ some view → IsShownTo p (get_or s.words p 0) view
+shown_to n s r p id view at j part e = let k = known n s r id j part (view, at, e) in record {
+  slot_word = r.well_formed p;
+  seen = λ m x q. k.seen m p x q;
+  ended = λ m g q. k.ended m p g q;
+  recorded = λ m l is. subst (λ (z : ℕ). Fits (standing_at part.records m) (get_or s.words z 0)) is (k.recorded m l);
+}
+
+-- the words of one life
+pub live_slot : (w : ℕ) → IsLiveWord w → (1 ≤ word_generation w) × IsSlotWord (w - 1) × (word_generation (w - 1) ≡ word_generation w) × (word_owner (w - 1) ≡ word_owner w) × (word_life (w - 1) ≡ 0)
+live_slot w h =
+    let a = h.0.0 in
+    let b = h.0.1 in
+    let c = h.1 in
+    let big : 4294967296 ≤ w = dite (native.Mathlib.Decide.dec_le 4294967296 w) (λ y. y) (λ no. absurd (let z : w ≡ 0 = h.0.2 (omega arith) in omega arith)) in
+    (omega arith, (omega arith, omega arith, λ l. absurd (omega arith)), omega arith, omega arith, omega arith)
+
+pub freed_word_after : (w : ℕ) → IsLiveWord w → IsAtOrBefore w (w - 1) × IsOver (word_generation w) (w - 1)
+freed_word_after w h = let s = live_slot w h in let g = s.2 in let o = s.3 in let l = s.4 in ((omega arith, λ _. (sym o, omega arith)), (omega arith, λ _. l))
+
+-- a live word that is freed: each record that fitted it still fits
+open_spares : (w : ℕ) → IsLiveWord w → (st : Standing) → Fits st w → Fits st (w - 1)
+open_spares w h (Home g) f = absurd (let a = f.freed refl in let b = h.1 in omega arith)
+open_spares w h (Open g o) f = let s = live_slot w h in record {
+  generation = s.2 ∙ f.generation;
+  freed = λ e. absurd (true≢false (sym e));
+  given_out = f.given_out;
+  owner = λ e. s.3 ∙ f.owner e;
+}
+
+pub home_fits : (w : ℕ) → word_life w ≡ 0 → (g : ℕ) → word_generation w ≡ g → Fits (Home g) w
+home_fits w freed g is = record {
+  generation = is;
+  freed = λ _. freed;
+  given_out = λ e. absurd (true≢false e);
+  owner = λ e. absurd (true≢false e);
+}
+
+freed_home : (w : ℕ) → IsLiveWord w → Fits (Home (word_generation w)) (w - 1)
+freed_home w h = let s = live_slot w h in home_fits (w - 1) s.4 (word_generation w) s.2
+
+open_fits : (w : ℕ) → 1 ≤ word_generation w → Fits (Open (word_generation w) (word_owner w)) w
+open_fits w given = record {
+  generation = refl;
+  freed = λ e. absurd (true≢false (sym e));
+  given_out = λ _. given;
+  owner = λ _. refl;
+}
+
+module _ (p u v : ℕ) (a : Part) (ended' : List (ℕ × ℕ)) (rs : List Standing) where
+  change : length rs ≡ length a.records
+      → ((k q g : ℕ) → get_elem? ended' k ≡ some (q, g) → ((p ≡ q) × (word_generation u ≡ g) × (word_life u ≡ 1) × IsOver g v) ⊎ ((l : ℕ) × (get_elem? a.ended l ≡ some (q, g))))
+      → ((k : ℕ) → k < length a.records → a.first + k ≡ p → Fits (standing_at rs k) v)
+      → ((k : ℕ) → k < length a.records → a.first + k ≢ p → standing_at rs k ≡ standing_at a.records k)
+      → Change p u v a record { seen = a.seen ++ (p, v) ∷ []; ended = ended'; first = a.first; records = rs }
+  change wide ended here elsewhere = record {
+    first = refl;
+    records = wide;
+    seen = λ k q w e. ⊎_elim (λ (o : get_elem? a.seen k ≡ some (q, w)). inr (k, o)) (λ (is : ◌≡◌ {A = ℕ × ℕ} (p, v) (q, w)). inl (pair_is p v q w is)) (at_snoc a.seen (p, v) (q, w) k e);
+    ended = ended;
+    here = here;
+    elsewhere = elsewhere;
+  }
+
+-- a step that leaves the word
+still : (p w : ℕ) (a : Part) → ((k : ℕ) → k < length a.records → a.first + k ≡ p → Fits (standing_at a.records k) w) → Change p w w a (saw p w a)
+still p w a fits = change p w w a a.ended a.records refl (λ k q g e. inr (k, e)) fits (λ k l ne. refl)
+
+last_or : (p g : ℕ) (a : Part) (k q h : ℕ) → get_elem? (a.ended ++ (p, g) ∷ []) k ≡ some (q, h) → ((p ≡ q) × (g ≡ h)) ⊎ ((l : ℕ) × (get_elem? a.ended l ≡ some (q, h)))
+last_or p g a k q h e = ⊎_elim (λ (o : get_elem? a.ended k ≡ some (q, h)). inr (k, o)) (λ (is : ◌≡◌ {A = ℕ × ℕ} (p, g) (q, h)). inl (pair_is p g q h is)) (at_snoc a.ended (p, g) (q, h) k e)
+
+-- the record of p is st from now on
+record_here : (p : ℕ) (a : Part) (st : Standing) (v : ℕ) → Fits st v → (k : ℕ) → k < length a.records → a.first + k ≡ p → Fits (standing_at (set a.records (p - a.first) st) k) v
+record_here p a st v fits k l is = let at : p - a.first ≡ k = omega arith in
+    subst (λ (z : ℕ). Fits (standing_at (set a.records z st) k) v) (sym at) (subst (λ (x : Standing). Fits x v) (sym (get_or-set_same a.records k st (Home 0) l)) fits)
+
+record_elsewhere : (p : ℕ) (a : Part) (st : Standing) → a.first ≤ p → (k : ℕ) → k < length a.records → a.first + k ≢ p → standing_at (set a.records (p - a.first) st) k ≡ standing_at a.records k
+record_elsewhere p a st from k l not = get_or-set_other a.records (p - a.first) k st (Home 0) (λ e. not (omega arith))
+
+only_one : (f : Part → Part) (a : Part) (j : ℕ) (b : Part) → get_elem? (map f (a ∷ [])) j ≡ some b → j ≡ 0
+only_one f a zero b e = refl
+only_one f a (suc j) b e = absurd (some-ne-none b (sym e))
+
+-- the table after a step at the word p that leaves v, by a seat whose view becomes w
+abbrev pub after : Table → ℕ → ℕ → ℕ → View → Table
+after s p v id w = record { words = set s.words p v; homes = s.homes; views = set s.views id w }
+
+module _ (n : ℕ) (s : Table) (r : LifeRule n s) (p id : ℕ) (view : View) (at : get_elem? s.views id ≡ some view) (below : p < n + 1) where
+  abbrev found : ℕ
+  found = get_or s.words p 0
+
+  looking : LifeRule n (after s p found id (map (saw p found) view))
+  looking = let w : ℕ = found in let wide = r.all_words in
+      moved n s r p w id [] view (map (saw p w) view) at (omega arith) (r.well_formed p) (itself w) (λ e. subst (λ (z : ℕ). get_or s.words z 0 ≡ 0) (sym e) r.spare)
+      (λ j b e. let m = map_at (saw p w) view j b e in (m.0, m.1, subst (Change p w w m.0) m.2 (still p w m.0 (shown_to n s r p id view at j m.0 m.1).recorded)))
+      (inr refl) (inl (λ st f. f))
+
+  module _ (alone : IsAlone p view) where
+    abbrev mine : Part
+    mine = part_of view
+
+    -- one part, which changes to f of it
+    stepping : (v : ℕ) (f : Part → Part) → IsSlotWord v → IsAtOrBefore found v
+        → Change p found v mine (f mine)
+        → ((st : Standing) → Fits st found → Fits st v) ⊎ HasRecord p mine
+        → LifeRule n (after s p v id (map f view))
+    stepping v f sane forward ch spares = let wide = r.all_words in let one = alone.1 in let some_place = alone.0 in let first : get_elem? view 0 ≡ some mine = ap (λ (z : View). get_elem? z 0) one in
+        moved n s r p v id [] view (map f view) at (omega arith) sane forward (λ e. absurd (omega arith))
+        (λ j b e. let here = subst (λ (z : View). get_elem? (map f z) j ≡ some b) one e in let zero_is = only_one f mine j b here in (
+          mine,
+          subst (λ (z : ℕ). get_elem? view z ≡ some mine) (sym zero_is) first,
+          subst (Change p found v mine) (some-injective (f mine) b (subst (λ (z : ℕ). get_elem? (map f (mine ∷ [])) z ≡ some b) zero_is here)) ch,
+        ))
+        (inl (λ j b e. only_one f mine j b (subst (λ (z : View). get_elem? (map f z) j ≡ some b) one e)))
+        (⊎_elim inl (λ (t : HasRecord p mine). inr (0, t.0, mine, first, t.1, t.2)) spares)
+
+    pub shown : IsShown p found mine
+    shown = shown_to n s r p id view at 0 mine (ap (λ (z : View). get_elem? z 0) alone.1)
+
+    -- the live word that was expected stands: it becomes the freed one
+    module _ (live : IsLiveWord found) where
+      parting : LifeRule n (after s p (found - 1) id (map (λ part. ending p (word_generation found) (saw p (found - 1) part)) view))
+      parting = let after_it = freed_word_after found live in let slot = live_slot found live in
+          stepping (found - 1) (λ part. ending p (word_generation found) (saw p (found - 1) part)) slot.1 after_it.0
+          (change p found (found - 1) mine (mine.ended ++ (p, word_generation found) ∷ []) mine.records refl
+          (λ k q g m. ⊎_elim (λ (t : (p ≡ q) × (word_generation found ≡ g)). inl (t.0, t.1, live.1, subst (λ (z : ℕ). IsOver z (found - 1)) t.1 after_it.1)) inr (last_or p (word_generation found) mine k q g m))
+          (λ k l is. open_spares found live (standing_at mine.records k) (shown.recorded k l is))
+          (λ k l ne. refl))
+          (inl (λ st fits. open_spares found live st fits))
+
+      closing : HasRecord p mine → LifeRule n (after s p (found - 1) id (map (λ part. recording p (Home (word_generation found)) (ending p (word_generation found) (saw p (found - 1) part))) view))
+      closing has = let after_it = freed_word_after found live in let slot = live_slot found live in let inside = has.1 in let here = has.2 in
+          stepping (found - 1) (λ part. recording p (Home (word_generation found)) (ending p (word_generation found) (saw p (found - 1) part))) slot.1 after_it.0
+          (change p found (found - 1) mine (mine.ended ++ (p, word_generation found) ∷ []) (set mine.records (p - mine.first) (Home (word_generation found))) (length-set mine.records (p - mine.first) (Home (word_generation found)))
+          (λ k q g m. ⊎_elim (λ (t : (p ≡ q) × (word_generation found ≡ g)). inl (t.0, t.1, live.1, subst (λ (z : ℕ). IsOver z (found - 1)) t.1 after_it.1)) inr (last_or p (word_generation found) mine k q g m))
+          (record_here p mine (Home (word_generation found)) (found - 1) (freed_home found live))
+          (record_elsewhere p mine (Home (word_generation found)) (omega arith)))
+          (inr has)
+
+    -- the live word of the next generation is after the one that is found at home
+    next_life : (v : ℕ) → HasRecord p mine → word_generation v ≡ standing_generation (record_of p mine) + 1 → IsAtOrBefore found v
+    next_life v has next =
+        let inside = has.1 in
+        let here = has.2 in
+        let slot : p - mine.first ≡ has.0 = omega arith in
+        let fits : Fits (record_of p mine) found = subst (λ (z : ℕ). Fits (standing_at mine.records z) found) (sym slot) (shown.recorded has.0 inside here) in
+        let was : word_generation found ≡ standing_generation (record_of p mine) = fits.generation in
+        (omega arith, λ same. absurd (omega arith))
+
+    opening : (v : ℕ) → IsLiveWord v → HasRecord p mine → word_generation v ≡ standing_generation (record_of p mine) + 1
+        → LifeRule n (after s p v id (map (λ part. recording p (Open (word_generation v) (word_owner v)) (saw p v part)) view))
+    opening v live has next = let inside = has.1 in let here = has.2 in let st : Standing = Open (word_generation v) (word_owner v) in
+        stepping v (λ part. recording p st (saw p v part)) live.0 (next_life v has next)
+        (change p found v mine mine.ended (set mine.records (p - mine.first) st) (length-set mine.records (p - mine.first) st) (λ k q g e. inr (k, e))
+        (record_here p mine st v (open_fits v (live_slot v live).0))
+        (record_elsewhere p mine st (omega arith)))
+        (inr has)
+
+    taking : HasRecord p mine → word_life found ≡ 0 → LifeRule n (after s p found id (map (λ part. recording p (Home (word_generation found)) (saw p found part)) view))
+    taking has freed = let inside = has.1 in let here = has.2 in let st : Standing = Home (word_generation found) in
+        stepping found (λ part. recording p st (saw p found part)) (r.well_formed p) (itself found)
+        (change p found found mine mine.ended (set mine.records (p - mine.first) st) (length-set mine.records (p - mine.first) st) (λ k q g e. inr (k, e))
+        (record_here p mine st found (home_fits found freed (word_generation found) refl))
+        (record_elsewhere p mine st (omega arith)))
+        (inr has)
+
+  pub opened_forward : (live : ℕ) → MayMake (open_as live) p view → IsAtOrBefore found live
+  opened_forward live may = next_life may.0 live may.2 may.4
+
+  -- each of them
+  pub keeps_rule : (step : WordStep) → MayMake step p view → LifeRule n (after s p (left_by step found) id (map (known_after step p found) view))
+  keeps_rule look may = looking
+  keeps_rule (open_as live) may = opening may.0 live may.1 may.2 may.4
+  keeps_rule (close_from expected) may = dite (ℕ_discrete found expected)
+      (λ hit. subst (λ (b : Bool). LifeRule n (after s p (if b then expected - 1 else found) id
+      (map (λ part. if b then recording p (Home (word_generation expected)) (ending p (word_generation expected) (saw p (expected - 1) part)) else saw p found part) view)))
+      (sym (eq-eqb found expected hit))
+      (subst (λ (z : ℕ). LifeRule n (after s p (z - 1) id (map (λ part. recording p (Home (word_generation z)) (ending p (word_generation z) (saw p (z - 1) part))) view))) hit
+      (closing may.0 (subst IsLiveWord (sym hit) may.1) may.2)))
+      (λ miss. subst (λ (b : Bool). LifeRule n (after s p (if b then expected - 1 else found) id
+      (map (λ part. if b then recording p (Home (word_generation expected)) (ending p (word_generation expected) (saw p (expected - 1) part)) else saw p found part) view)))
+      (sym (ne_eqb found expected miss)) looking)
+  keeps_rule (part_from expected) may = dite (ℕ_discrete found expected)
+      (λ hit. subst (λ (b : Bool). LifeRule n (after s p (if b then expected - 1 else found) id
+      (map (λ part. if b then ending p (word_generation expected) (saw p (expected - 1) part) else saw p found part) view)))
+      (sym (eq-eqb found expected hit))
+      (subst (λ (z : ℕ). LifeRule n (after s p (z - 1) id (map (λ part. ending p (word_generation z) (saw p (z - 1) part)) view))) hit
+      (parting may.0 (subst IsLiveWord (sym hit) may.1))))
+      (λ miss. subst (λ (b : Bool). LifeRule n (after s p (if b then expected - 1 else found) id
+      (map (λ part. if b then ending p (word_generation expected) (saw p (expected - 1) part) else saw p found part) view)))
+      (sym (ne_eqb found expected miss)) looking)
+  keeps_rule take_home may = dite (ℕ_discrete (word_life found) 0)
+      (λ freed. subst (λ (b : Bool). LifeRule n (after s p found id
+      (map (λ part. if b then recording p (Home (word_generation found)) (saw p found part) else saw p found part) view)))
+      (sym (eq-eqb (word_life found) 0 freed)) (taking may.0 may.1 freed))
+      (λ alive. subst (λ (b : Bool). LifeRule n (after s p found id
+      (map (λ part. if b then recording p (Home (word_generation found)) (saw p found part) else saw p found part) view)))
+      (sym (ne_eqb (word_life found) 0 alive)) looking)

@@ -1,0 +1,9 @@
+pub mod View
+pub mod LifeRule
+pub mod Steps
+pub mod Told
+pub mod Seats
+pub mod Ids
+pub mod Fitting
+pub mod LifeLaws
+pub mod Named

@@ -1,0 +1,62 @@
+-- What the seats of a table know of its words. A seat's view is a list of parts, of one as a rule;
+-- of two where it took in another seat, until they are cut; of none in the seat that was taken in.
+use Rattle.std.specs.Prelude.{◌≡◌, ℕ, ◌+◌, ◌-◌, ◌<◌, List, [], ◌∷◌, ◌++◌, length, replicate}
+use Rattle.std.specs.Prelude.{slice_set, take, drop}
+use mathlib.Core.Option.{some}
+use lib.ListN.{get_elem?}
+use Rattle.atomic_table.specs.Table.{State}
+use Rattle.hg_place.specs.declared.standing.Standing.{Standing}
+use Rattle.hg_place.specs.declared.standing.Standing.TheVariants.{Home}
+use Rattle.hg_table.specs.declared.view.Part.{Part}
+
+abbrev pub View : Type 0
+View = List Part
+
+-- the words of all places, and the view of each seat
+abbrev pub Table : Type 0
+Table = State (Unit {0}) View
+
+-- the part j of the view of the seat i
+abbrev pub Has : List View → ℕ → ℕ → Part → Type 0
+Has views i j part =
+    (view : View) × (get_elem? views i ≡ some view) × (get_elem? view j ≡ some part)
+
+-- it has a record of the place of the word at this index
+abbrev pub HasRecord : ℕ → Part → Type 0
+HasRecord at part = (k : ℕ) × (k < length part.records) × (part.first + k ≡ at)
+
+-- a part that knows nothing
+abbrev pub blank : Part
+blank = record { seen = []; ended = []; first = 0; records = [] }
+
+-- the part has seen this word too
+abbrev pub saw : ℕ → ℕ → Part → Part
+saw at word part = record part { seen = part.seen ++ (at, word) ∷ [] }
+
+-- it has ended the life of this generation too
+abbrev pub ending : ℕ → ℕ → Part → Part
+ending at generation part = record part { ended = part.ended ++ (at, generation) ∷ [] }
+
+-- its record of the place is this one
+abbrev pub recording : ℕ → Standing → Part → Part
+recording at standing part =
+    record part { records = slice_set part.records (at - part.first) standing }
+
+-- the initial seat records all places as home, never given out
+abbrev pub initial_view : ℕ → View
+initial_view places =
+    record { seen = []; ended = []; first = 1; records = replicate places (Home 0) } ∷ []
+
+-- so many records at the front of a part, for the seat of a segment, and what is left of the part
+abbrev pub first_records : ℕ → Part → Part
+first_records count part =
+    record { seen = []; ended = []; first = part.first; records = take count part.records }
+
+abbrev pub later_records : ℕ → Part → Part
+later_records count part =
+    record part { first = part.first + count; records = drop count part.records }
+
+-- the one part of a view
+abbrev pub part_of : View → Part
+part_of [] = blank
+part_of (part ∷ more) = part

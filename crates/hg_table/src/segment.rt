@@ -1,0 +1,194 @@
+//! The seat of a segment: its slot words are words of the table.
+
+ghost use Rattle.std.specs.Prelude.{◌≡◌, ℕ, ◌+◌, ◌*◌, ◌<◌, ◌≤◌, [], ◌∷◌, length};
+ghost use Rattle.std.specs.Arc.{arc_value};
+ghost use Rattle.std.specs.Box.{boxed_slice_items};
+ghost use Rattle.hg_place.specs.declared.geometry.TheConstants.{MAX_SEGMENTS, SEGMENT_PLACES};
+ghost use Rattle.hg_place.specs.Standings.{standing_at, slot_of, IsSane};
+ghost use Rattle.hg_table.specs.Ids.{TableId-set};
+ghost use Rattle.hg_table.specs.View.{part_of};
+
+use crate::name::TableName;
+use crate::plays::{Both, Close, Look, Meet, Open, Take};
+use crate::rule::Words;
+use crate::view::View;
+use crate::words::word;
+use crate::worker::WorkerSeat;
+use atomic_table::{Badge, Seat};
+use hg_place::{
+    Handle, PAGE_PLACES, PackedStanding, Place, SlotWords, Standing, pack, word_generation,
+};
+use std::alloc::Global;
+use std::boxed::BoxedSlice;
+use std::marker::PhantomData;
+use std::mem;
+use std::sync::Arc;
+
+/// The seat of a segment without its table's name, as it is kept between two calls.
+#[derive(Drop)]
+pub struct UnnamedSegment {
+    pub(crate) table: Arc<Words, Global>,
+    pub(crate) seat: Seat<(), View>,
+    pub(crate) segment: u8,
+    pub(crate) records: BoxedSlice<PackedStanding>,
+    ghost same: { (arc_value table).shared.table_id ≡ seat.table_id } by { TableId-set _ _ },
+    ghost wide: { (arc_value table).shared.table_id.words
+        ≡ (arc_value table).shared.key + 1 },
+    ghost within: { segment * SEGMENT_PLACES + SEGMENT_PLACES
+        ≤ (arc_value table).shared.key },
+    ghost segment_below: { segment < MAX_SEGMENTS },
+    ghost one: { seat.me.0 ≡ part_of seat.me.0 ∷ [] },
+    ghost bare: { seat.me.1 ≡ [] },
+    ghost first: { (part_of seat.me.0).first ≡ segment * SEGMENT_PLACES + 1 },
+    ghost recorded: { (part_of seat.me.0).records ≡ boxed_slice_items records },
+    ghost sized: { length (boxed_slice_items records) ≡ SEGMENT_PLACES },
+    ghost sane: { (at : ℕ) → at < SEGMENT_PLACES
+        → IsSane (standing_at (boxed_slice_items records) at) },
+}
+
+/// The seat of the holder of a segment. It alone opens places of the segment, and takes them home.
+#[derive(Drop)]
+pub struct SegmentSeat<N: TableName> {
+    pub(crate) inner: UnnamedSegment,
+    pub(crate) of: PhantomData<N>,
+    ghost named: { inner.seat.table_id ≡ N.table } by { TableId-set _ _ },
+}
+
+impl UnnamedSegment {
+    /// The seat under the name of its table.
+    pub fn with_name<N: TableName>(self) -> SegmentSeat<N>
+        requires { self.seat.table_id ≡ N.table }
+        ensures { result.inner ≡ self }
+    {
+        SegmentSeat {
+            inner: self,
+            of: PhantomData,
+        }
+    }
+}
+
+impl<N: TableName> SegmentSeat<N> {
+    /// The seat without the name.
+    pub fn without_name(self) -> UnnamedSegment
+        ensures { result ≡ self.inner }
+    {
+        let SegmentSeat { inner, of: _ } = self;
+        inner
+    }
+}
+
+impl<N: TableName> SlotWords for SegmentSeat<N> {
+    type Other = WorkerSeat<N>;
+
+    ghost use Rattle.hg_table.specs.Told.{IsShown};
+    ghost use Rattle.hg_table.specs.Seats.{word_at, part_in, part_on, HasStepped, HaveMet};
+
+    ghost number = { λ s. s.inner.segment };
+
+    ghost records = { λ s. boxed_slice_items s.inner.records };
+
+    ghost shows = { λ s at word. IsShown (word_at s.inner.segment at) word
+        (part_in s.inner.seat) };
+
+    ghost steps = { λ s at found left t. HasStepped (part_in s.inner.seat)
+        (word_at s.inner.segment at) found left (part_in t.inner.seat) };
+
+    ghost may_meet = { λ s other. Unit {0} };
+
+    ghost meets = { λ s other at word t after. HaveMet (word_at s.inner.segment at) word
+        (part_in s.inner.seat) (part_on other.inner.badge)
+        (part_in t.inner.seat) (part_on after.inner.badge) };
+
+    ghost numbered = { λ s. s.inner.segment_below };
+
+    ghost sized = { λ s. s.inner.sized };
+
+    ghost sane = { λ s. s.inner.sane };
+
+    ghost use Rattle.hg_table.specs.Fitting.{fitting};
+
+    ghost fits = { λ s at word below shown. fitting s.inner.segment at word
+        (part_in s.inner.seat) (boxed_slice_items s.inner.records)
+        s.inner.first s.inner.recorded s.inner.sized below shown };
+
+    ghost still_meets = { λ s t other at found left step may. tt };
+
+    ghost meets_again = { λ s t other after at word met may. tt };
+
+    fn segment(&self) -> u8 {
+        self.inner.segment
+    }
+
+    fn standing(&self, place: Place) -> Standing {
+        self.inner.records[slot(place)].standing()
+    }
+
+    fn look(&mut self, place: Place) -> u64 {
+        let inner = &mut self.inner;
+        let table = &inner.table;
+        table.shared.load::<Look>(&mut inner.seat, word(place))
+    }
+
+    fn open(&mut self, place: Place, owner: u8) -> Handle {
+        let Standing::Home(before) = self.standing(place) else {
+            unreachable!()
+        };
+        let generation = before + 1;
+        let live = pack(generation, owner, true);
+        let inner = &mut self.inner;
+        let table = &inner.table;
+        table
+            .shared
+            .store::<Open>(&mut inner.seat, word(place), live);
+        inner.records[slot(place)] = PackedStanding::of(Standing::Open(generation, owner));
+        Handle { place, generation }
+    }
+
+    fn close(&mut self, place: Place, expected: u64) -> Result<(), u64> {
+        let inner = &mut self.inner;
+        let table = &inner.table;
+        let found = table
+            .shared
+            .compare_exchange::<Close>(&mut inner.seat, word(place), expected, expected - 1);
+        if found != expected {
+            return Err(found);
+        }
+        let home = Standing::Home(word_generation(expected));
+        inner.records[slot(place)] = PackedStanding::of(home);
+        Ok(())
+    }
+
+    fn take(&mut self, place: Place) -> Result<(), u64> {
+        let inner = &mut self.inner;
+        let table = &inner.table;
+        let found = table.shared.load::<Take>(&mut inner.seat, word(place));
+        if found % 2 == 1 {
+            return Err(found);
+        }
+        let home = Standing::Home(word_generation(found));
+        inner.records[slot(place)] = PackedStanding::of(home);
+        Ok(())
+    }
+
+    fn meet(&mut self, other: &mut WorkerSeat<N>, place: Place) -> u64 {
+        let others = &mut other.inner;
+        let badge = mem::replace(&mut others.badge, Badge::blank());
+        let theirs: Seat<(), View> = badge.into_seat();
+        let inner = &mut self.inner;
+        let table = &inner.table;
+        let shared = &table.shared;
+        shared.join_seat::<Both>(&mut inner.seat, theirs);
+        let found = shared.load::<Meet>(&mut inner.seat, word(place));
+        let back = shared.split_seat::<Both>(&mut inner.seat);
+        others.badge = back.into_badge();
+        found
+    }
+}
+
+/// The number of a place in its segment.
+fn slot(place: Place) -> usize
+    ensures value { result ≡ slot_of place }
+    ensures below { result < SEGMENT_PLACES }
+{
+    usize::from(place.page) * PAGE_PLACES + usize::from(place.index)
+}
