@@ -6,6 +6,7 @@
 #include <stddef.h>
 #include <stdio.h>
 #include <stdlib.h>
+#include <sys/syscall.h>
 #include <unistd.h>
 
 static long requests, refused = -1;
@@ -53,12 +54,17 @@ int posix_memalign(void **out, size_t align, size_t size)
     return is_refused() ? 12 : real(out, align, size);
 }
 
+static _Noreturn void end(int status)
+{
+    for (;;) syscall(SYS_exit_group, status);
+}
+
 static void write_count(const char *path, long count)
 {
     FILE *file = fopen(path, "w");
-    if (!file) _exit(98);
+    if (!file) end(98);
     fprintf(file, "%ld\n", count);
-    if (fclose(file)) _exit(98);
+    if (fclose(file)) end(98);
 }
 
 __attribute__((destructor)) static void at_the_end(void)
@@ -66,5 +72,12 @@ __attribute__((destructor)) static void at_the_end(void)
     const long count = requests;
     const char *path = getenv("COUNT");
     if (path) write_count(path, count);
-    if (refused > 0 && count < refused) _exit(99);
+    if (refused > 0 && count < refused) end(99);
+}
+
+/* A program of several threads ends by this, and no destructor runs. */
+void _exit(int status)
+{
+    at_the_end();
+    end(status);
 }
