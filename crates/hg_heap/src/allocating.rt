@@ -1,6 +1,6 @@
 //! Places are given out, in the order of choice.
 
-ghost use Rattle.std.specs.Prelude.{◌≡◌, ◌<◌, ℕ, Option, Some, None, IfOk, IfErr, IfSome};
+ghost use Rattle.std.specs.Prelude.{◌≡◌, ◌<◌, ℕ, Option, Some, None, Err, IfOk, IfErr, IfSome};
 ghost use Rattle.std.specs.Prelude.{IfNone, true, Contains};
 ghost use Rattle.hg_queue.specs.declared.page_queues.TheConstants.{PAGES, ARENAS};
 ghost use Rattle.hg_segment.specs.declared.charges.TheConstants.{TENANTS};
@@ -25,6 +25,7 @@ ghost use Rattle.hg_heap.specs.Lists.{GivenOut};
 ghost use Rattle.hg_heap.specs.Policies.{AreOf};
 ghost use Rattle.hg_heap.specs.Ties.{HeapTies, Stepped, shown_at};
 ghost use Rattle.hg_heap.specs.Answers.{refused_answer};
+ghost use Rattle.hg_heap.specs.declared.refused.Refused.TheVariants.{NoRoom};
 
 use crate::requeue::{block_bytes, requeue};
 use crate::{Heap, Refused};
@@ -59,6 +60,8 @@ impl<S: SlotWords> Heap<S> {
         ensures chosen { IfOk result (λ handle.
             chosen_place S.number S.records self.old arena (size_of bytes)
             ≡ Some (number_of handle.place)) }
+        ensures no_room { result ≡ Err NoRoom
+            → chosen_place S.number S.records self.old arena (size_of bytes) ≡ None }
         ensures lists { IfOk result (λ handle. GivenOut S.number S.records arena (size_of bytes)
             (page_number handle.place) handle.place.index self.old.segments self.new.segments) }
         ensures queues { IfOk result (λ handle. self.new.queues ≡ requeued
@@ -149,7 +152,8 @@ impl<S: SlotWords> Heap<S> {
     /// Whether a page has no class, and a place for a block of this one.
     fn is_blank(&self, page: u16, arena: u8, class: Class) -> bool
         requires { page < PAGES }
-        ensures { result ≡ is_some_place (blank_on S.number S.records self.now.segments arena class page) }
+        ensures { result ≡ is_some_place
+            (blank_on S.number S.records self.now.segments arena class page) }
     {
         let Some(found) = self.found((page / SEGMENT_PAGES as u16) as u8) else {
             return false;
