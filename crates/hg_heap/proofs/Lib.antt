@@ -8,6 +8,7 @@ pub mod ChargeChanged
 pub mod Beginning
 pub mod Giving
 pub mod OpenBlocks
+pub mod PartCall
 pub mod Looking
 pub mod ReadCall
 pub mod LookCall

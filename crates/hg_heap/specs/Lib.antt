@@ -19,6 +19,7 @@ pub mod Right
 pub mod Begun
 pub mod Ready
 pub mod Allotted
+pub mod Parting
 pub mod Opened
 pub mod HeapLaws
 pub mod Retiring

@@ -8,6 +8,7 @@ mod collecting;
 mod freeing;
 mod heap;
 pub mod laws;
+mod parting;
 mod reading;
 mod refused;
 mod requeue;

@@ -151,7 +151,7 @@ impl PlainWords {
             (is_home (standing_at (plain_records self.new) (slot_of place)) ≡ false) }
         ensures err { IfErr result (λ word. (word ≢ expected)
             × (slice_index (plain_words self.old) (slot_of place) ≡ word)
-            × (plain_words self.new ≡ plain_words self.old)) }
+            × (self.new ≡ self.old)) }
     {
         let found = self.word(place);
         if found != expected {

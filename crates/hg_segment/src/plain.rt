@@ -1,30 +1,33 @@
 //! A segment for one thread alone.
 
-ghost use Rattle.std.specs.Prelude.{◌≡◌, ◌≢◌, ◌-◌, slice_index, slice_set, OnOk, IfErr};
+ghost use Rattle.std.specs.Prelude.{◌≡◌, ◌≢◌, slice_index, OnOk, IfErr};
 ghost use Rattle.hg_place.specs.Lives.{IsLiveWord};
 ghost use Rattle.hg_place.specs.Standings.{slot_of};
-ghost use Rattle.hg_place.specs.Plain.{plain_words, plain_records};
+ghost use Rattle.hg_place.specs.Plain.{plain_words};
+ghost use Rattle.hg_segment.specs.Parted.{Parted};
 
 use crate::Segment;
 use hg_place::{Place, PlainWords};
 
 impl Segment<PlainWords> {
+    /// The word of a place.
+    pub fn word(&self, place: Place) -> u64
+        requires { place.segment ≡ self.now.slots.segment }
+        ensures { result ≡ slice_index (plain_words self.now.slots) (slot_of place) }
+    {
+        self.slots.word(place)
+    }
+
     /// Ends the life of the live word that is expected, for a worker that doesn't hold the segment:
     /// the place stays open until it is taken back. An error has the word that stands, which is
     /// another, and nothing changes.
     pub fn part(&mut self, place: Place, expected: u64) -> Result<(), u64>
         requires segment { place.segment ≡ self.old.slots.segment }
         requires live { IsLiveWord expected }
-        ensures number { self.new.slots.segment ≡ self.old.slots.segment }
-        ensures records { plain_records self.new.slots ≡ plain_records self.old.slots }
-        ensures others { self.new ≡ record self.old { slots = self.new.slots } }
-        ensures ok { OnOk result
-            ((slice_index (plain_words self.old.slots) (slot_of place) ≡ expected)
-            × (plain_words self.new.slots
-            ≡ slice_set (plain_words self.old.slots) (slot_of place) (expected - 1))) }
+        ensures parted { OnOk result (Parted place expected self.old self.new) }
         ensures err { IfErr result (λ word. (word ≢ expected)
             × (slice_index (plain_words self.old.slots) (slot_of place) ≡ word)
-            × (plain_words self.new.slots ≡ plain_words self.old.slots)) }
+            × (self.new ≡ self.old)) }
     {
         self.slots.part(place, expected)
     }
