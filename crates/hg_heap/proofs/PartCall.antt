@@ -6,11 +6,11 @@ use Rattle.hg_place.specs.declared.plain.PlainWords.{PlainWords}
 use Rattle.hg_place.specs.Plain.{plain_words, plain_records}
 use Rattle.hg_place.specs.Standings.{slot_of}
 use Rattle.hg_segment.specs.Kept.{Kept}
-use Rattle.hg_segment.specs.Parted.{Parted}
+use Rattle.hg_segment.specs.Parted.{Parted, NotParted, plain_number}
 use Rattle.hg_heap.specs.Held.{kind_of, KeepsLists}
 use Rattle.hg_heap.specs.Right.{IsRight}
 use Rattle.hg_heap.specs.Settled.{IsSettled}
-use Rattle.hg_heap.specs.Parting.{plain_number, word_in, PartedIn}
+use Rattle.hg_heap.specs.Parting.{word_in, PartedIn}
 use Rattle.hg_heap.proofs.Founds.{Found, found_is, number_is}
 use Rattle.hg_heap.proofs.RightKept.{lists_kept, right_kept}
 
@@ -21,17 +21,9 @@ pub record Stayed (one after : Kept PlainWords) : Type 0 where
   pub lists : after.lists ≡ one.lists
   pub records : plain_records after.slots ≡ plain_records one.slots
 
-abbrev pub WasParted : {X : Type 0} → Place → ℕ → Kept PlainWords → Kept PlainWords → Result X ℕ
-    → Type 0
-WasParted place live one after r = OnOk r (Parted place live one after)
-
-abbrev pub WasOther : {X : Type 0} → Place → ℕ → Kept PlainWords → Kept PlainWords → Result X ℕ
-    → Type 0
-WasOther place live one after r = IfErr r (λ word. (word ≢ live)
-    × (slice_index (plain_words one.slots) (slot_of place) ≡ word) × (after ≡ one))
-
 pub stayed : {X : Type 0} (place : Place) (live : ℕ) (one after : Kept PlainWords)
-    (r : Result X ℕ) → WasParted place live one after r → WasOther place live one after r
+    (r : Result X ℕ) → OnOk r (Parted place live one after)
+    → IfErr r (λ word. NotParted place live word one after)
     → Stayed one after
 stayed place live one after (Ok done) p o = record {
   kind = ap (kind_of plain_number) p.rest
@@ -41,10 +33,10 @@ stayed place live one after (Ok done) p o = record {
   records = p.records;
 }
 stayed place live one after (Err word) p o = record {
-  kind = ap (kind_of plain_number) o.2;
-  classes = ap (λ (k : Kept PlainWords). k.classes) o.2;
-  lists = ap (λ (k : Kept PlainWords). k.lists) o.2;
-  records = ap (λ (k : Kept PlainWords). plain_records k.slots) o.2;
+  kind = ap (kind_of plain_number) o.same;
+  classes = ap (λ (k : Kept PlainWords). k.classes) o.same;
+  lists = ap (λ (k : Kept PlainWords). k.lists) o.same;
+  records = ap (λ (k : Kept PlainWords). plain_records k.slots) o.same;
 }
 
 module _ (items : List (Kept PlainWords)) (found live : ℕ) (place : Place)
@@ -54,8 +46,8 @@ module _ (items : List (Kept PlainWords)) (found live : ℕ) (place : Place)
       (option_map (λ (k : Kept PlainWords). slice_index (plain_words k.slots) (slot_of place)))
       (found_is plain_number items place.segment found one here)
 
-  module _ {X : Type 0} (r : Result X ℕ) (parted : WasParted place live one after r)
-      (other : WasOther place live one after r) where
+  module _ {X : Type 0} (r : Result X ℕ) (parted : OnOk r (Parted place live one after))
+      (other : IfErr r (λ word. NotParted place live word one after)) where
     pub part_lists : KeepsLists plain_number items (slice_set items found after)
     part_lists = let s = stayed place live one after r parted other in
         lists_kept plain_number items found one after here.at s.kind s.classes s.lists
@@ -69,7 +61,7 @@ module _ (items : List (Kept PlainWords)) (found live : ℕ) (place : Place)
         right_kept plain_number items found one after here.at s.kind s.classes s.lists
         plain_records s.records
 
-  pub part_parted : {X : Type 0} (r : Result X ℕ) → WasParted place live one after r
+  pub part_parted : {X : Type 0} (r : Result X ℕ) → OnOk r (Parted place live one after)
       → OnOk r (PartedIn place live items (slice_set items found after))
   part_parted (Ok done) p = record {
     found = found;
@@ -82,7 +74,7 @@ module _ (items : List (Kept PlainWords)) (found live : ℕ) (place : Place)
   }
   part_parted (Err word) p = tt
 
-  pub part_other : {X : Type 0} (r : Result X ℕ) → WasOther place live one after r
+  pub part_other : {X : Type 0} (r : Result X ℕ) → IfErr r (λ word. NotParted place live word one after)
       → IfErr r (λ word. (word ≢ live) × (word_in items place ≡ Some word))
   part_other (Ok done) o = tt
-  part_other (Err word) o = (o.0, word_there ∙ ap Some o.1)
+  part_other (Err word) o = (o.other, word_there ∙ ap Some o.stood)

@@ -6,11 +6,8 @@ use Rattle.hg_place.specs.declared.plain.PlainWords.{PlainWords}
 use Rattle.hg_place.specs.Plain.{plain_words}
 use Rattle.hg_place.specs.Standings.{slot_of}
 use Rattle.hg_segment.specs.Kept.{Kept}
-use Rattle.hg_segment.specs.Parted.{Parted}
+use Rattle.hg_segment.specs.Parted.{Parted, plain_number}
 use Rattle.hg_heap.specs.Held.{segment_in}
-
-abbrev pub plain_number : PlainWords → ℕ
-plain_number slots = slots.segment
 
 -- the word of a place, if its segment is held
 abbrev pub word_in : List (Kept PlainWords) → Place → Option ℕ
@@ -25,5 +22,5 @@ pub record PartedIn (place : Place) (live : ℕ) (old new : List (Kept PlainWord
   pub after : Kept PlainWords
   pub at : slice_get old found ≡ Some before
   pub now : new ≡ slice_set old found after
-  pub segment : before.slots.segment ≡ place.segment
+  pub segment : plain_number before.slots ≡ place.segment
   pub parted : Parted place live before after

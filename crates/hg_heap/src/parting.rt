@@ -2,8 +2,9 @@
 
 ghost use Rattle.std.specs.Prelude.{◌≡◌, ◌≢◌, true, Some, OnOk, IfErr};
 ghost use Rattle.hg_place.specs.Lives.{IsLiveWord};
+ghost use Rattle.hg_segment.specs.Parted.{plain_number};
 ghost use Rattle.hg_heap.specs.Held.{is_held, KeepsLists};
-ghost use Rattle.hg_heap.specs.Parting.{plain_number, word_in, PartedIn};
+ghost use Rattle.hg_heap.specs.Parting.{word_in, PartedIn};
 
 use crate::Heap;
 use hg_place::{Place, PlainWords};

@@ -1,9 +1,12 @@
 -- What the calls of a pool owe.
-use Rattle.std.proofs.Common.{◌≡◌, ℕ, ◌<◌, Bool, true, false, List, length, Option, Some, None, slice_index_or, sym, ap, ◌∙◌, subst, ◌↔◌}
+use Rattle.std.proofs.Common.{◌≡◌, ℕ, ◌<◌, ◌==◌, Bool, true, false, cond, List, [], ◌∷◌, ◌++◌, length}
+use Rattle.std.proofs.Common.{Option, Some, None, find, slice_index_or, sym, ap, ◌∙◌, subst, ◌↔◌}
+use Rattle.std.proofs.Common.{inl, inr}
+use Rattle.std.proofs.lemmas.Bool.{cases_Bool, eqb-true}
 use Rattle.std.specs.Prelude.{IsTrue, is_some}
 use Rattle.std.proofs.lemmas.List.{get_or_read}
 use Rattle.hg_segment.specs.Kept.{Kept}
-use Rattle.hg_pool.specs.Pooled.{Pooled, IsPooled, IsRight, segment_of}
+use Rattle.hg_pool.specs.Pooled.{Pooled, IsPooled, IsRight, segment_of, is_numbered}
 use Rattle.hg_pool.specs.Shown.{at_number, IsKept}
 use Rattle.hg_pool.proofs.Keeping.{seen, segment_at, seen_right, pooled_below}
 
@@ -27,3 +30,17 @@ module _ {S : Type 0} (number : S → ℕ) where
 
   pub pooled_iff : (segments : List (Option (Kept S))) (orphans fresh : List ℕ) (now : Pooled S) (n : ℕ) (o : Option (Kept S)) (answer : Bool) → IsKept number segments orphans fresh → seen segments orphans fresh ≡ now → n < length segments → o ≡ slice_index_or segments n o → is_some o ≡ answer → IsTrue answer ↔ IsPooled number now n
   pooled_iff segments orphans fresh now n o answer h e lt read is = some_iff now n o answer (at_now segments orphans fresh now n h e ∙ read_at segments n o lt read) is
+
+  -- the segment of a number has it
+  passes : (segments : List (Kept S)) (n : ℕ) (one : Kept S) → find (is_numbered number n) segments ≡ Some one → number one.slots ≡ n
+  passes [] n one e = absurd (cc)
+  passes (x ∷ xs) n one e = elim (cases_Bool (number x.slots == n)) as (λ _. number one.slots ≡ n) [
+    | inl t ↦
+        let same : Some x ≡ Some one = sym (ap (λ b. cond b (Some x) (find (is_numbered number n) xs)) t) ∙ e in
+        let is : x ≡ one = cc in
+        ap (λ (k : Kept S). number k.slots) (sym is) ∙ eqb-true (number x.slots) n t
+    | inr f ↦ passes xs n one (sym (ap (λ b. cond b (Some x) (find (is_numbered number n) xs)) f) ∙ e)
+  ]
+
+  pub numbered_as : (now : Pooled S) (n : ℕ) (one : Kept S) → segment_of number now n ≡ Some one → number one.slots ≡ n
+  numbered_as now n one e = passes (now.orphans ++ now.fresh) n one e

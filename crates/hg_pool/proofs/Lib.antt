@@ -7,3 +7,4 @@ mod Calls
 mod Puts
 mod Nexts
 mod Placed
+pub mod Replacing

@@ -1,3 +1,4 @@
 pub mod Pooled
+pub mod Parting
 pub mod Shown
 pub mod PoolLaws

@@ -1,6 +1,6 @@
 -- The segments that nobody holds, over slot words S whose segment has a number.
 use Rattle.std.specs.Prelude.{◌≡◌, ℕ, ◌<◌, ◌==◌, Bool, not, List, [], ◌∷◌, ◌++◌, map, filter}
-use Rattle.std.specs.Prelude.{Option, Some, find}
+use Rattle.std.specs.Prelude.{Option, Some, find, if◌then◌else◌}
 use Rattle.std.specs.List.{AllByRecursion}
 use Rattle.std.specs.Option.{option_or}
 use Rattle.hg_lists.specs.Repeats.{HasNoRepeats}
@@ -48,6 +48,17 @@ module _ {S : Type 0} (number : S → ℕ) where
   without_segment pool segment = record {
     orphans = without_number segment pool.orphans;
     fresh = without_number segment pool.fresh;
+  }
+
+  abbrev pub replaced : ℕ → Kept S → List (Kept S) → List (Kept S)
+  replaced segment now segments =
+      map (λ one. if is_numbered segment one then now else one) segments
+
+  -- the pool with this one in the place of the segment of a number
+  abbrev pub with_segment : Pooled S → ℕ → Kept S → Pooled S
+  with_segment pool segment now = record {
+    orphans = replaced segment now pool.orphans;
+    fresh = replaced segment now pool.fresh;
   }
 
   abbrev pub numbers : List (Kept S) → List ℕ

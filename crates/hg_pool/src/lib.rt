@@ -3,6 +3,7 @@
 
 pub mod laws;
 mod numbers;
+mod parting;
 mod pool;
 
 pub use pool::Pool;

@@ -1,5 +1,7 @@
+ghost use Rattle.hg_place.specs.Lives.{IsLiveWord};
+
 use crate::Pool;
-use hg_place::{MAX_SEGMENTS, Place, PlainWords, Standing};
+use hg_place::{MAX_SEGMENTS, Place, PlainWords, Standing, pack};
 use hg_segment::Segment;
 use hg_size::class_of;
 use std::alloc::Global;
@@ -111,4 +113,59 @@ fn pool_refused_in_turn(rt: HostRuntime) {
         assert_eq!(&rt; next(&mut pool, 1), Some(63));
         assert!(&rt; !pool.has(63));
     }
+}
+
+/// The word of a block of tenant 7's of the first generation.
+fn live() -> u64
+    ensures { IsLiveWord result }
+{
+    pack(1, 7, true)
+}
+
+/// A segment that has a block in its first page, of tenant 7's.
+fn with_block(rt: &impl Abort, alloc: Global, number: u8) -> (Segment<PlainWords>, Place) {
+    let mut one = segment(rt, alloc, number, 0);
+    let class = class_of(512).expect(rt, "a class");
+    assert!(rt; one.class_of(0).is_none());
+    one.assign_page(0, class);
+    let block = one.open_in(0, 7).expect(rt, "a place");
+    (one, block.place)
+}
+
+/// The word of a place of a segment that is there.
+fn word(rt: &impl Abort, pool: &Pool<PlainWords>, place: Place) -> u64 {
+    if !pool.has(place.segment) {
+        panic!(rt; "no such segment");
+    }
+    pool.word(place)
+}
+
+/// Parts a place of a segment that is there.
+fn part(
+    rt: &impl Abort,
+    pool: &mut Pool<PlainWords>,
+    place: Place,
+    expected: u64,
+) -> Result<(), u64>
+    requires { IsLiveWord expected }
+{
+    if !pool.has(place.segment) {
+        panic!(rt; "no such segment");
+    }
+    pool.part(place, expected)
+}
+
+// A block of a segment that nobody holds is parted once.
+#[test]
+fn parted_once(rt: HostRuntime) {
+    let mut pool = Pool::new(rt.alloc()).expect(&rt, "memory");
+    let (one, place) = with_block(&rt, rt.alloc(), 5);
+    put(&rt, &mut pool, segment(&rt, rt.alloc(), 4, 0), true);
+    put(&rt, &mut pool, one, true);
+    assert_eq!(&rt; word(&rt, &pool, place), live());
+    assert_eq!(&rt; part(&rt, &mut pool, place, live()), Ok(()));
+    assert_eq!(&rt; word(&rt, &pool, place), live() - 1);
+    assert_eq!(&rt; part(&rt, &mut pool, place, live()), Err(live() - 1));
+    assert_eq!(&rt; next(&mut pool, 0), Some(4));
+    assert_eq!(&rt; next(&mut pool, 0), Some(5));
 }

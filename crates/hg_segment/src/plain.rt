@@ -1,10 +1,10 @@
 //! A segment for one thread alone.
 
-ghost use Rattle.std.specs.Prelude.{◌≡◌, ◌≢◌, slice_index, OnOk, IfErr};
+ghost use Rattle.std.specs.Prelude.{◌≡◌, slice_index, OnOk, IfErr};
 ghost use Rattle.hg_place.specs.Lives.{IsLiveWord};
 ghost use Rattle.hg_place.specs.Standings.{slot_of};
 ghost use Rattle.hg_place.specs.Plain.{plain_words};
-ghost use Rattle.hg_segment.specs.Parted.{Parted};
+ghost use Rattle.hg_segment.specs.Parted.{Parted, NotParted};
 
 use crate::Segment;
 use hg_place::{Place, PlainWords};
@@ -25,9 +25,7 @@ impl Segment<PlainWords> {
         requires segment { place.segment ≡ self.old.slots.segment }
         requires live { IsLiveWord expected }
         ensures parted { OnOk result (Parted place expected self.old self.new) }
-        ensures err { IfErr result (λ word. (word ≢ expected)
-            × (slice_index (plain_words self.old.slots) (slot_of place) ≡ word)
-            × (self.new ≡ self.old)) }
+        ensures other { IfErr result (λ word. NotParted place expected word self.old self.new) }
     {
         self.slots.part(place, expected)
     }

@@ -1,5 +1,5 @@
 use Rattle.std.proofs.Common.{sym}
-use Rattle.hg_heap.specs.Parting.{plain_number}
+use Rattle.hg_segment.specs.Parted.{plain_number}
 use Rattle.hg_heap.proofs.Founds.{found_of, number_is}
 use Rattle.hg_heap.proofs.PartCall.{part_lists, part_right, part_parted, part_other}
 use Rattle.hg_heap.proofs.parting.Heap+PlainWords.part.Goals as goal
@@ -19,7 +19,7 @@ invariant_of-self c = let s = c.settled.ensures in
     (found_of plain_number c.self.inside.segments.items c.args.place.segment c.in-Some.found
     c.index_mut-segment.result.now (rw (← c.self.view_is) at c.in-Some.ensures.some)
     c.index_mut-segment.ensures.value)
-    c.part-parted.result c.part-parted.ensures.parted c.part-parted.ensures.err
+    c.part-parted.result c.part-parted.ensures.parted c.part-parted.ensures.other
     _ _ _ _ c.self.invariant
     (record {
       lists = s.lists;
@@ -49,7 +49,7 @@ returns-clause-err c = rw (← c.self.view_is)
     (found_of plain_number c.self.inside.segments.items c.args.place.segment c.in-Some.found
     c.index_mut-segment.result.now (rw (← c.self.view_is) at c.in-Some.ensures.some)
     c.index_mut-segment.ensures.value)
-    c.part-parted.result c.part-parted.ensures.err)
+    c.part-parted.result c.part-parted.ensures.other)
 
 pub returns-clause-lists : goal.returns-clause-lists
 returns-clause-lists c = rw (← c.self.view_is)
@@ -58,4 +58,4 @@ returns-clause-lists c = rw (← c.self.view_is)
     (found_of plain_number c.self.inside.segments.items c.args.place.segment c.in-Some.found
     c.index_mut-segment.result.now (rw (← c.self.view_is) at c.in-Some.ensures.some)
     c.index_mut-segment.ensures.value)
-    c.part-parted.result c.part-parted.ensures.parted c.part-parted.ensures.err)
+    c.part-parted.result c.part-parted.ensures.parted c.part-parted.ensures.other)

@@ -1,5 +1,5 @@
 use Rattle.std.proofs.Common.{◌∙◌, sym, ap, Some, get_or}
-use Rattle.hg_heap.specs.Parting.{plain_number}
+use Rattle.hg_segment.specs.Parted.{plain_number}
 use Rattle.hg_heap.proofs.Founds.{found_of, number_is}
 use Rattle.hg_heap.proofs.PartCall.{word_there}
 use Rattle.hg_heap.proofs.parting.Heap+PlainWords.word.Goals as goal
