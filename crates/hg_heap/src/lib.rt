@@ -10,6 +10,7 @@ mod heap;
 pub mod laws;
 mod reading;
 mod refused;
+mod releasing;
 mod requeue;
 
 pub use heap::Heap;

@@ -2,4 +2,5 @@ mod heaps;
 mod machine;
 mod one_heap;
 mod order;
+mod releases;
 mod seeded;
