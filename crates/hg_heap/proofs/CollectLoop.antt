@@ -1,9 +1,9 @@
 -- What a heap has become when the idle pages below a number have lost their class.
 use Rattle.std.proofs.Common.{◌≡◌, ◌≢◌, ℕ, suc, ◌+◌, ◌%◌, ◌<◌, ◌≤◌, ◌==◌, ◌&&◌, inl}
-use Rattle.std.proofs.Common.{inr, Bool, true, false, not, cond, nat_lt, ◌∷◌, [], List, map, filter}
+use Rattle.std.proofs.Common.{inr, Bool, true, false, not, cond, nat_lt, [], List, map, filter}
 use Rattle.std.proofs.Common.{Option, None, refl, sym, ap, ◌∙◌, arith}
 use Rattle.std.specs.List.{count_by, range_with_len}
-use Rattle.std.proofs.lemmas.Bool.{cases_Bool, cases_eq, cases_lt, and_left, and_right}
+use Rattle.std.proofs.lemmas.Bool.{cases_eq, cases_lt, and_left, and_right}
 use Rattle.std.proofs.lemmas.Bool.{lt-ltb, le-ltb, eq-eqb, ne_eqb}
 use Rattle.std.proofs.lemmas.Simd.{map-map}
 use Rattle.hg_lists.specs.Lists.{without}
@@ -15,64 +15,12 @@ use Rattle.hg_heap.specs.Held.{Held, kind_of, kinds, lists_on, class_on, all_pag
 use Rattle.hg_heap.specs.Idle.{is_idle, is_idle_by, idle_pages, IdleAreOut, Collected}
 use Rattle.hg_heap.specs.Idle.{bare}
 use Rattle.hg_heap.specs.Retiring.{RetiredOn}
+use Rattle.hg_heap.proofs.Filtered.{filters_twice, filters_same, filters_all}
 use Rattle.hg_heap.proofs.Founds.{held_beyond}
 use Rattle.hg_heap.proofs.Idles.{idle_same}
 use Rattle.hg_heap.proofs.ViewCharges.{sum_next}
 use Rattle.hg_heap.specs.Held.{segment_in}
 use Rattle.hg_heap.proofs.Blanks.{none_is}
-
--- lists filtered twice
-filter_twice : (p q r : ℕ → Bool) → ((x : ℕ) → r x ≡ (p x && q x)) → (xs : List ℕ)
-    → filter q (filter p xs) ≡ filter r xs
-filter_twice p q r h [] = refl
-filter_twice p q r h (x ∷ xs) =
-    elim (cases_Bool (p x)) as (λ _. filter q (filter p (x ∷ xs)) ≡ filter r (x ∷ xs)) [
-      | inl t ↦
-          ap (λ (b : Bool). filter q (cond b (x ∷ filter p xs) (filter p xs))) t
-          ∙ ap (λ (ys : List ℕ). cond (q x) (x ∷ ys) ys) (filter_twice p q r h xs)
-          ∙ ap (λ (b : Bool). cond b (x ∷ filter r xs) (filter r xs))
-          (sym (h x ∙ ap (λ (b : Bool). b && q x) t))
-      | inr f ↦
-          ap (λ (b : Bool). filter q (cond b (x ∷ filter p xs) (filter p xs))) f
-          ∙ filter_twice p q r h xs
-          ∙ ap (λ (b : Bool). cond b (x ∷ filter r xs) (filter r xs))
-          (sym (h x ∙ ap (λ (b : Bool). b && q x) f))
-    ]
-
-filters_twice : (p q r : ℕ → Bool) → ((x : ℕ) → r x ≡ (p x && q x)) → (xss : List (List ℕ))
-    → map (filter q) (map (filter p) xss) ≡ map (filter r) xss
-filters_twice p q r h [] = refl
-filters_twice p q r h (xs ∷ xss) =
-    ap (λ (ys : List ℕ). ys ∷ map (filter q) (map (filter p) xss)) (filter_twice p q r h xs)
-    ∙ ap (λ (yss : List (List ℕ)). filter r xs ∷ yss) (filters_twice p q r h xss)
-
--- filtered by tests that agree
-filter_same : (p q : ℕ → Bool) → ((x : ℕ) → p x ≡ q x) → (xs : List ℕ) → filter p xs ≡ filter q xs
-filter_same p q h [] = refl
-filter_same p q h (x ∷ xs) =
-    ap (λ (b : Bool). cond b (x ∷ filter p xs) (filter p xs)) (h x)
-    ∙ ap (λ (ys : List ℕ). cond (q x) (x ∷ ys) ys) (filter_same p q h xs)
-
-filters_same : (p q : ℕ → Bool) → ((x : ℕ) → p x ≡ q x) → (xss : List (List ℕ))
-    → map (filter p) xss ≡ map (filter q) xss
-filters_same p q h [] = refl
-filters_same p q h (xs ∷ xss) =
-    ap (λ (ys : List ℕ). ys ∷ map (filter p) xss) (filter_same p q h xs)
-    ∙ ap (λ (yss : List (List ℕ)). filter q xs ∷ yss) (filters_same p q h xss)
-
--- filtered by a test that all pass
-filter_all : (p : ℕ → Bool) → ((x : ℕ) → p x ≡ true) → (xs : List ℕ) → filter p xs ≡ xs
-filter_all p h [] = refl
-filter_all p h (x ∷ xs) =
-    ap (λ (b : Bool). cond b (x ∷ filter p xs) (filter p xs)) (h x)
-    ∙ ap (λ (ys : List ℕ). x ∷ ys) (filter_all p h xs)
-
-filters_all : (p : ℕ → Bool) → ((x : ℕ) → p x ≡ true) → (xss : List (List ℕ))
-    → map (filter p) xss ≡ xss
-filters_all p h [] = refl
-filters_all p h (xs ∷ xss) =
-    ap (λ (ys : List ℕ). ys ∷ map (filter p) xss) (filter_all p h xs)
-    ∙ ap (λ (yss : List (List ℕ)). xs ∷ yss) (filters_all p h xss)
 
 -- an idle page below the number is out
 abbrev pub is_out : (ℕ → Bool) → ℕ → ℕ → Bool

@@ -32,5 +32,9 @@ pub mod Policed
 pub mod PolicyKept
 pub mod Idles
 pub mod PageRetired
+pub mod Filtered
 pub mod CollectLoop
 pub mod CollectCall
+pub mod PagesRemoved
+pub mod Gone
+pub mod Released

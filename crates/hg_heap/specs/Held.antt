@@ -1,4 +1,5 @@
--- What a heap holds: its segments, in the order in which they came, and the queues of their pages.
+-- What a heap holds: its segments, in the order in which they came until one leaves, and the queues
+-- of their pages.
 use Rattle.std.specs.Prelude.{◌≡◌, ◌≢◌, ℕ, ◌%◌, ◌==◌, Bool, true, false, List, [], ◌∷◌, map}
 use Rattle.std.specs.Prelude.{Option, Some, None, find, is_some}
 use Rattle.std.specs.List.{range_with_len}

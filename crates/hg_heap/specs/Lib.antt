@@ -8,6 +8,7 @@ pub mod Lists
 pub mod Charges
 pub mod Idle
 pub mod Entering
+pub mod Releasing
 pub mod Policies
 pub mod Ties
 pub mod Answers

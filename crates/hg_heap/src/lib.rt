@@ -11,6 +11,7 @@ pub mod laws;
 mod parting;
 mod reading;
 mod refused;
+mod releasing;
 mod requeue;
 
 pub use heap::Heap;

@@ -3,4 +3,5 @@ mod machine;
 mod one_heap;
 mod order;
 mod parting;
+mod releases;
 mod seeded;

@@ -36,13 +36,14 @@ grant = [ {owner = \"alice\", to = \"bob\", rights = [\"read\", \"free\"]},
 /// The bytes that are asked for.
 static BYTES: [u64; 9] = [0, 24, 200, 512, 700, 1300, 2000, 4096, 5000];
 
-/// A heap, its models, and the handles that were given out.
+/// A heap, its models, the handles that were given out, and the segments that have left.
 #[derive(Drop)]
 struct Run {
     tried: Tried,
     machine: Machine,
     order: Order,
     handles: Vec<Handle>,
+    away: Vec<Segment<PlainWords>>,
 }
 
 /// The word of a live block.
@@ -89,6 +90,7 @@ impl Run {
             machine: Machine::new(rt, alloc, 3),
             order: Order::new(rt, alloc, 3),
             handles: Vec::new(alloc),
+            away: Vec::new(alloc),
         }
     }
 
@@ -98,6 +100,31 @@ impl Run {
         self.tried.adopt(rt, segment);
         self.machine.adopt(rt, number, arena);
         self.order.adopt(rt, alloc, number, arena);
+    }
+
+    /// A segment leaves, if it is held.
+    fn release(&mut self, rt: &impl Abort, number: u64) {
+        let segment = pick(number, 32, 4) as u8;
+        let is_held = self.tried.heap.holds(segment);
+        let released = self.tried.heap.release(segment);
+        assert_eq!(rt; released.is_some(), is_held);
+        let Some(released) = released else {
+            return;
+        };
+        assert!(rt; !self.tried.heap.holds(segment));
+        assert_eq!(rt; released.number(), segment);
+        self.machine.release(rt, segment);
+        self.order.release(rt, segment);
+        self.away.push(released).expect(rt, "memory");
+    }
+
+    /// A segment that has left comes back.
+    fn come_back(&mut self, rt: &impl Abort, alloc: Global, number: u64) {
+        let at = pick(number, 32, self.away.len());
+        if at < self.away.len() {
+            let segment = self.away.swap_remove(at);
+            self.adopt(rt, alloc, segment);
+        }
     }
 
     /// A block was given out.
@@ -286,8 +313,10 @@ impl Run {
             0 => self.collect(rt, alloc),
             1..26 => self.alloc(rt, alloc, number),
             26..46 => self.free(rt, alloc, number),
-            46..52 => self.reach(rt, number, false),
-            52..58 => self.reach(rt, number, true),
+            46..51 => self.reach(rt, number, false),
+            51..56 => self.reach(rt, number, true),
+            56 => self.release(rt, number),
+            57..59 => self.come_back(rt, alloc, number),
             _ => self.look(rt, number),
         }
         assert_eq!(rt; self.tried.heap.charge(0), self.machine.charge(rt, 0));
@@ -357,7 +386,7 @@ impl Run {
     }
 }
 
-/// A run from a seed, during which segments come.
+/// A run from a seed, during which segments come and go.
 fn run_from(rt: &impl Abort, alloc: Global, seed: u64) {
     let mut run = Run::new(rt, alloc);
     let seed = run.steps(rt, alloc, seed, 20);
@@ -370,6 +399,9 @@ fn run_from(rt: &impl Abort, alloc: Global, seed: u64) {
     let segment = fresh(rt, alloc, &run.tried.policy, 2);
     run.adopt(rt, alloc, segment);
     run.steps(rt, alloc, seed, 2400);
+    for _ in 0..3 {
+        run.come_back(rt, alloc, seed);
+    }
     let heap = &run.tried.heap;
     assert!(rt; heap.holds(0) && heap.holds(1) && heap.holds(2));
     assert_eq!(rt; heap.arena(0), MAIN);
