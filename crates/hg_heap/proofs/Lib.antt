@@ -9,6 +9,7 @@ pub mod Beginning
 pub mod Giving
 pub mod OpenBlocks
 pub mod Looking
+pub mod MeetCall
 pub mod ReadCall
 pub mod LookCall
 pub mod Putting

@@ -8,6 +8,7 @@ mod collecting;
 mod freeing;
 mod heap;
 pub mod laws;
+mod meeting;
 mod reading;
 mod refused;
 mod requeue;
