@@ -14,6 +14,7 @@ pub mod Ties
 pub mod Answers
 pub mod Freeing
 pub mod Stays
+pub mod Met
 pub mod Reading
 pub mod Settled
 pub mod Right

@@ -8,6 +8,7 @@ mod collecting;
 mod freeing;
 mod heap;
 pub mod laws;
+mod meeting;
 mod parting;
 mod reading;
 mod refused;

@@ -2,7 +2,7 @@
 
 use crate::Pool;
 use crate::tests::{put, segment};
-use hg_place::{MAX_SEGMENTS, PlainWords};
+use hg_place::PlainWords;
 use hg_segment::Segment;
 use std::alloc::Global;
 use std::process::Abort;
@@ -67,7 +67,6 @@ fn step(
     number: usize,
 ) {
     let segment = (number / 8 % SEGMENTS as usize) as u8;
-    assert!(rt; (segment as usize) < MAX_SEGMENTS);
     let taken = match number % 8 {
         0 => {
             let next = plain.next(arena_of(segment));

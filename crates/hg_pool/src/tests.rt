@@ -58,6 +58,7 @@ fn pool_order(rt: HostRuntime) {
     assert_eq!(&rt; next(&mut pool, 1), None);
     assert!(&rt; pool.pick(63).is_some());
     assert!(&rt; pool.pick(63).is_none());
+    assert!(&rt; pool.pick(64).is_none());
     assert_eq!(&rt; next(&mut pool, 2), Some(0));
     assert_eq!(&rt; next(&mut pool, 2), None);
 }

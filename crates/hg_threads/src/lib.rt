@@ -4,6 +4,8 @@
 #[cfg(test)]
 mod both_words;
 #[cfg(test)]
+mod heap_meets;
+#[cfg(test)]
 mod policies;
 #[cfg(test)]
 mod refused;
