@@ -27,6 +27,10 @@ is_blank b = b == 32 || (b == 9 || b == 13)
 abbrev pub is_allowed : ℕ → Bool
 is_allowed b = is_blank b || (nat_le 0x21 b && nat_le b 0x7E)
 
+-- a byte that is read wherever it stands, or a line's end
+abbrev pub is_plain : ℕ → Bool
+is_plain b = is_allowed b || ends_line b
+
 abbrev pub is_some_word : List ℕ → Bool
 is_some_word [] = false
 is_some_word (b ∷ bs) = true

@@ -4,9 +4,9 @@ ghost use Rattle.std.specs.Prelude.{◌≡◌, ◌≤◌, ◌<◌, ◌∷◌, �
 ghost use Rattle.std.specs.Prelude.{MatchOption, position, not, true, false};
 ghost use Rattle.std.specs.List.{list_all, concat, before_first};
 ghost use Rattle.hg_trace.specs.Lines.{lines_of, before_comment, ends_line, ends_text, is_blank};
-ghost use Rattle.hg_trace.specs.Lines.{is_allowed};
+ghost use Rattle.hg_trace.specs.Lines.{is_allowed, is_plain};
 
-use memchr::memchr;
+use memchr::{memchr, memchr2};
 use std::marker::Model;
 
 /// The lines that are left of some bytes.
@@ -119,7 +119,7 @@ fn read_end(line: &[u8]) -> Option<usize>
 }
 
 /// What is read of a line, unless it has a byte that can't stand there.
-pub(crate) fn clean_text(line: &[u8]) -> Option<&[u8]>
+fn clean_text(line: &[u8]) -> Option<&[u8]>
     ensures { MatchOption result
         (list_all is_allowed (before_comment line.now) ≡ false)
         (λ text. (list_all is_allowed text.now ≡ true) × (text.now ≡ before_comment line.now)) }
@@ -128,5 +128,52 @@ pub(crate) fn clean_text(line: &[u8]) -> Option<&[u8]>
         None => Some(line),
         Some(end) if ends_text(line[end]) => Some(&line[..end]),
         Some(_) => None,
+    }
+}
+
+/// Where a line's text ends.
+fn text_end(line: &[u8]) -> Option<usize>
+    ensures { result ≡ position ends_text line.now }
+{
+    memchr2(b'\n', b'#', line)
+}
+
+/// A line without its comment and its end.
+#[tactic(auto, using(crate::proofs::Firsts::unwrap_or_position))]
+fn before_comment(line: &[u8]) -> &[u8]
+    ensures { result.now ≡ before_comment line.now }
+{
+    &line[..text_end(line).unwrap_or(line.len())]
+}
+
+fn is_plain(b: u8) -> bool
+    ensures { result ≡ is_plain b }
+{
+    (b' ' <= b && b <= b'~') || is_blank(b) || ends_line(b)
+}
+
+/// Whether all bytes are plain. None of them ends the search, so many are looked at at once.
+pub(crate) fn are_plain(bytes: &[u8]) -> bool
+    ensures { result ≡ list_all is_plain bytes.now }
+{
+    let mut plain = true;
+    for b in bytes {
+        plain &= is_plain(*b);
+    }
+    plain
+}
+
+/// What is read of a line, unless it has a byte that can't stand there. Of a line that is known to
+/// have plain bytes alone no byte is looked at but for the end.
+pub(crate) fn text_of(line: &[u8], plain: bool) -> Option<&[u8]>
+    requires { plain ≡ true → list_all is_plain line.now ≡ true }
+    ensures { MatchOption result
+        (list_all is_allowed (before_comment line.now) ≡ false)
+        (λ text. (list_all is_allowed text.now ≡ true) × (text.now ≡ before_comment line.now)) }
+{
+    if plain {
+        Some(before_comment(line))
+    } else {
+        clean_text(line)
     }
 }
