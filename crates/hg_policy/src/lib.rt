@@ -21,5 +21,5 @@ mod values;
 pub use document::read_policy;
 pub use fault::PolicyFault;
 pub use key::{Counted, Key};
-pub use name_form::is_name;
+pub use name_form::{is_name, is_name_byte};
 pub use policy::Policy;

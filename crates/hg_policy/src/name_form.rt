@@ -29,10 +29,15 @@ fn are_name_bytes(bytes: &[u8]) -> bool
     bytes.iter().all(|b| is_name_byte(*b))
 }
 
-fn is_name_byte(b: u8) -> bool
+/// Whether a byte can stand in a name: `a` to `z`, `0` to `9`, `_` and `-`.
+pub fn is_name_byte(b: u8) -> bool
     ensures { result ≡ is_name_byte b }
 {
-    matches!(b, b'a'..=b'z' | b'0'..=b'9' | b'_' | b'-')
+    // Nearly every byte of a name is a letter, so that is tried alone first.
+    if b.is_ascii_lowercase() {
+        return true;
+    }
+    matches!(b, b'0'..=b'9' | b'_' | b'-')
 }
 
 /// The name at a key.

@@ -3,7 +3,9 @@ pub mod Binds
 pub mod LineReads
 pub mod LineCuts
 pub mod TextCuts
+pub mod PlainText
 pub mod WordCuts
+pub mod NameCuts
 pub mod NameBytes
 pub mod Numerals
 pub mod Decimals

@@ -1,4 +1,5 @@
 pub mod Lines
+pub mod NameFront
 pub mod Numbers
 pub mod NumberLaws
 pub mod Faults

@@ -2,6 +2,8 @@
 
 ghost use Rattle.std.specs.Prelude.{◌≡◌, ◌≢◌, ◌^◌, ◌++◌, ◌∷◌, [], IfOk, IfErr, OnOk};
 ghost use Rattle.std.specs.Prelude.{MatchResult, Ok, Err, ok_or, bytes_eq, true, false};
+ghost use Rattle.std.specs.List.{list_all};
+ghost use Rattle.hg_trace.specs.Lines.{is_no_hash, is_plain};
 ghost use Rattle.hg_trace.specs.Numbers.{number_below};
 ghost use Rattle.hg_trace.specs.Commands.{worker_of, command_at, words_at};
 ghost use Rattle.hg_trace.specs.Labels.{repeats, with_label};
@@ -12,7 +14,7 @@ use crate::commands::command_of;
 use crate::fault::{LineFault, TraceFault};
 use crate::labels::Labels;
 use crate::line::{Line, Trace};
-use crate::lines::{Lines, clean_text};
+use crate::lines::{Cut, Lines, are_plain, are_uncommented};
 use crate::numbers::parse_number;
 use crate::words::Words;
 use std::alloc::Global;
@@ -83,17 +85,21 @@ fn read_words<'a>(
     }
 }
 
-/// Reads the line with this number.
+/// Reads the line with this number, which may be known to have plain bytes alone, or no comment.
 fn read_line<'a>(
     trace: &mut Trace<'a>,
     labels: &mut Labels<'a>,
     number: u64,
-    line: &'a [u8],
+    line: Cut<'a>,
+    plain: bool,
+    uncommented: bool,
 ) -> Result<(), TraceFault>
-    ensures { Reads (numbered number (line_at labels.old line.now))
+    requires plain { plain ≡ true → list_all is_plain line ≡ true }
+    requires uncommented { uncommented ≡ true → list_all is_no_hash line ≡ true }
+    ensures { Reads (numbered number (line_at labels.old line.entry))
         trace.old trace.new labels.old labels.new result }
 {
-    match clean_text(line) {
+    match line.text(plain, uncommented) {
         Some(text) => read_words(trace, labels, number, &mut Words::new(text)),
         None => Err(LineFault::Byte.at(number)),
     }
@@ -108,10 +114,12 @@ pub fn read_trace<'a>(alloc: Global, bytes: &'a [u8]) -> Result<Trace<'a>, Trace
     let mut trace = Trace::new(alloc);
     let mut labels = Labels::new(alloc);
     let mut lines = Lines::new(bytes);
+    let plain = are_plain(bytes);
+    let uncommented = are_uncommented(bytes);
     let mut number = 0;
-    while let Some(line) = lines.next_line() {
+    while let Some(line) = lines.next_cut() {
         number += 1;
-        read_line(&mut trace, &mut labels, number, line)?;
+        read_line(&mut trace, &mut labels, number, line, plain, uncommented)?;
     }
     Ok(trace)
 }

@@ -66,8 +66,16 @@ impl<'a> Words<'a> {
             (λ name. name_operand self.old ≡ Ok (name, self.new))
             (λ fault. name_operand self.old ≡ Err fault) }
     {
-        let word = self.next_word().ok_or(LineFault::Operand)?;
-        Name::of(word).ok_or(LineFault::Operand)
+        let Some(start) = word_start(self.rest) else {
+            return Err(LineFault::Operand);
+        };
+        match Name::at_front(&self.rest[start..]) {
+            Some((name, rest)) => {
+                self.rest = rest;
+                Ok(name)
+            }
+            None => Err(LineFault::Operand),
+        }
     }
 
     /// The next word, as a number of at most 64 bits.

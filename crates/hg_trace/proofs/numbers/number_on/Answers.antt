@@ -1,5 +1,4 @@
-use Rattle.std.proofs.Common.{◌≡◌, ◌^◌, ◌≤◌, ◌-◌, ◌*◌, ◌+◌, None, get_or, drop, sym, ◌∙◌, arith}
-use Rattle.hg_trace.specs.Numbers.{number_on}
+use Rattle.std.proofs.Common.{◌^◌, ◌≤◌, ◌-◌, ◌*◌, ◌+◌, get_or, drop, sym, ◌∙◌, arith}
 use Rattle.hg_trace.proofs.Numerals.{number_on-digit, number_on-great}
 use Rattle.hg_trace.proofs.numbers.number_on.Goals as goal
 
