@@ -1,0 +1,9 @@
+pub mod Rights
+pub mod Accounted
+pub mod Tidy
+pub mod Seats
+pub mod SeatChanges
+pub mod Remotes
+pub mod Moved
+pub mod Swept
+pub mod Links
