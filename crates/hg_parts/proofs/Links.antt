@@ -16,11 +16,18 @@ settled_right policy s arena greatest h = record {
     number = slice_get_within policy.segments s.slots.segment s.arena arena;
     sizes = h.sizes;
     whole = h.words;
-    bounded = λ at. subst (λ k. standing_generation (standing_at (plain_records s.slots) at) ≤ k) greatest (h.bounded at);
-    given_out = λ at out. elim (cases_lt at 8192) as (λ _. 1 ≤ standing_generation (standing_at (plain_records s.slots) at)) [
-      | inl lt ↦ (s.slots.fit at lt).1.given_out out
-      | inr ge ↦ absurd (let past : is_home (standing_at (plain_records s.slots) at) ≡ is_home (Home 0) = ap is_home (get_or_past (plain_records s.slots) at (Home 0) (omega (arith, ge, s.slots.all_records))) in cc)
-    ];
+    bounded =
+        λ at. subst (λ k. standing_generation (standing_at (plain_records s.slots) at) ≤ k) greatest
+        (h.bounded at);
+    given_out =
+        λ at out. elim (cases_lt at 8192) as (λ _. 1 ≤ standing_generation
+        (standing_at (plain_records s.slots) at)) [
+          | inl lt ↦ (s.slots.fit at lt).1.given_out out
+          | inr ge ↦ absurd (let past : is_home (standing_at (plain_records s.slots) at)
+              ≡ is_home (Home 0) =
+              ap is_home (get_or_past (plain_records s.slots) at (Home 0)
+              (omega (arith, ge, s.slots.all_records))) in cc)
+        ];
     placed = h.opened;
   };
   lists = h.lists;

@@ -1,5 +1,6 @@
 -- A change of one place, wherever its segment stands, in the state.
-use Rattle.std.proofs.Common.{◌≡◌, ◌≢◌, ℕ, ◌+◌, ◌*◌, ◌%◌, ◌<◌, [], length, map, set, slice_get, refl, sym, ap, ◌∙◌, arith, inl, inr}
+use Rattle.std.proofs.Common.{◌≡◌, ◌≢◌, ℕ, ◌+◌, ◌*◌, ◌%◌, ◌<◌, [], length, map, set, slice_get}
+use Rattle.std.proofs.Common.{refl, sym, ap, ◌∙◌, arith, inl, inr}
 use Rattle.std.specs.Prelude.{Some, None}
 use Rattle.std.specs.List.{range_with_len}
 use Rattle.std.proofs.lemmas.Bool.{cases_eq, cases_lt, eq-eqb}
@@ -8,17 +9,21 @@ use Rattle.hg_place.specs.Places.{segment_of, segment_of_page}
 use Rattle.hg_machine.specs.Life.{never_used}
 use Rattle.hg_agreement.specs.Holdings.{class_of}
 use Rattle.hg_agreement.specs.LeftPut.{numbers}
-use Rattle.hg_agreement.specs.Parts.{Plain, Parts, is_of, heap_at, plain_of, record_by, class_by, record_of, page_class, holder_of, state_of}
+use Rattle.hg_agreement.specs.Parts.{Plain, Parts, is_of, heap_at, plain_of, record_by, class_by}
+use Rattle.hg_agreement.specs.Parts.{record_of, page_class, holder_of, state_of}
 use Rattle.hg_agreement.proofs.Lookups.{maps, map_set}
 use Rattle.hg_agreement.proofs.Putting.{put_is_put}
 use Rattle.hg_parts.specs.Tidy.{IsTidy}
-use Rattle.hg_parts.specs.Seats.{Seat, orphans_with, with_seated, IsSeatPut, SeatIsSwap, SeatPutIsRecord, HeapPutIsPut}
+use Rattle.hg_parts.specs.Seats.{Seat, orphans_with, with_seated, IsSeatPut, SeatIsSwap}
+use Rattle.hg_parts.specs.Seats.{SeatPutIsRecord, HeapPutIsPut}
 use Rattle.hg_parts.proofs.Seated.{plain_in, holder_in, plain_is, holder_is}
-use Rattle.hg_parts.proofs.SeatChanges.{inside, found_before, found_after, found_other, orphans_same}
+use Rattle.hg_parts.proofs.SeatChanges.{inside, found_before, found_after, found_other}
+use Rattle.hg_parts.proofs.SeatChanges.{orphans_same}
 use Rattle.hg_parts.proofs.Sorted.{tidy_sorted, heap_once}
 use Rattle.hg_parts.proofs.Founds.{stands_first}
 
-module _ (parts : Parts) (seat : Seat) (one now : Plain) (at : ℕ) (t : IsTidy parts) (put : IsSeatPut parts seat one now at) where
+module _ (parts : Parts) (seat : Seat) (one now : Plain) (at : ℕ) (t : IsTidy parts)
+    (put : IsSeatPut parts seat one now at) where
   abbrev n : ℕ
   n = one.holding.number
 
@@ -26,32 +31,42 @@ module _ (parts : Parts) (seat : Seat) (one now : Plain) (at : ℕ) (t : IsTidy 
   after = with_seated parts seat now parts.hands
 
   before_here : plain_of parts n ≡ Some one
-  before_here = plain_is parts n ∙ ap plain_in (found_before parts seat one now parts.hands t put.swap refl)
+  before_here =
+      plain_is parts n ∙ ap plain_in (found_before parts seat one now parts.hands t put.swap refl)
 
   after_here : plain_of after n ≡ Some now
-  after_here = plain_is after n ∙ ap plain_in (found_after parts seat one now parts.hands t put.swap refl)
+  after_here =
+      plain_is after n ∙ ap plain_in (found_after parts seat one now parts.hands t put.swap refl)
 
   plain_other : (m : ℕ) → m ≢ n → plain_of after m ≡ plain_of parts m
-  plain_other m ne = plain_is after m ∙ sym (ap plain_in (found_other parts seat one now parts.hands t put.swap refl m ne)) ∙ sym (plain_is parts m)
+  plain_other m ne =
+      plain_is after m ∙ sym
+      (ap plain_in (found_other parts seat one now parts.hands t put.swap refl m ne))
+      ∙ sym (plain_is parts m)
 
   holder_same : (m : ℕ) → holder_of after m ≡ holder_of parts m
   holder_same m = elim (cases_eq m n) as (λ _. holder_of after m ≡ holder_of parts m) [
     | inl e ↦ ap (holder_of after) e
-        ∙ holder_is after n ∙ ap holder_in (found_after parts seat one now parts.hands t put.swap refl)
-        ∙ sym (ap (holder_of parts) e ∙ holder_is parts n ∙ ap holder_in (found_before parts seat one now parts.hands t put.swap refl))
-    | inr ne ↦ holder_is after m ∙ sym (ap holder_in (found_other parts seat one now parts.hands t put.swap refl m ne)) ∙ sym (holder_is parts m)
+        ∙ holder_is after n ∙ ap holder_in
+        (found_after parts seat one now parts.hands t put.swap refl)
+        ∙ sym (ap (holder_of parts) e ∙ holder_is parts n
+        ∙ ap holder_in (found_before parts seat one now parts.hands t put.swap refl))
+    | inr ne ↦ holder_is after m
+        ∙ sym (ap holder_in (found_other parts seat one now parts.hands t put.swap refl m ne))
+        ∙ sym (holder_is parts m)
   ]
 
   record_other : (q : ℕ) → q ≢ n * 8192 + at → record_of after q ≡ record_of parts q
-  record_other q ne = elim (cases_eq (segment_of q) n) as (λ _. record_of after q ≡ record_of parts q) [
-    | inl e ↦
-        ap (λ s. record_by (plain_of after s) (q % 8192)) e
-        ∙ ap (λ o. record_by o (q % 8192)) after_here
-        ∙ put.others (q % 8192) (omega arith) (λ f. ne (omega (arith, e, f)))
-        ∙ sym (ap (λ o. record_by o (q % 8192)) before_here)
-        ∙ sym (ap (λ s. record_by (plain_of parts s) (q % 8192)) e)
-    | inr away ↦ ap (λ o. record_by o (q % 8192)) (plain_other (segment_of q) away)
-  ]
+  record_other q ne = elim (cases_eq (segment_of q) n) as (λ _. record_of after q
+      ≡ record_of parts q) [
+        | inl e ↦
+            ap (λ s. record_by (plain_of after s) (q % 8192)) e
+            ∙ ap (λ o. record_by o (q % 8192)) after_here
+            ∙ put.others (q % 8192) (omega arith) (λ f. ne (omega (arith, e, f)))
+            ∙ sym (ap (λ o. record_by o (q % 8192)) before_here)
+            ∙ sym (ap (λ s. record_by (plain_of parts s) (q % 8192)) e)
+        | inr away ↦ ap (λ o. record_by o (q % 8192)) (plain_other (segment_of q) away)
+      ]
 
   record_here : record_of after (n * 8192 + at) ≡ record_by (Some now) at
   record_here =
@@ -62,16 +77,18 @@ module _ (parts : Parts) (seat : Seat) (one now : Plain) (at : ℕ) (t : IsTidy 
       ∙ ap (λ o. record_by o ((n * 8192 + at) % 8192)) after_here
       ∙ ap (record_by (Some now)) m
 
-  class_same : ((page : ℕ) → page < 16 → class_of now.holding page ≡ class_of one.holding page) → (q : ℕ) → page_class after q ≡ page_class parts q
-  class_same classes q = elim (cases_eq (segment_of_page q) n) as (λ _. page_class after q ≡ page_class parts q) [
-    | inl e ↦
-        ap (λ s. class_by (plain_of after s) (q % 16)) e
-        ∙ ap (λ o. class_by o (q % 16)) after_here
-        ∙ classes (q % 16) (omega arith)
-        ∙ sym (ap (λ o. class_by o (q % 16)) before_here)
-        ∙ sym (ap (λ s. class_by (plain_of parts s) (q % 16)) e)
-    | inr away ↦ ap (λ o. class_by o (q % 16)) (plain_other (segment_of_page q) away)
-  ]
+  class_same : ((page : ℕ) → page < 16 → class_of now.holding page ≡ class_of one.holding page)
+      → (q : ℕ) → page_class after q ≡ page_class parts q
+  class_same classes q =
+      elim (cases_eq (segment_of_page q) n) as (λ _. page_class after q ≡ page_class parts q) [
+        | inl e ↦
+            ap (λ s. class_by (plain_of after s) (q % 16)) e
+            ∙ ap (λ o. class_by o (q % 16)) after_here
+            ∙ classes (q % 16) (omega arith)
+            ∙ sym (ap (λ o. class_by o (q % 16)) before_here)
+            ∙ sym (ap (λ s. class_by (plain_of parts s) (q % 16)) e)
+        | inr away ↦ ap (λ o. class_by o (q % 16)) (plain_other (segment_of_page q) away)
+      ]
 
 pub seat_put : SeatPutIsRecord
 seat_put parts seat one now at t put classes =
@@ -81,22 +98,52 @@ seat_put parts seat one now at t put classes =
     let segments = length parts.policy.segments in
     let below = put.below in
     let low = inside parts seat one now parts.hands t put.swap refl in
-    let records = map_set (record_of parts) (record_of a) (segments * 8192) q never_used (omega (arith, below, low)) (record_other parts seat one now at t put)
-    ∙ ap (set (map (record_of parts) (range_with_len 0 (segments * 8192))) q) (record_here parts seat one now at t put) in
-    ap (λ rs. record s { records = rs; classes = map (page_class a) (range_with_len 0 (segments * 16)); holders = map (holder_of a) (range_with_len 0 segments); orphans = numbers (orphans_with parts seat now) }) records
-    ∙ ap (λ cs. record s { records = set s.records q (record_by (Some now) at); classes = cs; holders = map (holder_of a) (range_with_len 0 segments); orphans = numbers (orphans_with parts seat now) }) (maps (page_class a) (page_class parts) (range_with_len 0 (segments * 16)) (class_same parts seat one now at t put classes))
-    ∙ ap (λ hs. record s { records = set s.records q (record_by (Some now) at); holders = hs; orphans = numbers (orphans_with parts seat now) }) (maps (holder_of a) (holder_of parts) (range_with_len 0 segments) (holder_same parts seat one now at t put))
-    ∙ ap (λ os. record s { records = set s.records q (record_by (Some now) at); orphans = os }) (orphans_same parts seat one now put.swap.there put.swap.number)
+    let records = map_set (record_of parts) (record_of a) (segments * 8192) q never_used
+    (omega (arith, below, low)) (record_other parts seat one now at t put)
+    ∙ ap (set (map (record_of parts) (range_with_len 0 (segments * 8192))) q)
+    (record_here parts seat one now at t put) in
+    ap (λ rs. record s {
+      records = rs;
+      classes =
+          map (page_class a) (range_with_len 0 (segments * 16));
+      holders =
+          map (holder_of a) (range_with_len 0 segments);
+      orphans = numbers (orphans_with parts seat now);
+    }) records
+    ∙ ap (λ cs. record s {
+      records = set s.records q (record_by (Some now) at);
+      classes =
+          cs;
+      holders = map (holder_of a) (range_with_len 0 segments);
+      orphans =
+          numbers (orphans_with parts seat now);
+    })
+    (maps (page_class a) (page_class parts) (range_with_len 0 (segments * 16))
+    (class_same parts seat one now at t put classes))
+    ∙ ap (λ hs. record s {
+      records = set s.records q (record_by (Some now) at);
+      holders =
+          hs;
+      orphans = numbers (orphans_with parts seat now);
+    })
+    (maps (holder_of a) (holder_of parts) (range_with_len 0 segments)
+    (holder_same parts seat one now at t put))
+    ∙ ap (λ os. record s { records = set s.records q (record_by (Some now) at); orphans = os })
+    (orphans_same parts seat one now put.swap.there put.swap.number)
 
 -- the segment is the first of its number in its heap
 pub seat_swap : SeatIsSwap
 seat_swap parts worker found one now t there number = record {
   worker_below = elim (cases_lt worker (length parts.heaps)) [
     | inl lt ↦ lt
-    | inr ge ↦ absurd (let none = get_or_past parts.heaps worker [] ge in let bad : None ≡ Some one = sym (ap (λ h. slice_get h found) none) ∙ there in cc)
+    | inr ge ↦ absurd (let none = get_or_past parts.heaps worker [] ge in let bad : None
+        ≡ Some one = sym (ap (λ h. slice_get h found) none) ∙ there in cc)
   ];
   there = there;
-  first = stands_first (is_of one.holding.number) (heap_at parts worker) found one there (eq-eqb one.holding.number one.holding.number refl) (heap_once parts t one.holding.number worker);
+  first =
+      stands_first (is_of one.holding.number) (heap_at parts worker) found one there
+      (eq-eqb one.holding.number one.holding.number refl)
+      (heap_once parts t one.holding.number worker);
   number = number;
 }
 

@@ -25,14 +25,15 @@ times_out parts place =
 abbrev pub IsOutOnce : Parts → ℕ → Type 0
 IsOutOnce parts place = times_out parts place ≡ bit_of (is_out parts place)
 
--- a place is accounted for where that holds, it is sound, and it stands on the lists where it belongs
+-- a place is accounted for where that holds, it is sound, and it stands on the lists where it
+-- belongs
 pub record IsAccountedFor (parts : Parts) (place : ℕ) : Type 0 where
   pub out : IsOutOnce parts place
   pub sound : IsSoundAt (state_of parts) place
   pub listed : IsPartitionAt (state_of parts) (lists_of parts) place
 
--- what an audit has to look at: where segments and remote lists keep what they promise, the first is
--- enough for all places
+-- what an audit has to look at: where segments and remote lists keep what they promise, the first
+-- is enough for all places
 abbrev pub OutOnceIsAccountedFor : Type 0
 OutOnceIsAccountedFor =
     (parts : Parts) → AreSegmentsRight parts → AreRemotesRight parts

@@ -36,8 +36,8 @@ abbrev pub found_in : Parts → ℕ → Option (Holder × Plain)
 found_in parts segment = find (is_numbered segment) (segments_in parts)
 
 -- a segment is the policy's, by its number, arena and greatest generation; its records and classes
--- are right; each page's lists have its vacant places, which are block places, and no other; and each
--- slot word is one that fits the record of its place
+-- are right; each page's lists have its vacant places, which are block places, and no other; and
+-- each slot word is one that fits the record of its place
 pub record IsSegmentRight (policy : Policy) (one : Plain) : Type 0 where
   pub arena : arena_of policy one.holding.number ≡ Some one.arena
   pub greatest : one.greatest ≡ policy.max_generation
@@ -54,8 +54,8 @@ pub record IsSegmentRight (policy : Policy) (one : Plain) : Type 0 where
       → IsSlotWord (slice_index one.slots at)
       × Fits (standing_at one.holding.standings at) (slice_index one.slots at)
 
--- there is a heap and a hand for each worker and a remote list for each segment; each segment of the
--- policy stands in one heap, or once in the pool, and no other segment does; each is right
+-- there is a heap and a hand for each worker and a remote list for each segment; each segment of
+-- the policy stands in one heap, or once in the pool, and no other segment does; each is right
 pub record AreSegmentsRight (parts : Parts) : Type 0 where
   pub heaps : length parts.heaps ≡ parts.policy.workers
   pub hands : length parts.hands ≡ parts.policy.workers

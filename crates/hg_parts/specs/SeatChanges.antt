@@ -1,5 +1,5 @@
--- What keeps parts tidy while a segment stays where it stands: a place of it goes out, comes home or
--- is parted, or the same places are out as before.
+-- What keeps parts tidy while a segment stays where it stands: a place of it goes out, comes home
+-- or is parted, or the same places are out as before.
 use Rattle.std.specs.Prelude.{◌≡◌, ℕ, ◌+◌, ◌*◌, ◌<◌, true, length, Some, None, slice_index_or}
 use Rattle.std.specs.Prelude.{slice_set}
 use Rattle.hg_place.specs.declared.geometry.TheConstants.{SEGMENT_PLACES}

@@ -9,5 +9,6 @@ use Rattle.hg_parts.specs.Tidy.{IsTidy}
 abbrev pub SweptIsTidy : Type 0
 SweptIsTidy =
     (parts : Parts) (worker : ℕ) (heap : List Plain) → IsTidy parts
-    → worker < length parts.heaps → AreSwept (heap_at parts worker) heap → All (IsSegmentRight parts.policy) heap
+    → worker < length parts.heaps → AreSwept (heap_at parts worker) heap
+    → All (IsSegmentRight parts.policy) heap
     → IsTidy (with_heap parts worker heap)
