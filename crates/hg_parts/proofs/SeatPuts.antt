@@ -1,5 +1,6 @@
 -- A change of one place, wherever its segment stands, in the state.
 use Rattle.std.proofs.Common.{◌≡◌, ◌≢◌, ℕ, ◌+◌, ◌*◌, ◌%◌, ◌<◌, [], length, map, set, slice_get}
+use Rattle.std.proofs.Common.{◌≤◌, true, nat_lt, count_by, slice_index_or, subst}
 use Rattle.std.proofs.Common.{refl, sym, ap, ◌∙◌, arith, inl, inr}
 use Rattle.std.specs.Prelude.{Some, None}
 use Rattle.std.specs.List.{range_with_len}
@@ -21,6 +22,17 @@ use Rattle.hg_parts.proofs.SeatChanges.{inside, found_before, found_after, found
 use Rattle.hg_parts.proofs.SeatChanges.{orphans_same}
 use Rattle.hg_parts.proofs.Sorted.{tidy_sorted, heap_once}
 use Rattle.hg_parts.proofs.Founds.{stands_first}
+use Rattle.std.proofs.lemmas.Bool.Decides.{nat_tests}
+use Rattle.hg_lists.proofs.RepeatsLemmas.{nat_eq-same}
+use Rattle.hg_place.specs.Standings.{standing_at}
+use Rattle.hg_machine.specs.State.{Holder}
+use Rattle.hg_machine.proofs.Listed.{bit_true}
+use Rattle.hg_agreement.specs.Views.{IsWordOf}
+use Rattle.hg_parts.specs.Rights.{segments_in, found_in, is_numbered, IsSegmentRight}
+use Rattle.hg_parts.specs.Seats.{seated, SeatIsFound, SeatShowsItsWord}
+use Rattle.hg_parts.proofs.Records.{right}
+use Rattle.hg_parts.proofs.Swaps.{Swaps, kept_swaps, swaps_counts, swaps_old}
+use Rattle.hg_parts.proofs.Times.{bit_small}
 
 module _ (parts : Parts) (seat : Seat) (one now : Plain) (at : ℕ) (t : IsTidy parts)
     (put : IsSeatPut parts seat one now at) where
@@ -130,6 +142,68 @@ seat_put parts seat one now at t put classes =
     (holder_same parts seat one now at t put))
     ∙ ap (λ os. record s { records = set s.records q (record_by (Some now) at); orphans = os })
     (orphans_same parts seat one now put.swap.there put.swap.number)
+
+-- the segment is the one of its number
+
+module _ (parts : Parts) (seat : Seat) (one : Plain) (t : IsTidy parts)
+    (there : seated parts seat ≡ Some one) where
+  abbrev number : ℕ
+  number = one.holding.number
+
+  -- it comes in its own place
+  swap : (h : Holder) × Swaps (h, one) (h, one) (segments_in parts)
+      (segments_in (with_seated parts seat one parts.hands))
+  swap = kept_swaps parts seat one one parts.hands there
+
+  some : 1 ≤ count_by (is_numbered number) (segments_in parts)
+  some = swaps_counts (is_numbered number) (swap.0, one) (swap.0, one) (segments_in parts)
+      (segments_in (with_seated parts seat one parts.hands)) (nat_eq-same number) swap.1
+
+  below : number < length parts.policy.segments
+  below =
+      let lt : nat_lt number (length parts.policy.segments) ≡ true =
+      bit_true (nat_lt number (length parts.policy.segments))
+      (omega (arith, some, t.segments.once number)) in
+      grind (arith, nat_tests)
+
+  once : count_by (is_numbered number) (segments_in parts) ≡ 1
+  once = omega (
+    arith,
+    some,
+    t.segments.once number,
+    bit_small (nat_lt number (length parts.policy.segments)),
+  )
+
+  entry : found_in parts number ≡ Some (swap.0, one)
+  entry = swaps_old (is_numbered number) (swap.0, one) (swap.0, one) (segments_in parts)
+      (segments_in (with_seated parts seat one parts.hands)) (nat_eq-same number) once swap.1
+
+  told : plain_of parts number ≡ Some one
+  told = plain_is parts number ∙ ap plain_in entry
+
+  one_right : IsSegmentRight parts.policy one
+  one_right = right parts t.segments number (swap.0, one) entry
+
+pub seat_found : SeatIsFound
+seat_found parts seat one t there = (below parts seat one t there, told parts seat one t there)
+
+pub seat_shows : SeatShowsItsWord
+seat_shows parts seat one at t there low =
+    let n = one.holding.number in
+    let place = n * 8192 + at in
+    let inside = below parts seat one t there in
+    let own : segment_of place ≡ n = omega (arith, low) in
+    let own_at : at ≡ place % 8192 = omega (arith, low) in
+    record {
+      within = omega (arith, inside, low);
+      one = one;
+      there = ap (plain_of parts) own ∙ told parts seat one t there;
+      word = ap (λ k. slice_index_or one.slots k 0) own_at;
+      fits =
+          subst (λ k. IsWordOf (standing_at one.holding.standings k)
+          (slice_index_or one.slots at 0))
+          own_at ((one_right parts seat one t there).fits at low);
+    }
 
 -- the segment is the first of its number in its heap
 pub seat_swap : SeatIsSwap

@@ -1,11 +1,11 @@
 -- A segment where it stands in a core's parts, and another that comes in its place.
-use Rattle.std.specs.Prelude.{◌≡◌, ◌≢◌, ℕ, ◌+◌, ◌*◌, ◌/◌, ◌<◌, List, Option, Some, slice_get}
-use Rattle.std.specs.Prelude.{slice_set}
+use Rattle.std.specs.Prelude.{◌≡◌, ◌≢◌, ℕ, ◌+◌, ◌*◌, ◌/◌, ◌<◌, List, Option, Some, length}
+use Rattle.std.specs.Prelude.{slice_get, slice_set, slice_index_or}
 use Rattle.hg_place.specs.declared.geometry.TheConstants.{SEGMENT_PLACES, SEGMENT_PAGES}
 use Rattle.hg_place.specs.declared.geometry.TheConstants.{PAGE_PLACES}
 use Rattle.hg_machine.specs.State.{with_record}
 use Rattle.hg_agreement.specs.Holdings.{class_of}
-use Rattle.hg_agreement.specs.Parts.{Plain, Parts, heap_at, record_by, state_of}
+use Rattle.hg_agreement.specs.Parts.{Plain, Parts, heap_at, plain_of, record_by, state_of, IsWordIn}
 use Rattle.hg_agreement.specs.PlainPut.{IsSwap, with_plain}
 use Rattle.hg_parts.specs.Rights.{IsSegmentRight}
 use Rattle.hg_parts.specs.Tidy.{IsTidy}
@@ -59,6 +59,23 @@ pub record IsSeatPut (parts : Parts) (seat : Seat) (one now : Plain) (at : ℕ) 
   pub others :
       (other : ℕ) → other < SEGMENT_PLACES → other ≢ at
       → record_by (Some now) other ≡ record_by (Some one) other
+
+-- of tidy parts it is the segment of its number, one of the policy's, wherever it stands
+abbrev pub SeatIsFound : Type 0
+SeatIsFound =
+    (parts : Parts) (seat : Seat) (one : Plain) → IsTidy parts → seated parts seat ≡ Some one
+    → (one.holding.number < length parts.policy.segments)
+    × (plain_of parts one.holding.number ≡ Some one)
+
+-- and the slot word that it has is one that a step on the place may show
+abbrev pub SeatShowsItsWord : Type 0
+SeatShowsItsWord =
+    (parts : Parts) (seat : Seat) (one : Plain) (at : ℕ) → IsTidy parts
+    → seated parts seat ≡ Some one → at < SEGMENT_PLACES
+    → IsWordIn parts (record {
+      place = one.holding.number * SEGMENT_PLACES + at;
+      word = slice_index_or one.slots at 0;
+    })
 
 -- in a heap of tidy parts a segment is the first of its number, as the laws of swaps there want it
 abbrev pub SeatIsSwap : Type 0

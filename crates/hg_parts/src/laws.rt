@@ -3,6 +3,7 @@
 ghost use Rattle.hg_parts.specs.Accounted.{OutOnceIsAccountedFor, AccountedPartsAreSound};
 ghost use Rattle.hg_parts.specs.Tidy.{TidyPartsAreSound, TidyPartsAreSorted, TidyPartsArePooled};
 ghost use Rattle.hg_parts.specs.Tidy.{StartIsTidy};
+ghost use Rattle.hg_parts.specs.Seats.{SeatIsFound, SeatShowsItsWord};
 ghost use Rattle.hg_parts.specs.Seats.{SeatIsSwap, SeatPutIsRecord, HeapPutIsPut};
 ghost use Rattle.hg_parts.specs.SeatChanges.{GoneOutIsTidy, ComeHomeIsTidy, PartedIsTidy};
 ghost use Rattle.hg_parts.specs.SeatChanges.{SameOutIsTidy};
@@ -45,6 +46,16 @@ pub fn start_is_tidy()
 /// A segment over plain words is right where it keeps what it promises, and is the policy's.
 pub fn settled_is_right()
     ensures { SettledIsRight }
+{}
+
+/// A segment of tidy parts is the one of its number, wherever it stands.
+pub fn seat_is_found()
+    ensures { SeatIsFound }
+{}
+
+/// The slot word that it has is one that a step on the place may show.
+pub fn seat_shows_its_word()
+    ensures { SeatShowsItsWord }
 {}
 
 /// A segment in a heap of tidy parts is the first of its number there.
