@@ -25,7 +25,7 @@ use Rattle.hg_parts.proofs.Founds.{stands_first}
 use Rattle.std.proofs.lemmas.Bool.Decides.{nat_tests}
 use Rattle.hg_lists.proofs.RepeatsLemmas.{nat_eq-same}
 use Rattle.hg_place.specs.Standings.{standing_at}
-use Rattle.hg_machine.specs.State.{Holder}
+use Rattle.hg_machine.specs.State.{Holder, State, with_record}
 use Rattle.hg_machine.proofs.Listed.{bit_true}
 use Rattle.hg_agreement.specs.Views.{IsWordOf}
 use Rattle.hg_parts.specs.Rights.{segments_in, found_in, is_numbered, IsSegmentRight}
@@ -102,8 +102,12 @@ module _ (parts : Parts) (seat : Seat) (one now : Plain) (at : ℕ) (t : IsTidy 
         | inr away ↦ ap (λ o. class_by o (q % 16)) (plain_other (segment_of_page q) away)
       ]
 
-pub seat_put : SeatPutIsRecord
-seat_put parts seat one now at t put classes =
+same_hands : (parts : Parts) (seat : Seat) (one now : Plain) (at : ℕ) (t : IsTidy parts)
+    → IsSeatPut parts seat one now at
+    → ((page : ℕ) → page < 16 → class_of now.holding page ≡ class_of one.holding page)
+    → state_of (with_seated parts seat now parts.hands)
+    ≡ with_record (state_of parts) (one.holding.number * 8192 + at) (record_by (Some now) at)
+same_hands parts seat one now at t put classes =
     let s = state_of parts in
     let a = with_seated parts seat now parts.hands in
     let q = one.holding.number * 8192 + at in
@@ -142,6 +146,10 @@ seat_put parts seat one now at t put classes =
     (holder_same parts seat one now at t put))
     ∙ ap (λ os. record s { records = set s.records q (record_by (Some now) at); orphans = os })
     (orphans_same parts seat one now put.swap.there put.swap.number)
+
+pub seat_put : SeatPutIsRecord
+seat_put parts seat one now at hands t put classes =
+    ap (λ (s : State). record s { hands = hands }) (same_hands parts seat one now at t put classes)
 
 -- the segment is the one of its number
 

@@ -85,16 +85,16 @@ SeatIsSwap =
     → now.holding.number ≡ one.holding.number
     → IsSwap parts worker found one now
 
--- where all classes are the same, the state has another record of that place and nothing else,
--- wherever the segment stands
+-- where all classes are the same, the state has another record of that place, these hands and
+-- nothing else, wherever the segment stands
 abbrev pub SeatPutIsRecord : Type 0
 SeatPutIsRecord =
-    (parts : Parts) (seat : Seat) (one now : Plain) (at : ℕ) → IsTidy parts
-    → IsSeatPut parts seat one now at
+    (parts : Parts) (seat : Seat) (one now : Plain) (at : ℕ) (hands : List (Option ℕ))
+    → IsTidy parts → IsSeatPut parts seat one now at
     → ((page : ℕ) → page < SEGMENT_PAGES → class_of now.holding page ≡ class_of one.holding page)
-    → state_of (with_seated parts seat now parts.hands)
-    ≡ with_record (state_of parts) (one.holding.number * SEGMENT_PLACES + at)
-    (record_by (Some now) at)
+    → state_of (with_seated parts seat now hands)
+    ≡ record (with_record (state_of parts) (one.holding.number * SEGMENT_PLACES + at)
+    (record_by (Some now) at)) { hands = hands }
 
 -- where only the class of the place's own page may be another, as at the first block of a page, the
 -- state has that record and that class

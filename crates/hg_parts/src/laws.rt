@@ -10,7 +10,7 @@ ghost use Rattle.hg_parts.specs.SeatChanges.{SameOutIsTidy};
 ghost use Rattle.hg_parts.specs.Remotes.{DeliveredIsTidy, TakenBackIsTidy, TakenInIsTidy};
 ghost use Rattle.hg_parts.specs.Moved.{MovedIsTidy, LetGoIsTidy, TakenUpIsTidy};
 ghost use Rattle.hg_parts.specs.Swept.{SweptIsTidy};
-ghost use Rattle.hg_parts.specs.Links.{SettledIsRight};
+ghost use Rattle.hg_parts.specs.Links.{SettledIsRight, LivesAreTold, PlainPutKeepsOthers};
 
 /// Where segments and remote lists are right, and each place is in a hand or on a remote list once
 /// where its block is parted and else not at all, all places are accounted for.
@@ -46,6 +46,16 @@ pub fn start_is_tidy()
 /// A segment over plain words is right where it keeps what it promises, and is the policy's.
 pub fn settled_is_right()
     ensures { SettledIsRight }
+{}
+
+/// A place's life is told by its standing and its slot word.
+pub fn lives_are_told()
+    ensures { LivesAreTold }
+{}
+
+/// Where one place of a segment over plain words changes, what is told of the others is the same.
+pub fn plain_put_keeps_others()
+    ensures { PlainPutKeepsOthers }
 {}
 
 /// A segment of tidy parts is the one of its number, wherever it stands.
