@@ -38,7 +38,7 @@ use Rattle.hg_agreement.specs.Parts.{remote_at, thread_at}
 use Rattle.hg_agreement.proofs.HeldLives.{held_home}
 use Rattle.hg_parts.specs.Rights.{found_in, list_of, AreSegmentsRight, AreRemotesRight}
 use Rattle.hg_parts.specs.Accounted.{is_out, IsOutOnce, IsAccountedFor, OutOnceIsAccountedFor}
-use Rattle.hg_parts.proofs.Seated.{E}
+use Rattle.hg_parts.proofs.Flat.{E}
 use Rattle.hg_parts.proofs.Records.{found, right, plain_found, record_here, class_here, class_past}
 use Rattle.hg_parts.proofs.Records.{block}
 use Rattle.hg_parts.proofs.Times.{times_append, times_shifted, times_away, Contains-shifted}

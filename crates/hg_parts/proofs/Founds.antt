@@ -11,7 +11,7 @@ use Rattle.hg_machine.specs.Holders.{is_orphan}
 use Rattle.hg_agreement.specs.Parts.{Plain}
 use Rattle.hg_agreement.proofs.Firsts.{count_cons, some_counted}
 use Rattle.hg_parts.specs.Rights.{held_from}
-use Rattle.hg_parts.proofs.Seated.{E, holder_in}
+use Rattle.hg_parts.proofs.Flat.{E, holder_in}
 
 -- what is so of each is so of the one that is found
 found_step : (P : E → Type 0) (b : Bool) (x y : E) (r : Option E) → P x → cond b (Some x) r ≡ Some y

@@ -1,4 +1,4 @@
-pub mod Seated
+pub mod Flat
 mod Founds
 mod Times
 mod Records
@@ -6,9 +6,9 @@ mod Sent
 mod Accounted
 mod Sound
 mod Swaps
-mod SeatChanges
+mod SpotChanges
 mod Sorted
-mod SeatPuts
+mod SpotPuts
 mod Remotes
 mod Moved
 mod Swept

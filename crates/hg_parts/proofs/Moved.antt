@@ -28,7 +28,7 @@ use Rattle.hg_agreement.proofs.Orders.{taken_up_keeps_order}
 use Rattle.hg_parts.specs.Rights.{held_from, segments_in, found_in, is_numbered, IsSegmentRight}
 use Rattle.hg_parts.specs.Tidy.{IsTidy}
 use Rattle.hg_parts.specs.Moved.{moved, MovedIsTidy, LetGoIsTidy, TakenUpIsTidy}
-use Rattle.hg_parts.proofs.Seated.{E, plain_in, plain_is, any_is}
+use Rattle.hg_parts.proofs.Flat.{E, plain_in, plain_is, any_is}
 use Rattle.hg_parts.proofs.Founds.{each_at, only_found, stands_counts}
 use Rattle.hg_parts.proofs.Records.{right}
 use Rattle.hg_parts.proofs.Sound.{count_map}

@@ -29,7 +29,7 @@ use Rattle.hg_agreement.proofs.Told.{record_is, class_is}
 use Rattle.hg_parts.specs.Rights.{segments_in, found_in, is_numbered, IsSegmentRight}
 use Rattle.hg_parts.specs.Rights.{AreSegmentsRight}
 use Rattle.hg_parts.proofs.Founds.{found_each, found_some}
-use Rattle.hg_parts.proofs.Seated.{E, plain_in, plain_is}
+use Rattle.hg_parts.proofs.Flat.{E, plain_in, plain_is}
 
 -- a record that is sound
 open_step : (b : Bool) (g o max index : ℕ) (words : List ℕ) (class : Option ℕ) → g ≤ max → 1 ≤ g

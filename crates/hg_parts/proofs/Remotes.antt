@@ -19,14 +19,14 @@ use Rattle.hg_agreement.specs.PlainPut.{with_plain}
 use Rattle.hg_agreement.specs.TakenIn.{remote_places, is_listed, taken_in}
 use Rattle.hg_parts.specs.Rights.{AreSegmentsRight, list_of, remote_from}
 use Rattle.hg_parts.specs.Accounted.{is_out, IsOutOnce}
-use Rattle.hg_parts.specs.Seats.{in_heap, with_seated, IsSeatSwap}
+use Rattle.hg_parts.specs.Spots.{in_heap, with_segment, IsSpotSwap}
 use Rattle.hg_parts.specs.Remotes.{with_remote, DeliveredIsTidy, TakenBackIsTidy, TakenInIsTidy}
 use Rattle.hg_parts.proofs.Times.{times_inserted, hand_counts, count_set, any_counts, AnyCounts}
 use Rattle.hg_parts.proofs.Times.{bit_small}
 use Rattle.hg_parts.proofs.Records.{record_past}
 use Rattle.hg_parts.proofs.Sent.{places_are, sent_is, remotes_right, sent_here, sent_other}
-use Rattle.hg_parts.proofs.SeatChanges.{segments, inside, still_rising, record_was, record_now}
-use Rattle.hg_parts.proofs.SeatChanges.{out_away, out_other, out_before, out_after, home_in}
+use Rattle.hg_parts.proofs.SpotChanges.{segments, inside, still_rising, record_was, record_now}
+use Rattle.hg_parts.proofs.SpotChanges.{out_away, out_other, out_before, out_after, home_in}
 
 -- other remote lists for as many segments
 remotes_long : (parts : Parts) (n : ℕ) (remote : RemoteList) → AreSegmentsRight parts
@@ -124,18 +124,18 @@ delivered parts worker n at remote t below-at hand right more =
 -- from the list home
 
 pub taken_back : TakenBackIsTidy
-taken_back parts seat one now at remote t put b a right more =
+taken_back parts spot one now at remote t put b a right more =
     let n = one.holding.number in
     let q = n * 8192 + at in
-    let mid : Parts = with_seated parts seat now parts.hands in
-    let inside-n : n < length parts.policy.segments = inside parts seat one now parts.hands t
+    let mid : Parts = with_segment parts spot now parts.hands in
+    let inside-n : n < length parts.policy.segments = inside parts spot one now parts.hands t
     put.swap refl in
     let below : n < length parts.remotes = omega (arith, inside-n, t.segments.remotes) in
     let small = put.below in
     let after : Parts = with_remote mid n remote in
     record {
       segments =
-          remotes_long mid n remote (segments parts seat one now parts.hands t put.swap refl);
+          remotes_long mid n remote (segments parts spot one now parts.hands t put.swap refl);
       remotes = remotes_right mid n remote below t.remotes right;
       out_once = λ place.
           let was = t.out_once place in
@@ -154,17 +154,17 @@ taken_back parts seat one now at remote t put b a right more =
                 elim (cases_eq q place) as (λ _. IsOutOnce after place) [
                   | inl f ↦
                       let out : bit_of (is_out parts place) ≡ 1 =
-                      ap bit_of (ap (is_out parts) (sym f) ∙ out_before parts seat one now at
+                      ap bit_of (ap (is_out parts) (sym f) ∙ out_before parts spot one now at
                       parts.hands t put refl ∙ b) in
                       let no : bit_of (is_out after place) ≡ 0 =
-                      ap bit_of (ap (is_out after) (sym f) ∙ out_after parts seat one now at
+                      ap bit_of (ap (is_out after) (sym f) ∙ out_after parts spot one now at
                       parts.hands t put refl ∙ home_in (record_by (Some now) at).life a) in
                       let bit : bit_of (nat_eq q place) ≡ 1 =
                       ap bit_of (ap (nat_eq q) (sym f) ∙ nat_eq-same q) in
                       omega (arith, was, out, no, new, old, step, turn, bit)
                   | inr ne ↦
                       let out : bit_of (is_out after place) ≡ bit_of (is_out parts place) =
-                      ap bit_of (out_other parts seat one now at parts.hands t put refl place
+                      ap bit_of (out_other parts spot one now at parts.hands t put refl place
                       (λ f. ne (sym f))) in
                       let bit : bit_of (nat_eq q place) ≡ 0 = ap bit_of (nat_eq-other q place ne) in
                       omega (arith, was, out, new, old, step, turn, bit)
@@ -174,10 +174,10 @@ taken_back parts seat one now at remote t put b a right more =
                 ≡ times place (sent_in (lists_of parts) (segment_of place)) =
                 sent_other mid n remote below t.remotes right place away in
                 let out : bit_of (is_out after place) ≡ bit_of (is_out parts place) =
-                ap bit_of (out_away parts seat one now parts.hands t put.swap refl place away) in
+                ap bit_of (out_away parts spot one now parts.hands t put.swap refl place away) in
                 omega (arith, was, out, new)
           ];
-      rising = still_rising parts seat one now t put.swap;
+      rising = still_rising parts spot one now t put.swap;
     }
 
 -- all of the list home
@@ -191,17 +191,17 @@ taken_bit false r h times total any = omega (arith, total, any)
 pub taken_in_tidy : TakenInIsTidy
 taken_in_tidy parts worker found one now remote t taken is right none =
     let n = one.holding.number in
-    let seat = in_heap worker found in
-    let put : IsSeatSwap parts seat one now =
+    let spot = in_heap worker found in
+    let put : IsSpotSwap parts spot one now =
     record { there = taken.swap.there; number = taken.swap.number; right = is } in
     let mid : Parts = with_plain parts worker found now in
-    let inside-n : n < length parts.policy.segments = inside parts seat one now parts.hands t put
+    let inside-n : n < length parts.policy.segments = inside parts spot one now parts.hands t put
     refl in
     let below : n < length parts.remotes = omega (arith, inside-n, t.segments.remotes) in
     let after : Parts = with_remote mid n remote in
     let old_list : Remote = remote_at parts n in
     record {
-      segments = remotes_long mid n remote (segments parts seat one now parts.hands t put refl);
+      segments = remotes_long mid n remote (segments parts spot one now parts.hands t put refl);
       remotes = remotes_right mid n remote below t.remotes right;
       out_once = λ place.
           let was = t.out_once place in
@@ -219,12 +219,12 @@ taken_in_tidy parts worker found one now remote t taken is right none =
                 let before : bit_of (is_out parts place)
                 ≡ bit_of (is_parted (record_by (Some one) at).life) =
                 ap (λ r. bit_of (is_parted r.life))
-                (record_was parts seat one now parts.hands t put refl place e) in
+                (record_was parts spot one now parts.hands t put refl place e) in
                 let later : bit_of (is_out after place)
                 ≡ bit_of (is_parted (taken_in (is_listed old_list at)
                 (record_by (Some one) at)).life) =
                 ap (λ r. bit_of (is_parted r.life))
-                (record_now parts seat one now parts.hands t put refl place e
+                (record_now parts spot one now parts.hands t put refl place e
                 ∙ taken.records at (omega arith)) in
                 let step = taken_bit (is_listed old_list at) (record_by (Some one) at)
                 (count_by (is_number place) parts.hands) (times at (remote_places old_list))
@@ -236,7 +236,7 @@ taken_in_tidy parts worker found one now remote t taken is right none =
                 ≡ times place (sent_in (lists_of parts) (segment_of place)) =
                 sent_other mid n remote below t.remotes right place away in
                 let out : bit_of (is_out after place) ≡ bit_of (is_out parts place) =
-                ap bit_of (out_away parts seat one now parts.hands t put refl place away) in
+                ap bit_of (out_away parts spot one now parts.hands t put refl place away) in
                 omega (arith, was, out, new)
           ];
       rising = t.rising;

@@ -16,7 +16,7 @@ use Rattle.hg_agreement.proofs.Bridge.{first_passes, some_passes}
 use Rattle.hg_agreement.proofs.Firsts.{count_cons, count_append, none_counted}
 use Rattle.hg_parts.specs.Rights.{held_from, segments_in, is_numbered}
 use Rattle.hg_parts.specs.Tidy.{IsTidy, TidyPartsAreSorted, TidyPartsArePooled}
-use Rattle.hg_parts.proofs.Seated.{E, has_is, any_is, find_all, with_holder}
+use Rattle.hg_parts.proofs.Flat.{E, has_is, any_is, find_all, with_holder}
 use Rattle.hg_parts.proofs.Sound.{count_map}
 use Rattle.hg_parts.proofs.Times.{bit_small}
 

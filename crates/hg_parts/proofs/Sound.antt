@@ -23,7 +23,7 @@ use Rattle.hg_parts.specs.Rights.{held_from, segments_in, found_in, is_numbered,
 use Rattle.hg_parts.specs.Rights.{AreSegmentsRight}
 use Rattle.hg_parts.specs.Accounted.{AccountedPartsAreSound}
 use Rattle.hg_parts.specs.Tidy.{TidyPartsAreSound}
-use Rattle.hg_parts.proofs.Seated.{E, plain_in, holder_in, plain_is, holder_is as seat_is}
+use Rattle.hg_parts.proofs.Flat.{E, plain_in, holder_in, plain_is, holder_is as spot_is}
 use Rattle.hg_parts.proofs.Founds.{found_each, each_append, each_map, each_held, orphan_found}
 use Rattle.hg_parts.proofs.Records.{right, class_past}
 use Rattle.hg_parts.proofs.Accounted.{accounted}
@@ -60,7 +60,7 @@ module _ (parts : Parts) (h : AreSegmentsRight parts) where
 
   holder_is : (n : ℕ) → n < length parts.policy.segments → holder_at (state_of parts) n
       ≡ holder_in (found_in parts n)
-  holder_is n lt = told parts n lt ∙ seat_is parts n
+  holder_is n lt = told parts n lt ∙ spot_is parts n
 
   holder_past : (n : ℕ) → length parts.policy.segments ≤ n → holder_at (state_of parts) n ≡ fresh
   holder_past n ge =

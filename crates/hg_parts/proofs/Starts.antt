@@ -26,7 +26,7 @@ use Rattle.hg_parts.specs.Rights.{held_from, segments_in, is_numbered, list_of, 
 use Rattle.hg_parts.specs.Rights.{IsSegmentRight, IsRemoteRight, AreSegmentsRight, AreRemotesRight}
 use Rattle.hg_parts.specs.Accounted.{is_out}
 use Rattle.hg_parts.specs.Tidy.{IsTidy, StartIsTidy}
-use Rattle.hg_parts.proofs.Seated.{E}
+use Rattle.hg_parts.proofs.Flat.{E}
 use Rattle.hg_parts.proofs.Founds.{each_append, each_of}
 use Rattle.hg_parts.proofs.Sent.{sent_is, sent_past}
 use Rattle.hg_parts.proofs.Sorted.{none_in, counted_apart}

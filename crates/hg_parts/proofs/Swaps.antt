@@ -8,9 +8,9 @@ use Rattle.hg_machine.specs.State.{Holder, fresh, orphan, held}
 use Rattle.hg_agreement.specs.Parts.{Plain, Parts}
 use Rattle.hg_agreement.proofs.Firsts.{count_cons}
 use Rattle.hg_parts.specs.Rights.{held_from, segments_in}
-use Rattle.hg_parts.specs.Seats.{Seat, in_heap, in_orphans, in_fresh, seated, heaps_with}
-use Rattle.hg_parts.specs.Seats.{with_seated}
-use Rattle.hg_parts.proofs.Seated.{E}
+use Rattle.hg_parts.specs.Spots.{Spot, in_heap, in_orphans, in_fresh, segment_at, heaps_with}
+use Rattle.hg_parts.specs.Spots.{with_segment}
+use Rattle.hg_parts.proofs.Flat.{E}
 
 pub data Swaps : E → E → List E → List E → Type 0 where
   here : {a b : E} {xs : List E} → Swaps a b (a ∷ xs) (b ∷ xs)
@@ -53,10 +53,10 @@ swaps_held one now k (x ∷ xs) (suc w) i e =
           (held_from (k + 1) (slice_set xs w (slice_set (slice_index_or xs w []) i now))) r.1,
     )
 
-pub kept_swaps : (parts : Parts) (seat : Seat) (one now : Plain) (hands : List (Option ℕ))
-    → seated parts seat ≡ Some one
+pub kept_swaps : (parts : Parts) (spot : Spot) (one now : Plain) (hands : List (Option ℕ))
+    → segment_at parts spot ≡ Some one
     → (h : Holder) × Swaps (h, one) (h, now) (segments_in parts)
-    (segments_in (with_seated parts seat now hands))
+    (segments_in (with_segment parts spot now hands))
 kept_swaps parts (in_heap w i) one now hands e =
     let r = swaps_held one now 0 parts.heaps w i e in (
       r.0,

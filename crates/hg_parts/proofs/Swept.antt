@@ -17,7 +17,7 @@ use Rattle.hg_agreement.proofs.Openings.{count_numbers}
 use Rattle.hg_parts.specs.Rights.{held_from, segments_in, is_numbered, IsSegmentRight}
 use Rattle.hg_parts.specs.Tidy.{IsTidy}
 use Rattle.hg_parts.specs.Swept.{SweptIsTidy}
-use Rattle.hg_parts.proofs.Seated.{E}
+use Rattle.hg_parts.proofs.Flat.{E}
 use Rattle.hg_parts.proofs.Founds.{each_append, each_of}
 use Rattle.hg_parts.proofs.Moved.{held_set}
 use Rattle.hg_parts.proofs.Sorted.{tidy_sorted, counted_apart}

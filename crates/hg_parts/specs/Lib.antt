@@ -1,8 +1,8 @@
 pub mod Rights
 pub mod Accounted
 pub mod Tidy
-pub mod Seats
-pub mod SeatChanges
+pub mod Spots
+pub mod SpotChanges
 pub mod Remotes
 pub mod Moved
 pub mod Swept

@@ -11,7 +11,7 @@ use Rattle.hg_agreement.specs.PlainPut.{with_plain}
 use Rattle.hg_agreement.specs.TakenIn.{IsTakenIn}
 use Rattle.hg_parts.specs.Rights.{IsSegmentRight, list_of, remote_from}
 use Rattle.hg_parts.specs.Tidy.{IsTidy}
-use Rattle.hg_parts.specs.Seats.{Seat, with_seated, IsSeatPut}
+use Rattle.hg_parts.specs.Spots.{Spot, with_segment, IsSpotPut}
 
 -- the parts with another remote list of a segment
 abbrev pub with_remote : Parts → ℕ → RemoteList → Parts
@@ -32,13 +32,13 @@ DeliveredIsTidy =
 -- a place is taken back: it was parted and is home, and its segment's remote list had it more
 abbrev pub TakenBackIsTidy : Type 0
 TakenBackIsTidy =
-    (parts : Parts) (seat : Seat) (one now : Plain) (at : ℕ) (remote : RemoteList) → IsTidy parts
-    → IsSeatPut parts seat one now at
+    (parts : Parts) (spot : Spot) (one now : Plain) (at : ℕ) (remote : RemoteList) → IsTidy parts
+    → IsSpotPut parts spot one now at
     → is_parted (record_by (Some one) at).life ≡ true
     → is_home (record_by (Some now) at).life ≡ true
     → IsRight remote
     → Inserts at (contents remote) (contents (list_of (remote_at parts one.holding.number)))
-    → IsTidy (with_remote (with_seated parts seat now parts.hands) one.holding.number remote)
+    → IsTidy (with_remote (with_segment parts spot now parts.hands) one.holding.number remote)
 
 -- all places of a remote list are taken back, and it has none any more
 abbrev pub TakenInIsTidy : Type 0

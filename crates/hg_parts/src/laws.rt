@@ -3,10 +3,10 @@
 ghost use Rattle.hg_parts.specs.Accounted.{OutOnceIsAccountedFor, AccountedPartsAreSound};
 ghost use Rattle.hg_parts.specs.Tidy.{TidyPartsAreSound, TidyPartsAreSorted, TidyPartsArePooled};
 ghost use Rattle.hg_parts.specs.Tidy.{StartIsTidy};
-ghost use Rattle.hg_parts.specs.Seats.{SeatIsFound, SeatShowsItsWord};
-ghost use Rattle.hg_parts.specs.Seats.{SeatIsSwap, SeatPutIsRecord, HeapPutIsPut};
-ghost use Rattle.hg_parts.specs.SeatChanges.{GoneOutIsTidy, ComeHomeIsTidy, PartedIsTidy};
-ghost use Rattle.hg_parts.specs.SeatChanges.{SameOutIsTidy};
+ghost use Rattle.hg_parts.specs.Spots.{SpotIsFound, SpotShowsItsWord};
+ghost use Rattle.hg_parts.specs.Spots.{SpotIsSwap, SpotPutIsRecord, HeapPutIsPut};
+ghost use Rattle.hg_parts.specs.SpotChanges.{GoneOutIsTidy, ComeHomeIsTidy, PartedIsTidy};
+ghost use Rattle.hg_parts.specs.SpotChanges.{SameOutIsTidy};
 ghost use Rattle.hg_parts.specs.Remotes.{DeliveredIsTidy, TakenBackIsTidy, TakenInIsTidy};
 ghost use Rattle.hg_parts.specs.Moved.{MovedIsTidy, LetGoIsTidy, TakenUpIsTidy};
 ghost use Rattle.hg_parts.specs.Swept.{SweptIsTidy};
@@ -59,23 +59,23 @@ pub fn plain_put_keeps_others()
 {}
 
 /// A segment of tidy parts is the one of its number, wherever it stands.
-pub fn seat_is_found()
-    ensures { SeatIsFound }
+pub fn spot_is_found()
+    ensures { SpotIsFound }
 {}
 
 /// The slot word that it has is one that a step on the place may show.
-pub fn seat_shows_its_word()
-    ensures { SeatShowsItsWord }
+pub fn spot_shows_its_word()
+    ensures { SpotShowsItsWord }
 {}
 
 /// A segment in a heap of tidy parts is the first of its number there.
-pub fn seat_is_swap()
-    ensures { SeatIsSwap }
+pub fn spot_is_swap()
+    ensures { SpotIsSwap }
 {}
 
 /// A change of one place, wherever its segment stands, is a change of its record.
-pub fn seat_put_is_record()
-    ensures { SeatPutIsRecord }
+pub fn spot_put_is_record()
+    ensures { SpotPutIsRecord }
 {}
 
 /// In a heap it is one of the record and of the class of the place's page.

@@ -1,4 +1,4 @@
-use Rattle.hg_parts.proofs.SeatChanges.{come_home as law}
+use Rattle.hg_parts.proofs.SpotChanges.{come_home as law}
 use Rattle.hg_parts.proofs.laws.come_home_is_tidy.Goals as goal
 
 pub returns : goal.returns

@@ -21,9 +21,9 @@ use Rattle.hg_parts.specs.Rights.{segments_in, found_in, is_numbered, IsSegmentR
 use Rattle.hg_parts.specs.Rights.{AreSegmentsRight}
 use Rattle.hg_parts.specs.Accounted.{is_out, IsOutOnce}
 use Rattle.hg_parts.specs.Tidy.{IsTidy}
-use Rattle.hg_parts.specs.Seats.{Seat, in_heap, in_orphans, in_fresh, seated, heaps_with}
-use Rattle.hg_parts.specs.Seats.{orphans_with, fresh_with, with_seated, IsSeatSwap, IsSeatPut}
-use Rattle.hg_parts.specs.SeatChanges.{SameOutIsTidy, GoneOutIsTidy, ComeHomeIsTidy, PartedIsTidy}
+use Rattle.hg_parts.specs.Spots.{Spot, in_heap, in_orphans, in_fresh, segment_at, heaps_with}
+use Rattle.hg_parts.specs.Spots.{orphans_with, fresh_with, with_segment, IsSpotSwap, IsSpotPut}
+use Rattle.hg_parts.specs.SpotChanges.{SameOutIsTidy, GoneOutIsTidy, ComeHomeIsTidy, PartedIsTidy}
 use Rattle.hg_parts.proofs.Records.{found, record_here, record_past}
 use Rattle.hg_parts.proofs.Swaps.{Swaps, kept_swaps, swaps_count, swaps_counts, swaps_each}
 use Rattle.hg_parts.proofs.Swaps.{swaps_find, swaps_old, swaps_new}
@@ -51,40 +51,40 @@ numbers_set one now (x ∷ xs) zero e same =
 numbers_set one now (x ∷ xs) (suc i) e same =
     ap (λ ks. x.holding.number ∷ ks) (numbers_set one now xs i e same)
 
-pub orphans_same : (parts : Parts) (seat : Seat) (one now : Plain) → seated parts seat ≡ Some one
-    → now.holding.number ≡ one.holding.number → numbers (orphans_with parts seat now)
+pub orphans_same : (parts : Parts) (spot : Spot) (one now : Plain) → segment_at parts spot ≡ Some one
+    → now.holding.number ≡ one.holding.number → numbers (orphans_with parts spot now)
     ≡ numbers parts.orphans
 orphans_same parts (in_heap w i) one now e same = refl
 orphans_same parts (in_orphans i) one now e same = numbers_set one now parts.orphans i e same
 orphans_same parts (in_fresh i) one now e same = refl
 
-fresh_same : (parts : Parts) (seat : Seat) (one now : Plain) → seated parts seat ≡ Some one
-    → now.holding.number ≡ one.holding.number → numbers (fresh_with parts seat now)
+fresh_same : (parts : Parts) (spot : Spot) (one now : Plain) → segment_at parts spot ≡ Some one
+    → now.holding.number ≡ one.holding.number → numbers (fresh_with parts spot now)
     ≡ numbers parts.fresh
 fresh_same parts (in_heap w i) one now e same = refl
 fresh_same parts (in_orphans i) one now e same = refl
 fresh_same parts (in_fresh i) one now e same = numbers_set one now parts.fresh i e same
 
-pub still_rising : (parts : Parts) (seat : Seat) (one now : Plain) → IsTidy parts
-    → IsSeatSwap parts seat one now → IsRising 0 (numbers (fresh_with parts seat now))
-still_rising parts seat one now t put =
-    subst (IsRising 0) (sym (fresh_same parts seat one now put.there put.number)) t.rising
+pub still_rising : (parts : Parts) (spot : Spot) (one now : Plain) → IsTidy parts
+    → IsSpotSwap parts spot one now → IsRising 0 (numbers (fresh_with parts spot now))
+still_rising parts spot one now t put =
+    subst (IsRising 0) (sym (fresh_same parts spot one now put.there put.number)) t.rising
 
-module _ (parts : Parts) (seat : Seat) (one now : Plain) (hands : List (Option ℕ))
-    (t : IsTidy parts) (put : IsSeatSwap parts seat one now)
+module _ (parts : Parts) (spot : Spot) (one now : Plain) (hands : List (Option ℕ))
+    (t : IsTidy parts) (put : IsSpotSwap parts spot one now)
     (long : length hands ≡ length parts.hands) where
   abbrev n : ℕ
   n = one.holding.number
 
   abbrev after : Parts
-  after = with_seated parts seat now hands
+  after = with_segment parts spot now hands
 
   pub h : Holder
-  h = (kept_swaps parts seat one now hands put.there).0
+  h = (kept_swaps parts spot one now hands put.there).0
 
   swap : Swaps (h, one) (h, now) (segments_in parts) (segments_in after)
   unfolding h
-  swap = (kept_swaps parts seat one now hands put.there).1
+  swap = (kept_swaps parts spot one now hands put.there).1
 
   same_number : (m : ℕ) → is_numbered m (h, one) ≡ is_numbered m (h, now)
   same_number m = ap (λ (k : ℕ). nat_eq k m) (sym put.number)
@@ -112,7 +112,7 @@ module _ (parts : Parts) (seat : Seat) (one now : Plain) (hands : List (Option �
       (let i = inside in let lt : nat_lt n (length parts.policy.segments) ≡ true =
       grind (arith, nat_tests) in lt)
 
-  heaps_long : (s : Seat) → length (heaps_with parts s now) ≡ length parts.heaps
+  heaps_long : (s : Spot) → length (heaps_with parts s now) ≡ length parts.heaps
   heaps_long (in_heap w i) =
       length-set parts.heaps w (slice_set (slice_index_or parts.heaps w []) i now)
   heaps_long (in_orphans i) = refl
@@ -120,7 +120,7 @@ module _ (parts : Parts) (seat : Seat) (one now : Plain) (hands : List (Option �
 
   pub segments : AreSegmentsRight after
   segments = record {
-    heaps = heaps_long seat ∙ t.segments.heaps;
+    heaps = heaps_long spot ∙ t.segments.heaps;
     hands = long ∙ t.segments.hands;
     remotes = t.segments.remotes;
     once = λ m. sym (counted m) ∙ t.segments.once m;
@@ -180,14 +180,14 @@ module _ (parts : Parts) (seat : Seat) (one now : Plain) (hands : List (Option �
   pub out_away : (place : ℕ) → segment_of place ≢ n → is_out after place ≡ is_out parts place
   out_away place away = ap (λ r. is_parted r.life) (record_away place away)
 
-module _ (parts : Parts) (seat : Seat) (one now : Plain) (at : ℕ) (hands : List (Option ℕ))
-    (t : IsTidy parts) (put : IsSeatPut parts seat one now at)
+module _ (parts : Parts) (spot : Spot) (one now : Plain) (at : ℕ) (hands : List (Option ℕ))
+    (t : IsTidy parts) (put : IsSpotPut parts spot one now at)
     (long : length hands ≡ length parts.hands) where
   abbrev changed : ℕ
   changed = one.holding.number * 8192 + at
 
   abbrev later : Parts
-  later = with_seated parts seat now hands
+  later = with_segment parts spot now hands
 
   own : segment_of changed ≡ one.holding.number
   own = let b = put.below in omega (arith, b)
@@ -197,12 +197,12 @@ module _ (parts : Parts) (seat : Seat) (one now : Plain) (at : ℕ) (hands : Lis
 
   record_before : record_at (state_of parts) changed ≡ record_by (Some one) at
   record_before =
-      record_was parts seat one now hands t put.swap long changed own ∙ ap (record_by (Some one))
+      record_was parts spot one now hands t put.swap long changed own ∙ ap (record_by (Some one))
       own_at
 
   record_after : record_at (state_of later) changed ≡ record_by (Some now) at
   record_after =
-      record_now parts seat one now hands t put.swap long changed own ∙ ap (record_by (Some now))
+      record_now parts spot one now hands t put.swap long changed own ∙ ap (record_by (Some now))
       own_at
 
   record_other : (place : ℕ) → place ≢ changed → record_at (state_of later) place
@@ -211,10 +211,10 @@ module _ (parts : Parts) (seat : Seat) (one now : Plain) (at : ℕ) (hands : Lis
       elim (cases_eq (segment_of place) one.holding.number) as (λ _. record_at (state_of later)
       place ≡ record_at (state_of parts) place) [
         | inl e ↦
-            record_now parts seat one now hands t put.swap long place e
+            record_now parts spot one now hands t put.swap long place e
             ∙ put.others (place % 8192) (omega arith) (λ f. ne (omega (arith, e, f)))
-            ∙ sym (record_was parts seat one now hands t put.swap long place e)
-        | inr away ↦ record_away parts seat one now hands t put.swap long place away
+            ∙ sym (record_was parts spot one now hands t put.swap long place e)
+        | inr away ↦ record_away parts spot one now hands t put.swap long place away
       ]
 
   pub out_other : (place : ℕ) → place ≢ changed → is_out later place ≡ is_out parts place
@@ -227,44 +227,44 @@ module _ (parts : Parts) (seat : Seat) (one now : Plain) (at : ℕ) (hands : Lis
   out_after = ap (λ r. is_parted r.life) record_after
 
 -- out before and after, or neither
-kept_out : (parts : Parts) (seat : Seat) (one now : Plain) (at : ℕ) → IsTidy parts
-    → IsSeatPut parts seat one now at
+kept_out : (parts : Parts) (spot : Spot) (one now : Plain) (at : ℕ) → IsTidy parts
+    → IsSpotPut parts spot one now at
     → is_parted (record_by (Some one) at).life ≡ false → is_parted (record_by (Some now) at).life
-    ≡ false → IsTidy (with_seated parts seat now parts.hands)
-kept_out parts seat one now at t put b a = record {
-  segments = segments parts seat one now parts.hands t put.swap refl;
+    ≡ false → IsTidy (with_segment parts spot now parts.hands)
+kept_out parts spot one now at t put b a = record {
+  segments = segments parts spot one now parts.hands t put.swap refl;
   remotes = t.remotes;
   out_once =
       λ place. elim (cases_eq place (one.holding.number * 8192 + at))
-      as (λ _. IsOutOnce (with_seated parts seat now parts.hands) place) [
-        | inl e ↦ subst (IsOutOnce (with_seated parts seat now parts.hands)) (sym e)
+      as (λ _. IsOutOnce (with_segment parts spot now parts.hands) place) [
+        | inl e ↦ subst (IsOutOnce (with_segment parts spot now parts.hands)) (sym e)
             (t.out_once (one.holding.number * 8192 + at)
-            ∙ ap bit_of (out_before parts seat one now at parts.hands t put refl ∙ b ∙ sym a
-            ∙ sym (out_after parts seat one now at parts.hands t put refl)))
+            ∙ ap bit_of (out_before parts spot one now at parts.hands t put refl ∙ b ∙ sym a
+            ∙ sym (out_after parts spot one now at parts.hands t put refl)))
         | inr ne ↦ t.out_once place
-            ∙ ap bit_of (sym (out_other parts seat one now at parts.hands t put refl place ne))
+            ∙ ap bit_of (sym (out_other parts spot one now at parts.hands t put refl place ne))
       ];
-  rising = still_rising parts seat one now t put.swap;
+  rising = still_rising parts spot one now t put.swap;
 }
 
 pub gone_out : GoneOutIsTidy
-gone_out parts seat one now at t put b a =
-    kept_out parts seat one now at t put (home_in (record_by (Some one) at).life b)
+gone_out parts spot one now at t put b a =
+    kept_out parts spot one now at t put (home_in (record_by (Some one) at).life b)
     (live_in (record_by (Some now) at).life a)
 
 pub come_home : ComeHomeIsTidy
-come_home parts seat one now at t put b a =
-    kept_out parts seat one now at t put (live_in (record_by (Some one) at).life b)
+come_home parts spot one now at t put b a =
+    kept_out parts spot one now at t put (live_in (record_by (Some one) at).life b)
     (home_in (record_by (Some now) at).life a)
 
 pub parted_out : PartedIsTidy
-parted_out parts seat one now at worker t put lt empty b a =
+parted_out parts spot one now at worker t put lt empty b a =
     let q = one.holding.number * 8192 + at in
     let hands = slice_set parts.hands worker (Some q) in
     let long : length hands ≡ length parts.hands = length-set parts.hands worker (Some q) in
-    let after = with_seated parts seat now hands in
+    let after = with_segment parts spot now hands in
     record {
-      segments = segments parts seat one now hands t put.swap long;
+      segments = segments parts spot one now hands t put.swap long;
       remotes = t.remotes;
       out_once = λ place.
           let none : bit_of (is_number place (slice_index_or parts.hands worker None)) ≡ 0 =
@@ -274,10 +274,10 @@ parted_out parts seat one now at worker t put lt empty b a =
           elim (cases_eq place q) as (λ _. IsOutOnce after place) [
             | inl e ↦
                 let out : bit_of (is_out parts place) ≡ 0 =
-                ap bit_of (ap (is_out parts) e ∙ out_before parts seat one now at hands t put long
+                ap bit_of (ap (is_out parts) e ∙ out_before parts spot one now at hands t put long
                 ∙ live_in (record_by (Some one) at).life b) in
                 let now_out : bit_of (is_out after place) ≡ 1 =
-                ap bit_of (ap (is_out after) e ∙ out_after parts seat one now at hands t put long
+                ap bit_of (ap (is_out after) e ∙ out_after parts spot one now at hands t put long
                 ∙ a) in
                 let one_more : bit_of (is_number place (Some q)) ≡ 1 =
                 ap bit_of (let same : nat_eq q place ≡ true = ap (nat_eq q) e ∙ nat_eq-same q in
@@ -285,32 +285,32 @@ parted_out parts seat one now at worker t put lt empty b a =
                 omega (arith, none, count, was, out, now_out, one_more)
             | inr ne ↦
                 let out : bit_of (is_out after place) ≡ bit_of (is_out parts place) =
-                ap bit_of (out_other parts seat one now at hands t put long place ne) in
+                ap bit_of (out_other parts spot one now at hands t put long place ne) in
                 let no_more : bit_of (is_number place (Some q)) ≡ 0 =
                 ap bit_of (nat_eq-other q place (λ f. ne (sym f))) in
                 omega (arith, none, count, was, out, no_more)
           ];
-      rising = still_rising parts seat one now t put.swap;
+      rising = still_rising parts spot one now t put.swap;
     }
 
 -- a segment that changes with the same places out
 
 pub same_out : SameOutIsTidy
-same_out parts seat one now t put same = record {
-  segments = segments parts seat one now parts.hands t put refl;
+same_out parts spot one now t put same = record {
+  segments = segments parts spot one now parts.hands t put refl;
   remotes = t.remotes;
   out_once = λ place. t.out_once place ∙ ap bit_of (sym (out_same place));
-  rising = still_rising parts seat one now t put;
+  rising = still_rising parts spot one now t put;
 }
   where
-    out_same : (place : ℕ) → is_out (with_seated parts seat now parts.hands) place
+    out_same : (place : ℕ) → is_out (with_segment parts spot now parts.hands) place
         ≡ is_out parts place
     out_same place = elim (cases_eq (segment_of place) one.holding.number)
-        as (λ _. is_out (with_seated parts seat now parts.hands) place ≡ is_out parts place) [
+        as (λ _. is_out (with_segment parts spot now parts.hands) place ≡ is_out parts place) [
           | inl e ↦
-              ap (λ r. is_parted r.life) (record_now parts seat one now parts.hands t put refl place e)
+              ap (λ r. is_parted r.life) (record_now parts spot one now parts.hands t put refl place e)
               ∙ same (place % 8192) (omega arith)
               ∙ sym (ap (λ r. is_parted r.life)
-              (record_was parts seat one now parts.hands t put refl place e))
-          | inr away ↦ out_away parts seat one now parts.hands t put refl place away
+              (record_was parts spot one now parts.hands t put refl place e))
+          | inr away ↦ out_away parts spot one now parts.hands t put refl place away
         ]

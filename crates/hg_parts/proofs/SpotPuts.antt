@@ -15,11 +15,11 @@ use Rattle.hg_agreement.specs.Parts.{record_of, page_class, holder_of, state_of}
 use Rattle.hg_agreement.proofs.Lookups.{maps, map_set}
 use Rattle.hg_agreement.proofs.Putting.{put_is_put}
 use Rattle.hg_parts.specs.Tidy.{IsTidy}
-use Rattle.hg_parts.specs.Seats.{Seat, orphans_with, with_seated, IsSeatPut, SeatIsSwap}
-use Rattle.hg_parts.specs.Seats.{SeatPutIsRecord, HeapPutIsPut}
-use Rattle.hg_parts.proofs.Seated.{plain_in, holder_in, plain_is, holder_is}
-use Rattle.hg_parts.proofs.SeatChanges.{inside, found_before, found_after, found_other}
-use Rattle.hg_parts.proofs.SeatChanges.{orphans_same}
+use Rattle.hg_parts.specs.Spots.{Spot, orphans_with, with_segment, IsSpotPut, SpotIsSwap}
+use Rattle.hg_parts.specs.Spots.{SpotPutIsRecord, HeapPutIsPut}
+use Rattle.hg_parts.proofs.Flat.{plain_in, holder_in, plain_is, holder_is}
+use Rattle.hg_parts.proofs.SpotChanges.{inside, found_before, found_after, found_other}
+use Rattle.hg_parts.proofs.SpotChanges.{orphans_same}
 use Rattle.hg_parts.proofs.Sorted.{tidy_sorted, heap_once}
 use Rattle.hg_parts.proofs.Founds.{stands_first}
 use Rattle.std.proofs.lemmas.Bool.Decides.{nat_tests}
@@ -29,42 +29,42 @@ use Rattle.hg_machine.specs.State.{Holder, State, with_record}
 use Rattle.hg_machine.proofs.Listed.{bit_true}
 use Rattle.hg_agreement.specs.Views.{IsWordOf}
 use Rattle.hg_parts.specs.Rights.{segments_in, found_in, is_numbered, IsSegmentRight}
-use Rattle.hg_parts.specs.Seats.{seated, SeatIsFound, SeatShowsItsWord}
+use Rattle.hg_parts.specs.Spots.{segment_at, SpotIsFound, SpotShowsItsWord}
 use Rattle.hg_parts.proofs.Records.{right}
 use Rattle.hg_parts.proofs.Swaps.{Swaps, kept_swaps, swaps_counts, swaps_old}
 use Rattle.hg_parts.proofs.Times.{bit_small}
 
-module _ (parts : Parts) (seat : Seat) (one now : Plain) (at : ℕ) (t : IsTidy parts)
-    (put : IsSeatPut parts seat one now at) where
+module _ (parts : Parts) (spot : Spot) (one now : Plain) (at : ℕ) (t : IsTidy parts)
+    (put : IsSpotPut parts spot one now at) where
   abbrev n : ℕ
   n = one.holding.number
 
   abbrev after : Parts
-  after = with_seated parts seat now parts.hands
+  after = with_segment parts spot now parts.hands
 
   before_here : plain_of parts n ≡ Some one
   before_here =
-      plain_is parts n ∙ ap plain_in (found_before parts seat one now parts.hands t put.swap refl)
+      plain_is parts n ∙ ap plain_in (found_before parts spot one now parts.hands t put.swap refl)
 
   after_here : plain_of after n ≡ Some now
   after_here =
-      plain_is after n ∙ ap plain_in (found_after parts seat one now parts.hands t put.swap refl)
+      plain_is after n ∙ ap plain_in (found_after parts spot one now parts.hands t put.swap refl)
 
   plain_other : (m : ℕ) → m ≢ n → plain_of after m ≡ plain_of parts m
   plain_other m ne =
       plain_is after m ∙ sym
-      (ap plain_in (found_other parts seat one now parts.hands t put.swap refl m ne))
+      (ap plain_in (found_other parts spot one now parts.hands t put.swap refl m ne))
       ∙ sym (plain_is parts m)
 
   holder_same : (m : ℕ) → holder_of after m ≡ holder_of parts m
   holder_same m = elim (cases_eq m n) as (λ _. holder_of after m ≡ holder_of parts m) [
     | inl e ↦ ap (holder_of after) e
         ∙ holder_is after n ∙ ap holder_in
-        (found_after parts seat one now parts.hands t put.swap refl)
+        (found_after parts spot one now parts.hands t put.swap refl)
         ∙ sym (ap (holder_of parts) e ∙ holder_is parts n
-        ∙ ap holder_in (found_before parts seat one now parts.hands t put.swap refl))
+        ∙ ap holder_in (found_before parts spot one now parts.hands t put.swap refl))
     | inr ne ↦ holder_is after m
-        ∙ sym (ap holder_in (found_other parts seat one now parts.hands t put.swap refl m ne))
+        ∙ sym (ap holder_in (found_other parts spot one now parts.hands t put.swap refl m ne))
         ∙ sym (holder_is parts m)
   ]
 
@@ -102,29 +102,29 @@ module _ (parts : Parts) (seat : Seat) (one now : Plain) (at : ℕ) (t : IsTidy 
         | inr away ↦ ap (λ o. class_by o (q % 16)) (plain_other (segment_of_page q) away)
       ]
 
-same_hands : (parts : Parts) (seat : Seat) (one now : Plain) (at : ℕ) (t : IsTidy parts)
-    → IsSeatPut parts seat one now at
+same_hands : (parts : Parts) (spot : Spot) (one now : Plain) (at : ℕ) (t : IsTidy parts)
+    → IsSpotPut parts spot one now at
     → ((page : ℕ) → page < 16 → class_of now.holding page ≡ class_of one.holding page)
-    → state_of (with_seated parts seat now parts.hands)
+    → state_of (with_segment parts spot now parts.hands)
     ≡ with_record (state_of parts) (one.holding.number * 8192 + at) (record_by (Some now) at)
-same_hands parts seat one now at t put classes =
+same_hands parts spot one now at t put classes =
     let s = state_of parts in
-    let a = with_seated parts seat now parts.hands in
+    let a = with_segment parts spot now parts.hands in
     let q = one.holding.number * 8192 + at in
     let segments = length parts.policy.segments in
     let below = put.below in
-    let low = inside parts seat one now parts.hands t put.swap refl in
+    let low = inside parts spot one now parts.hands t put.swap refl in
     let records = map_set (record_of parts) (record_of a) (segments * 8192) q never_used
-    (omega (arith, below, low)) (record_other parts seat one now at t put)
+    (omega (arith, below, low)) (record_other parts spot one now at t put)
     ∙ ap (set (map (record_of parts) (range_with_len 0 (segments * 8192))) q)
-    (record_here parts seat one now at t put) in
+    (record_here parts spot one now at t put) in
     ap (λ rs. record s {
       records = rs;
       classes =
           map (page_class a) (range_with_len 0 (segments * 16));
       holders =
           map (holder_of a) (range_with_len 0 segments);
-      orphans = numbers (orphans_with parts seat now);
+      orphans = numbers (orphans_with parts spot now);
     }) records
     ∙ ap (λ cs. record s {
       records = set s.records q (record_by (Some now) at);
@@ -132,40 +132,40 @@ same_hands parts seat one now at t put classes =
           cs;
       holders = map (holder_of a) (range_with_len 0 segments);
       orphans =
-          numbers (orphans_with parts seat now);
+          numbers (orphans_with parts spot now);
     })
     (maps (page_class a) (page_class parts) (range_with_len 0 (segments * 16))
-    (class_same parts seat one now at t put classes))
+    (class_same parts spot one now at t put classes))
     ∙ ap (λ hs. record s {
       records = set s.records q (record_by (Some now) at);
       holders =
           hs;
-      orphans = numbers (orphans_with parts seat now);
+      orphans = numbers (orphans_with parts spot now);
     })
     (maps (holder_of a) (holder_of parts) (range_with_len 0 segments)
-    (holder_same parts seat one now at t put))
+    (holder_same parts spot one now at t put))
     ∙ ap (λ os. record s { records = set s.records q (record_by (Some now) at); orphans = os })
-    (orphans_same parts seat one now put.swap.there put.swap.number)
+    (orphans_same parts spot one now put.swap.there put.swap.number)
 
-pub seat_put : SeatPutIsRecord
-seat_put parts seat one now at hands t put classes =
-    ap (λ (s : State). record s { hands = hands }) (same_hands parts seat one now at t put classes)
+pub spot_put : SpotPutIsRecord
+spot_put parts spot one now at hands t put classes =
+    ap (λ (s : State). record s { hands = hands }) (same_hands parts spot one now at t put classes)
 
 -- the segment is the one of its number
 
-module _ (parts : Parts) (seat : Seat) (one : Plain) (t : IsTidy parts)
-    (there : seated parts seat ≡ Some one) where
+module _ (parts : Parts) (spot : Spot) (one : Plain) (t : IsTidy parts)
+    (there : segment_at parts spot ≡ Some one) where
   abbrev number : ℕ
   number = one.holding.number
 
   -- it comes in its own place
   swap : (h : Holder) × Swaps (h, one) (h, one) (segments_in parts)
-      (segments_in (with_seated parts seat one parts.hands))
-  swap = kept_swaps parts seat one one parts.hands there
+      (segments_in (with_segment parts spot one parts.hands))
+  swap = kept_swaps parts spot one one parts.hands there
 
   some : 1 ≤ count_by (is_numbered number) (segments_in parts)
   some = swaps_counts (is_numbered number) (swap.0, one) (swap.0, one) (segments_in parts)
-      (segments_in (with_seated parts seat one parts.hands)) (nat_eq-same number) swap.1
+      (segments_in (with_segment parts spot one parts.hands)) (nat_eq-same number) swap.1
 
   below : number < length parts.policy.segments
   below =
@@ -184,7 +184,7 @@ module _ (parts : Parts) (seat : Seat) (one : Plain) (t : IsTidy parts)
 
   entry : found_in parts number ≡ Some (swap.0, one)
   entry = swaps_old (is_numbered number) (swap.0, one) (swap.0, one) (segments_in parts)
-      (segments_in (with_seated parts seat one parts.hands)) (nat_eq-same number) once swap.1
+      (segments_in (with_segment parts spot one parts.hands)) (nat_eq-same number) once swap.1
 
   told : plain_of parts number ≡ Some one
   told = plain_is parts number ∙ ap plain_in entry
@@ -192,30 +192,30 @@ module _ (parts : Parts) (seat : Seat) (one : Plain) (t : IsTidy parts)
   one_right : IsSegmentRight parts.policy one
   one_right = right parts t.segments number (swap.0, one) entry
 
-pub seat_found : SeatIsFound
-seat_found parts seat one t there = (below parts seat one t there, told parts seat one t there)
+pub spot_found : SpotIsFound
+spot_found parts spot one t there = (below parts spot one t there, told parts spot one t there)
 
-pub seat_shows : SeatShowsItsWord
-seat_shows parts seat one at t there low =
+pub spot_shows : SpotShowsItsWord
+spot_shows parts spot one at t there low =
     let n = one.holding.number in
     let place = n * 8192 + at in
-    let inside = below parts seat one t there in
+    let inside = below parts spot one t there in
     let own : segment_of place ≡ n = omega (arith, low) in
     let own_at : at ≡ place % 8192 = omega (arith, low) in
     record {
       within = omega (arith, inside, low);
       one = one;
-      there = ap (plain_of parts) own ∙ told parts seat one t there;
+      there = ap (plain_of parts) own ∙ told parts spot one t there;
       word = ap (λ k. slice_index_or one.slots k 0) own_at;
       fits =
           subst (λ k. IsWordOf (standing_at one.holding.standings k)
           (slice_index_or one.slots at 0))
-          own_at ((one_right parts seat one t there).fits at low);
+          own_at ((one_right parts spot one t there).fits at low);
     }
 
 -- the segment is the first of its number in its heap
-pub seat_swap : SeatIsSwap
-seat_swap parts worker found one now t there number = record {
+pub spot_swap : SpotIsSwap
+spot_swap parts worker found one now t there number = record {
   worker_below = elim (cases_lt worker (length parts.heaps)) [
     | inl lt ↦ lt
     | inr ge ↦ absurd (let none = get_or_past parts.heaps worker [] ge in let bad : None
@@ -233,7 +233,7 @@ pub heap_put : HeapPutIsPut
 heap_put parts worker found one now at t put classes =
     put_is_put parts worker found one now at (tidy_sorted parts t)
     (record {
-      swap = seat_swap parts worker found one now t put.swap.there put.swap.number;
+      swap = spot_swap parts worker found one now t put.swap.there put.swap.number;
       below = put.below;
       others = put.others;
       classes = classes;
