@@ -267,3 +267,9 @@ pub up_inside : (parts : Parts) (w : ℕ) (heap : List Plain) (one : Plain) → 
 unfolding n
 up_inside parts w heap one pooled up =
     pool_inside parts one.holding.number pooled (counted parts w heap one pooled up)
+
+pub up_plain : (parts : Parts) (w : ℕ) (heap : List Plain) (one : Plain) → IsPooled parts
+    → IsTakenUp parts w heap one → (segment : ℕ)
+    → plain_of (with_adopted parts w heap one.holding.number) segment ≡ plain_of parts segment
+unfolding n after
+up_plain parts w heap one pooled up segment = plain_same parts w heap one pooled up segment

@@ -251,3 +251,9 @@ pub go_was : (parts : Parts) (w : ℕ) (heap : List Plain) (one : Plain) → IsS
     → IsLetGo parts w heap one → worker_of parts one.holding.number ≡ Some w
 unfolding n
 go_was parts w heap one sorted go = worker_n parts w heap one sorted go
+
+pub go_plain : (parts : Parts) (w : ℕ) (heap : List Plain) (one : Plain) → IsSorted parts
+    → IsLetGo parts w heap one → (segment : ℕ)
+    → plain_of (with_orphan parts w heap one) segment ≡ plain_of parts segment
+unfolding n after
+go_plain parts w heap one sorted go segment = plain_same parts w heap one sorted go segment

@@ -64,12 +64,12 @@ swept_keeps_order parts w heap sorted pooled below swept = (
   },
 )
 
-one_counted : (segment : ℕ) (one : Plain) → count_by (is_of segment) (one ∷ []) ≡ bit_of
+pub one_counted : (segment : ℕ) (one : Plain) → count_by (is_of segment) (one ∷ []) ≡ bit_of
     (one.holding.number == segment)
 one_counted segment one = let c = count_cons (is_of segment) one [] in omega arith
 
 -- one more orphan
-count_more : (segment : ℕ) (one : Plain) (xs ys : List Plain)
+pub count_more : (segment : ℕ) (one : Plain) (xs ys : List Plain)
     → count_by (is_of segment) ((xs ++ one ∷ []) ++ ys) ≡ count_by (is_of segment)
     (xs ++ ys) + bit_of (one.holding.number == segment)
 count_more segment one xs ys =
@@ -136,7 +136,7 @@ let_go_keeps_order parts w heap one sorted pooled go = (
             (go_worker parts w heap one sorted go segment ne))
       ]
 
-none_without : (n : ℕ) (xs : List Plain) → count_by (is_of n) (without n xs) ≡ 0
+pub none_without : (n : ℕ) (xs : List Plain) → count_by (is_of n) (without n xs) ≡ 0
 none_without n [] = refl
 none_without n (x ∷ xs) =
     elim (cases_Bool (x.holding.number == n))
@@ -152,7 +152,7 @@ none_without n (x ∷ xs) =
           ∙ omega arith
     ]
 
-others_without : (n segment : ℕ) (xs : List Plain) → (segment ≡ n → ⊥)
+pub others_without : (n segment : ℕ) (xs : List Plain) → (segment ≡ n → ⊥)
     → count_by (is_of segment) (without n xs) ≡ count_by (is_of segment) xs
 others_without n segment [] ne = refl
 others_without n segment (x ∷ xs) ne =

@@ -37,7 +37,7 @@ there (x ∷ xs) segment e = elim (cases_Bool (x.number == segment))
     ]
 
 -- a block at a block place has the length of its page's class
-sized : (words : List ℕ) (page index : ℕ) (class : Option ℕ) → length words ≡ 8192 → page < 16
+pub sized : (words : List ℕ) (page index : ℕ) (class : Option ℕ) → length words ≡ 8192 → page < 16
     → IsBlockPlace class index → class ≡ Some (length (block_of_class words page index class))
 sized words page index None whole low on = absurd on
 sized words page index (Some n) whole low on =
@@ -45,7 +45,7 @@ sized words page index (Some n) whole low on =
     (omega (arith, fits_in_page n index on, low, whole))))
 
 -- and its index is below the number of its page's places
-within : (words : List ℕ) (page index : ℕ) (class : Option ℕ) → length words ≡ 8192 → page < 16
+pub within : (words : List ℕ) (page index : ℕ) (class : Option ℕ) → length words ≡ 8192 → page < 16
     → IsBlockPlace class index
     → index < places_of (length (block_of_class words page index class))
 within words page index None whole low on = absurd on

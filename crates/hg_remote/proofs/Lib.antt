@@ -2,6 +2,6 @@ mod RemoteBy
 mod Delayed
 mod Sent
 mod Drained
-mod Kept
+pub mod Kept
 mod Calls
 mod DrainLaws

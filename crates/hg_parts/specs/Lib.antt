@@ -1,0 +1,9 @@
+pub mod Rights
+pub mod Accounted
+pub mod Tidy
+pub mod Spots
+pub mod SpotChanges
+pub mod Remotes
+pub mod Moved
+pub mod Swept
+pub mod Links
