@@ -5,3 +5,4 @@ mod Drained
 mod Kept
 mod Calls
 mod DrainLaws
+pub mod OrderLemmas
