@@ -1,6 +1,7 @@
 -- The order in which places come off.
 use Rattle.std.proofs.Common.{◌≡◌, ◌≢◌, ℕ, zero, suc, ◌<◌, ◌≤◌, List, [], ◌∷◌, ◌++◌, length, map}
-use Rattle.std.proofs.Common.{slice_index_or, slice_set, refl, sym, ap, ◌∙◌, arith, subst, inl, inr, ⊎_elim}
+use Rattle.std.proofs.Common.{slice_index_or, slice_set, refl, sym, ap, ◌∙◌, arith, subst, inl, inr}
+use Rattle.std.proofs.Common.{⊎_elim}
 use Rattle.std.proofs.Common.{get_or-set_other, get_or-set_same, true, false, replicate, Bool, ◌||◌}
 use Rattle.std.proofs.Common.{nat_eq as eqb}
 use Rattle.std.specs.Prelude.{Contains}
@@ -11,8 +12,10 @@ use Rattle.std.proofs.lemmas.Map.Keys.{IsDistinct-cons}
 use Rattle.std.proofs.lemmas.Map.Steps.{length-le_from_distinct_below}
 use Rattle.hg_place.specs.Places.{page_of, index_of}
 use Rattle.hg_lists.specs.Repeats.{Lacks, HasNoRepeats}
-use Rattle.hg_lists.proofs.RepeatsLemmas.{Contains-cons, Contains-cons_cases, lacks_contains, nat_eq-other, Contains-lacks, Each-weaker, Lacks-each}
-use Rattle.hg_lists.proofs.InsertsLemmas.{inserted_cases, Contains-inserted, Contains-Inserts, length-Inserts, no_repeats_inserted}
+use Rattle.hg_lists.proofs.RepeatsLemmas.{Contains-cons, Contains-cons_cases, lacks_contains}
+use Rattle.hg_lists.proofs.RepeatsLemmas.{nat_eq-other, Contains-lacks, Each-weaker, Lacks-each}
+use Rattle.hg_lists.proofs.InsertsLemmas.{inserted_cases, Contains-inserted, Contains-Inserts}
+use Rattle.hg_lists.proofs.InsertsLemmas.{length-Inserts, no_repeats_inserted}
 use Rattle.hg_remote.specs.Remote.{Remote, IsRight, contents, slot, thread_at}
 use Rattle.hg_remote.specs.Sends.{with_thread, TakesThread, TakesDelayed}
 use Rattle.hg_remote.specs.Order.{drained}
@@ -23,10 +26,12 @@ use Rattle.hg_remote.proofs.Kept.{none_on, nothing_at, contents_none, delayed_no
 
 -- the order of some delayed places, by the thread-free lists
 abbrev order : List (List ℕ) → List ℕ → List ℕ
-order lists delayed = concat (map (λ place. slice_index_or lists (page_of place) [] ++ place ∷ []) delayed)
+order lists delayed =
+    concat (map (λ place. slice_index_or lists (page_of place) [] ++ place ∷ []) delayed)
 
 -- another thread-free list of a page that has none of them
-order_other : (lists : List (List ℕ)) (page : ℕ) (rest places : List ℕ) → Lacks page (map page_of places)
+order_other : (lists : List (List ℕ)) (page : ℕ) (rest places : List ℕ)
+    → Lacks page (map page_of places)
     → order (slice_set lists page rest) places ≡ order lists places
 order_other lists page rest [] l = refl
 order_other lists page rest (x ∷ xs) l =
@@ -39,28 +44,41 @@ order_other lists page rest (x ∷ xs) l =
 order_thread : (lists : List (List ℕ)) (first : ℕ) (others : List ℕ) (place : ℕ) (rest : List ℕ)
     → page_of first < length lists → Lacks (page_of first) (map page_of others)
     → slice_index_or lists (page_of first) [] ≡ place ∷ rest
-    → order lists (first ∷ others) ≡ place ∷ order (slice_set lists (page_of first) rest) (first ∷ others)
+    → order lists (first ∷ others) ≡ place ∷ order (slice_set lists (page_of first) rest)
+    (first ∷ others)
 order_thread lists first others place rest lt l e =
     ap (λ (xs : List ℕ). (xs ++ first ∷ []) ++ order lists others) e
     ∙ ap (λ (xs : List ℕ). place ∷ (xs ++ first ∷ []) ++ order lists others)
     (sym (get_or-set_same lists (page_of first) rest [] lt))
-    ∙ ap (λ (ys : List ℕ). place ∷ (slice_index_or (slice_set lists (page_of first) rest) (page_of first) [] ++ first ∷ []) ++ ys)
+    ∙ ap (λ (ys : List ℕ). place ∷
+    (slice_index_or (slice_set lists (page_of first) rest)
+    (page_of first) [] ++ first ∷ []) ++ ys)
     (sym (order_other lists (page_of first) rest others l))
 
-head_thread : (old new : Remote) (page index : ℕ) → IsRight old → (first : ℕ) (others : List ℕ) → old.delayed ≡ first ∷ others
-    → page_of first ≡ page → TakesThread old new page index → drained old ≡ slot page index ∷ drained new
+head_thread : (old new : Remote) (page index : ℕ) → IsRight old → (first : ℕ) (others : List ℕ)
+    → old.delayed ≡ first ∷ others
+    → page_of first ≡ page → TakesThread old new page index
+    → drained old ≡ slot page index ∷ drained new
 head_thread old new page index h first others leads is t =
     let once = subst (λ (xs : List ℕ). HasNoRepeats (map page_of xs)) leads h.one_delayed in
-    let low : page_of first < length old.thread_free = (let b = h.below first (subst (λ (xs : List ℕ). Contains (xs ++ concat old.thread_free) first) (sym leads) (0, omega arith, refl)) in omega (arith, b, h.all)) in
-    let e : thread_at old (page_of first) ≡ slot page index ∷ thread_at new page = ap (thread_at old) is ∙ t.taken in
+    let low : page_of first < length old.thread_free =
+    (let b = h.below first
+    (subst (λ (xs : List ℕ). Contains (xs ++ concat old.thread_free) first) (sym leads)
+    (0, omega arith, refl)) in omega (arith, b, h.all)) in
+    let e : thread_at old (page_of first) ≡ slot page index ∷ thread_at new page =
+    ap (thread_at old) is ∙ t.taken in
     ap (order old.thread_free) leads
     ∙ order_thread old.thread_free first others (slot page index) (thread_at new page) low once.0 e
-    ∙ ap (λ (n : ℕ). slot page index ∷ order (slice_set old.thread_free n (thread_at new page)) (first ∷ others)) is
-    ∙ ap (λ (xs : List ℕ). slot page index ∷ order (slice_set old.thread_free page (thread_at new page)) xs) (sym leads)
+    ∙ ap (λ (n : ℕ). slot page index ∷ order (slice_set old.thread_free n (thread_at new page))
+    (first ∷ others)) is
+    ∙ ap (λ (xs : List ℕ). slot page index ∷ order
+    (slice_set old.thread_free page (thread_at new page)) xs) (sym leads)
     ∙ ap (λ (r : Remote). slot page index ∷ drained r) (sym t.rest)
 
-head_delayed : (old new : Remote) (page index : ℕ) → (first : ℕ) (others : List ℕ) → old.delayed ≡ first ∷ others
-    → page_of first ≡ page → TakesDelayed old new page index → drained old ≡ slot page index ∷ drained new
+head_delayed : (old new : Remote) (page index : ℕ) → (first : ℕ) (others : List ℕ)
+    → old.delayed ≡ first ∷ others
+    → page_of first ≡ page → TakesDelayed old new page index
+    → drained old ≡ slot page index ∷ drained new
 head_delayed old new page index first others leads is t =
     let same : first ∷ others ≡ slot page index ∷ new.delayed = sym leads ∙ t.taken in
     let here : first ≡ slot page index = cc in
@@ -98,7 +116,8 @@ pub record Next (r : Remote) : Type 0 where
   pub drained : Drained r rest place
 
 next_thread : (r : Remote) (first : ℕ) (others threads : List ℕ) → IsRight r
-    → r.delayed ≡ first ∷ others → page_of first < 16 → thread_at r (page_of first) ≡ threads → Next r
+    → r.delayed ≡ first ∷ others → page_of first < 16 → thread_at r (page_of first) ≡ threads
+    → Next r
 next_thread r first others [] h leads low e = record {
   rest = record r { delayed = others };
   place = first;
@@ -110,10 +129,12 @@ next_thread r first others (x ∷ xs) h leads low e = record {
   drained = thread_drained r first others x xs h leads low e;
 }
 
-next_delayed : (r : Remote) (delayed : List ℕ) → IsRight r → r.delayed ≡ delayed → contents r ≢ [] → Next r
+next_delayed : (r : Remote) (delayed : List ℕ) → IsRight r → r.delayed ≡ delayed → contents r ≢ []
+    → Next r
 next_delayed r [] h e some = absurd (some (contents_none r h e))
 next_delayed r (x ∷ xs) h e some =
-    let b = h.below x (subst (λ (ys : List ℕ). Contains (ys ++ concat r.thread_free) x) (sym e) (0, omega arith, refl)) in
+    let b = h.below x (subst (λ (ys : List ℕ). Contains (ys ++ concat r.thread_free) x) (sym e)
+    (0, omega arith, refl)) in
     next_thread r x xs (thread_at r (page_of x)) h e (omega (arith, b)) refl
 
 order_none : (r : Remote) → contents r ≡ [] → IsOrderOf r
@@ -127,9 +148,11 @@ order_none r e =
       as_many = ap length (none ∙ sym e);
     }
 
-order_next : (r new : Remote) (place : ℕ) → IsRight r → Drained r new place → IsOrderOf new → IsOrderOf r
+order_next : (r new : Remote) (place : ℕ) → IsRight r → Drained r new place → IsOrderOf new
+    → IsOrderOf r
 order_next r new place h d o =
-    let e : drained r ≡ place ∷ drained new = drain_head r new (page_of place) (index_of place) h d.drained
+    let e : drained r ≡ place ∷ drained new =
+    drain_head r new (page_of place) (index_of place) h d.drained
     ∙ ap (λ (n : ℕ). n ∷ drained new) (slot_is place) in
     let lacks = (no_repeats_inserted place (contents new) (contents r) d.removed h.once).1 in
     record {
@@ -137,15 +160,18 @@ order_next r new place h d o =
         λ on. ⊎_elim
             (λ s. subst (Contains (contents r)) (sym s)
             (Contains-inserted place (contents new) (contents r) d.removed))
-            (λ there. Contains-Inserts place x (contents new) (contents r) d.removed ((o.same x).0 there))
-            (Contains-cons_cases place x (drained new) (subst (λ (xs : List ℕ). Contains xs x) e on)),
+            (λ there. Contains-Inserts place x (contents new) (contents r) d.removed
+            ((o.same x).0 there))
+            (Contains-cons_cases place x (drained new)
+            (subst (λ (xs : List ℕ). Contains xs x) e on)),
         λ on. subst (λ (xs : List ℕ). Contains xs x) (sym e) (⊎_elim
             (λ s. (0, omega arith, sym s))
             (λ there. Contains-cons place x (drained new) ((o.same x).1 there))
             (inserted_cases place x (contents new) (contents r) d.removed on)),
       );
       once = subst HasNoRepeats (sym e) (
-        lacks_contains place (drained new) (λ on. Contains-lacks place (contents new) lacks ((o.same place).0 on)),
+        lacks_contains place (drained new)
+            (λ on. Contains-lacks place (contents new) lacks ((o.same place).0 on)),
         o.once,
       );
       as_many = omega (
@@ -159,7 +185,8 @@ order_next r new place h d o =
 order_by : (n : ℕ) (r : Remote) → IsRight r → length (contents r) ≡ n → IsOrderOf r
 order_by zero r h e = order_none r (nil_from_length (contents r) e)
 order_by (suc n) r h e =
-    let next = next_delayed r r.delayed h refl (λ none. (let z : length (contents r) ≡ 0 = ap length none in omega (arith, z, e))) in
+    let next = next_delayed r r.delayed h refl
+    (λ none. (let z : length (contents r) ≡ 0 = ap length none in omega (arith, z, e))) in
     let d = next.drained in
     order_next r next.rest next.place h d (order_by n next.rest d.right
     (omega (arith, e, length-Inserts next.place (contents next.rest) (contents r) d.removed)))
@@ -172,7 +199,8 @@ each_distinct : (xs : List ℕ) → HasNoRepeats xs → IsDistinct eqb xs
 unfolding IsDistinct
 each_distinct [] h = tt
 each_distinct (x ∷ xs) h = IsDistinct-cons eqb x xs
-    (Each-weaker (λ y. x ≢ y) (λ y. eqb x y ≡ false) xs (λ y ne. nat_eq-other x y ne) (Lacks-each x xs h.0))
+    (Each-weaker (λ y. x ≢ y) (λ y. eqb x y ≡ false) xs (λ y ne. nat_eq-other x y ne)
+    (Lacks-each x xs h.0))
     (each_distinct xs h.1)
 
 any_contained : (q : ℕ) (xs : List ℕ) → list_any (eqb q) xs ≡ true → Contains xs q
