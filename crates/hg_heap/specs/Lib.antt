@@ -22,3 +22,4 @@ pub mod Allotted
 pub mod Opened
 pub mod HeapLaws
 pub mod Retiring
+pub mod Taking

@@ -11,6 +11,7 @@ pub mod laws;
 mod reading;
 mod refused;
 mod requeue;
+mod taking;
 
 pub use heap::Heap;
 pub use refused::Refused;
