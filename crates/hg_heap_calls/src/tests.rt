@@ -3,3 +3,4 @@ mod machine;
 mod one_heap;
 mod order;
 mod seeded;
+mod taking;
