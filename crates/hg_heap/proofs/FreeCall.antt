@@ -43,7 +43,8 @@ use Rattle.hg_heap.specs.Freeing.{free_denial}
 use Rattle.hg_heap.specs.Stays.{Looked, Closed}
 use Rattle.hg_heap.proofs.Founds.{Found, found_is, held_found, number_is}
 use Rattle.hg_heap.proofs.OpenBlocks.{none_at_home, generation_read}
-use Rattle.hg_heap.proofs.PageChanged.{PageChange, lists_now, lists_before, lists_other}
+use Rattle.hg_heap.proofs.PageChanged.{PageChange, kind_same, lists_now, lists_before}
+use Rattle.hg_heap.proofs.PageChanged.{lists_other}
 use Rattle.hg_heap.proofs.ChargeChanged.{PlaceChange}
 use Rattle.hg_heap.proofs.Putting.{IsChangedAt, put_ties}
 use Rattle.hg_heap.proofs.Looking.{FitsLaw, stepped, refused_ends, slot_below}
@@ -55,7 +56,7 @@ open_by (Home g) word fits alive = absurd (let a = fits.freed refl in omega (ari
 open_by (Open g o) word fits alive = ap (λ (n : ℕ). Open n o) (sym fits.generation)
     ∙ ap (Open (word_generation word)) (sym (fits.owner refl))
 
-no_class : (class : Option ℕ) (index : ℕ) → IsBlockPlace class index → class ≡ None → ⊥
+pub no_class : (class : Option ℕ) (index : ℕ) → IsBlockPlace class index → class ≡ None → ⊥
 no_class None index on e = on
 no_class (Some n) index on e = absurd (cc)
 
@@ -121,12 +122,7 @@ module _ {S : Type 0} (number : S → ℕ) (records : S → List Standing) (show
     owner_below = let bits = h.closed.live.0.1 in omega (arith, bits)
 
     pub kind_kept : kind_of number after ≡ kind_of number one
-    kind_kept =
-        ap (λ (n : ℕ). record { number = n; arena = after.arena; greatest = after.greatest })
-        h.closed.same_number
-        ∙ ap (λ (n : ℕ). record { number = number one.slots; arena = n; greatest = after.greatest })
-        h.closed.fixed.arena
-        ∙ ap (λ (n : ℕ). record { number = number one.slots; arena = one.arena; greatest = n })
+    kind_kept = kind_same number one after h.closed.same_number h.closed.fixed.arena
         h.closed.fixed.greatest
 
     page_is : slot_of place / 512 ≡ place.page

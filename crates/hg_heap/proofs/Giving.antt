@@ -36,7 +36,7 @@ use Rattle.hg_heap.specs.Settled.{IsSettled}
 use Rattle.hg_heap.specs.Right.{IsRight}
 use Rattle.hg_heap.specs.Opened.{Opened}
 use Rattle.hg_heap.proofs.Founds.{Found, Contains-get, found_is, number_is}
-use Rattle.hg_heap.proofs.PageChanged.{PageChange, lists_now, lists_other}
+use Rattle.hg_heap.proofs.PageChanged.{PageChange, kind_same, lists_now, lists_other}
 use Rattle.hg_heap.proofs.RightChanged.{right_changed}
 use Rattle.hg_heap.proofs.ChargeChanged.{PlaceChange, charge_raised, charge_room}
 use Rattle.hg_heap.proofs.Requeuing.{has_place_is}
@@ -136,17 +136,7 @@ module _ {S : Type 0} (number : S → ℕ) (records : S → List Standing) where
     classes_kept other = ap (λ (cs : List (Option ℕ)). class_in cs other) h.fixed.classes
 
     kind_kept : kind_of number after ≡ kind_of number one
-    kind_kept =
-        ap (λ (n : ℕ). record { number = n; arena = after.arena; greatest = after.greatest })
-        h.number_kept
-        ∙ ap (λ (n : ℕ). record {
-          number = number one.slots;
-          arena = n;
-          greatest =
-              after.greatest;
-        }) h.fixed.arena
-        ∙ ap (λ (n : ℕ). record { number = number one.slots; arena = one.arena; greatest = n })
-        h.fixed.greatest
+    kind_kept = kind_same number one after h.number_kept h.fixed.arena h.fixed.greatest
 
     abbrev page_change : PageChange number items found at one after
     page_change = record {

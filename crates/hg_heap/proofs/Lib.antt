@@ -26,6 +26,9 @@ pub mod ViewCharges
 pub mod AllocRooms
 pub mod AllocCall
 pub mod FreeCall
+pub mod CameBack
+pub mod TakeLoop
+pub mod TakingKept
 pub mod Entered
 pub mod Adding
 pub mod Adopted

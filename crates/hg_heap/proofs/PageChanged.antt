@@ -42,6 +42,17 @@ module _ {S : Type 0} (number : S → ℕ) where
       ap (λ (o : Option (Kept S)). cond (number x.slots == segment) (Some x) o)
       (other_found xs found segment one after at same ne)
 
+  -- a segment that keeps its number, its arena and its greatest generation is of its kind
+  pub kind_same : (one after : Kept S) → number after.slots ≡ number one.slots
+      → after.arena ≡ one.arena → after.greatest ≡ one.greatest
+      → kind_of number after ≡ kind_of number one
+  kind_same one after same arena greatest =
+      ap (λ (n : ℕ). record { number = n; arena = after.arena; greatest = after.greatest }) same
+      ∙ ap (λ (n : ℕ). record { number = number one.slots; arena = n; greatest = after.greatest })
+      arena
+      ∙ ap (λ (n : ℕ). record { number = number one.slots; arena = one.arena; greatest = n })
+      greatest
+
   -- one page of a segment that is held has this class now, and had it or none
   pub record PageChange (old : List (Kept S)) (found page : ℕ) (one after : Kept S) : Type 0 where
     pub segment : ℕ

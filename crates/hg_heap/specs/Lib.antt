@@ -25,3 +25,4 @@ pub mod Parting
 pub mod Opened
 pub mod HeapLaws
 pub mod Retiring
+pub mod Taking

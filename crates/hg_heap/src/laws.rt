@@ -1,6 +1,8 @@
 //! Laws of heaps. Each function does nothing: what it promises is the law.
 
-ghost use Rattle.hg_heap.specs.HeapLaws.{StepsKeepPolicy};
+ghost use Rattle.hg_heap.specs.HeapLaws.{StepsKeepPolicy, KindsKeepPolicy, TakingKeepsKinds};
+ghost use Rattle.hg_heap.specs.HeapLaws.{TakingKeepsClasses, TakingKeepsOthers};
+ghost use Rattle.hg_heap.specs.HeapLaws.{TakingCountsPlaces};
 
 use hg_place::SlotWords;
 
@@ -8,4 +10,19 @@ use hg_place::SlotWords;
 /// are held, serves every allocation that follows.
 pub fn steps_keep_policy<S: SlotWords>()
     ensures { StepsKeepPolicy S.number S.shows S.steps }
+{}
+
+/// And so does all that keeps the segments' numbers, arenas and greatest generations, in order.
+pub fn kinds_keep_policy<S: SlotWords>()
+    ensures { KindsKeepPolicy S.number }
+{}
+
+/// Places that are taken in leave the segments in their order, each with its number, its arena, its
+/// greatest generation and the classes of its pages, and the other segments as they were; and no
+/// more come home than there are places.
+pub fn taking_keeps<S: SlotWords>()
+    ensures kinds { TakingKeepsKinds S.number S.records S.shows S.steps }
+    ensures classes { TakingKeepsClasses S.number S.records S.shows S.steps }
+    ensures others { TakingKeepsOthers S.number S.records S.shows S.steps }
+    ensures count { TakingCountsPlaces S.number S.records S.shows S.steps }
 {}

@@ -14,6 +14,7 @@ mod reading;
 mod refused;
 mod releasing;
 mod requeue;
+mod taking;
 
 pub use heap::Heap;
 pub use refused::Refused;

@@ -5,3 +5,4 @@ mod order;
 mod parting;
 mod releases;
 mod seeded;
+mod taking;

@@ -17,7 +17,7 @@ use Rattle.hg_remote.proofs.Sent.{Sent, IsNew, thread_sent, delayed_sent, sent_o
 use Rattle.hg_remote.proofs.Drained.{Drained, thread_drained, delayed_drained, unflagged}
 
 -- lists of no place
-nothing_at : (n page : ℕ) → slice_index_or {A = List ℕ} (replicate n []) page [] ≡ []
+pub nothing_at : (n page : ℕ) → slice_index_or {A = List ℕ} (replicate n []) page [] ≡ []
 nothing_at zero page = refl
 nothing_at (suc n) zero = refl
 nothing_at (suc n) (suc page) = nothing_at n page

@@ -5,3 +5,4 @@ mod Drained
 pub mod Kept
 mod Calls
 mod DrainLaws
+pub mod OrderLemmas

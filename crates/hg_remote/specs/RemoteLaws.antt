@@ -1,9 +1,11 @@
 -- Laws of remote lists.
-use Rattle.std.specs.Prelude.{◌≡◌, ℕ, ◌<◌, true, List, ◌∷◌, Contains}
+use Rattle.std.specs.Prelude.{◌≡◌, ◌↔◌, ℕ, ◌<◌, true, List, [], ◌∷◌, length, Contains}
 use Rattle.hg_place.specs.declared.geometry.TheConstants.{SEGMENT_PAGES, PAGE_PLACES}
 use Rattle.hg_place.specs.Places.{page_of}
-use Rattle.hg_remote.specs.Remote.{Remote, IsRight, contents, slot, is_delayed}
+use Rattle.hg_lists.specs.Repeats.{HasNoRepeats}
+use Rattle.hg_remote.specs.Remote.{Remote, IsRight, contents, nothing_sent, slot, is_delayed}
 use Rattle.hg_remote.specs.Sends.{sent, Drains}
+use Rattle.hg_remote.specs.Order.{drained}
 
 -- of all lists and places there is one that a drain leaves and takes
 abbrev pub DrainIsDetermined : Type 0
@@ -25,3 +27,23 @@ LastSentIsDrained =
     (remote : Remote) (page index : ℕ) → IsRight remote → page < SEGMENT_PAGES
     → index < PAGE_PLACES → ¬ Contains (contents remote) (slot page index)
     → IsForemost remote page → Drains (sent remote page index) remote page index
+
+-- a drain gives the head of the order in which places come off, and leaves its tail
+abbrev pub DrainGivesHead : Type 0
+DrainGivesHead =
+    (old new : Remote) (page index : ℕ) → IsRight old → Drains old new page index
+    → drained old ≡ slot page index ∷ drained new
+
+-- that order has each place that the list has, once, and no other
+pub record IsOrderOf (remote : Remote) : Type 0 where
+  pub same : (place : ℕ) → Contains (drained remote) place ↔ Contains (contents remote) place
+  pub once : HasNoRepeats (drained remote)
+  pub as_many : length (drained remote) ≡ length (contents remote)
+
+abbrev pub OrderHasAll : Type 0
+OrderHasAll = (remote : Remote) → IsRight remote → IsOrderOf remote
+
+-- a list that has no place is one to which nothing was sent
+abbrev pub EmptyIsNothingSent : Type 0
+EmptyIsNothingSent =
+    (remote : Remote) → IsRight remote → contents remote ≡ [] → remote ≡ nothing_sent

@@ -1,10 +1,13 @@
 //! A heap under a policy, and calls on it.
 
+ghost use Rattle.hg_place.specs.Lives.{IsLiveWord};
+
 use hg_heap::{Heap, Refused};
 use hg_machine::Rule;
-use hg_place::{Actor, Handle, MAX_SEGMENTS, PAGE_PLACES, Place, PlainWords, SEGMENT_PAGES};
+use hg_place::{Actor, Handle, MAX_SEGMENTS, PAGE_PLACES, Place, PlainWords, SEGMENT_PAGES, pack};
 use hg_policy::{Policy, read_policy};
 use hg_queue::ARENAS;
+use hg_remote::RemoteList;
 use hg_segment::Segment;
 use std::alloc::Global;
 use std::process::Abort;
@@ -117,4 +120,27 @@ pub fn handle(rt: &impl Abort, segment: u8, page: u8, index: u16, generation: u3
 /// A refusal by a rule.
 pub fn denied<T>(rule: Rule) -> Result<T, Refused> {
     Err(Refused::Denied(rule))
+}
+
+/// The word of a live block.
+pub fn live(rt: &impl Abort, generation: u32, owner: u8) -> u64
+    ensures { IsLiveWord result }
+{
+    assert!(rt; generation > 0 && owner < 64);
+    pack(generation, owner, true)
+}
+
+/// A worker that doesn't hold the segment frees a block of an owner, and the place is sent.
+pub fn free_far(
+    rt: &impl Abort,
+    segment: &mut Segment<PlainWords>,
+    remote: &mut RemoteList,
+    handle: Handle,
+    owner: u8,
+) {
+    let place = handle.place;
+    let word = live(rt, handle.generation, owner);
+    assert!(rt; segment.number() == place.segment);
+    assert_eq!(rt; segment.part(place, word), Ok(()));
+    assert_eq!(rt; remote.push(place.page, place.index), Ok(()));
 }

@@ -101,12 +101,6 @@ impl Machine {
         self.arenas[segment as usize] = Some(arena);
     }
 
-    /// A segment is held no longer; its places and its blocks stay as they are.
-    pub fn release(&mut self, rt: &impl Abort, segment: u8) {
-        assert!(rt; (segment as usize) < self.arenas.len());
-        self.arenas[segment as usize] = None;
-    }
-
     /// Where the block of a place stands that is out.
     pub fn block_at(&self, place: Place) -> Option<usize> {
         self.blocks

@@ -204,18 +204,6 @@ impl Order {
         }
     }
 
-    /// A segment leaves with its pages.
-    pub fn release(&mut self, rt: &impl Abort, segment: u8) {
-        assert!(rt; (segment as usize) < self.arenas.len());
-        self.arenas[segment as usize] = None;
-        let first = segment as usize * SEGMENT_PAGES;
-        for queue in &mut self.queues {
-            for page in first..first + SEGMENT_PAGES {
-                queue.remove(page);
-            }
-        }
-    }
-
     /// The first page without a class that has room for a block.
     fn blank(&mut self, rt: &impl Abort, arena: u8, words: u16) -> Option<usize> {
         for page in 0..self.pages.len() {

@@ -2,17 +2,10 @@
 
 ghost use Rattle.hg_place.specs.Lives.{IsLiveWord};
 
-use crate::tests::heaps::{ALICE, MAIN, POLICY, Tried, denied};
+use crate::tests::heaps::{ALICE, MAIN, POLICY, Tried, denied, live};
 use hg_machine::Rule;
-use hg_place::{Place, pack};
+use hg_place::Place;
 use std::process::Abort;
-
-/// The word of a block of alice's of the first generation.
-fn live() -> u64
-    ensures { IsLiveWord result }
-{
-    pack(1, 0, true)
-}
 
 /// Parts a place.
 fn part(rt: &impl Abort, tried: &mut Tried, place: Place, expected: u64) -> Result<(), u64>
@@ -34,11 +27,11 @@ fn parted_once(rt: HostRuntime) {
     let mut tried = Tried::new(&rt, rt.alloc(), POLICY);
     tried.adopt_fresh(&rt, rt.alloc(), 0);
     let block = tried.alloc(&rt, ALICE, MAIN, 24).expect(&rt, "a block");
-    assert_eq!(&rt; word(&rt, &tried, block.place), live());
-    assert_eq!(&rt; part(&rt, &mut tried, block.place, live()), Ok(()));
-    let freed = live() - 1;
-    assert_eq!(&rt; word(&rt, &tried, block.place), freed);
-    assert_eq!(&rt; part(&rt, &mut tried, block.place, live()), Err(freed));
+    let whole = live(&rt, 1, 0);
+    assert_eq!(&rt; word(&rt, &tried, block.place), whole);
+    assert_eq!(&rt; part(&rt, &mut tried, block.place, whole), Ok(()));
+    assert_eq!(&rt; word(&rt, &tried, block.place), whole - 1);
+    assert_eq!(&rt; part(&rt, &mut tried, block.place, whole), Err(whole - 1));
     assert_eq!(&rt; tried.read(ALICE, block, 0), denied(Rule::AlreadyFreed));
     assert_eq!(&rt; tried.free(ALICE, block), denied(Rule::AlreadyFreed));
     assert_eq!(&rt; tried.heap.charge(0), 24);

@@ -2,16 +2,17 @@
 //! which places are given out.
 
 ghost use Rattle.std.specs.Prelude.{◌<◌};
-ghost use Rattle.hg_place.specs.Lives.{IsLiveWord};
 
-use crate::tests::heaps::{MAIN, Tried, VAULT, fresh};
+use crate::tests::heaps::{MAIN, Tried, VAULT, free_far, fresh, live};
 use crate::tests::machine::{Machine, page_of};
 use crate::tests::order::{Order, places};
 use hg_heap::Refused;
 use hg_machine::Row;
 use hg_place::{
-    Actor, Handle, PAGE_PLACES, Place, PlainWords, Right, SEGMENT_PAGES, pack, word_generation,
+    Actor, Handle, PAGE_PLACES, Place, PlainWords, Right, SEGMENT_PAGES, SEGMENT_PLACES,
+    word_generation,
 };
+use hg_remote::RemoteList;
 use hg_segment::Segment;
 use hg_size::{block_words, class_of};
 use std::alloc::Global;
@@ -36,22 +37,16 @@ grant = [ {owner = \"alice\", to = \"bob\", rights = [\"read\", \"free\"]},
 /// The bytes that are asked for.
 static BYTES: [u64; 9] = [0, 24, 200, 512, 700, 1300, 2000, 4096, 5000];
 
-/// A heap, its models, the handles that were given out, and the segments that have left.
+/// A heap, its models, and the handles that were given out; and what was sent to segment 1, once
+/// for the heap and once for the models.
 #[derive(Drop)]
 struct Run {
     tried: Tried,
     machine: Machine,
     order: Order,
     handles: Vec<Handle>,
-    away: Vec<Segment<PlainWords>>,
-}
-
-/// The word of a live block.
-fn live(rt: &impl Abort, generation: u32, owner: u8) -> u64
-    ensures { IsLiveWord result }
-{
-    assert!(rt; generation > 0 && owner < 64);
-    pack(generation, owner, true)
+    remote: RemoteList,
+    sent: RemoteList,
 }
 
 /// A part of a seeded number, below a bound.
@@ -90,7 +85,8 @@ impl Run {
             machine: Machine::new(rt, alloc, 3),
             order: Order::new(rt, alloc, 3),
             handles: Vec::new(alloc),
-            away: Vec::new(alloc),
+            remote: RemoteList::new(alloc).expect(rt, "memory"),
+            sent: RemoteList::new(alloc).expect(rt, "memory"),
         }
     }
 
@@ -100,31 +96,6 @@ impl Run {
         self.tried.adopt(rt, segment);
         self.machine.adopt(rt, number, arena);
         self.order.adopt(rt, alloc, number, arena);
-    }
-
-    /// A segment leaves, if it is held.
-    fn release(&mut self, rt: &impl Abort, number: u64) {
-        let segment = pick(number, 32, 4) as u8;
-        let is_held = self.tried.heap.holds(segment);
-        let released = self.tried.heap.release(segment);
-        assert_eq!(rt; released.is_some(), is_held);
-        let Some(released) = released else {
-            return;
-        };
-        assert!(rt; !self.tried.heap.holds(segment));
-        assert_eq!(rt; released.number(), segment);
-        self.machine.release(rt, segment);
-        self.order.release(rt, segment);
-        self.away.push(released).expect(rt, "memory");
-    }
-
-    /// A segment that has left comes back.
-    fn come_back(&mut self, rt: &impl Abort, alloc: Global, number: u64) {
-        let at = pick(number, 32, self.away.len());
-        if at < self.away.len() {
-            let segment = self.away.swap_remove(at);
-            self.adopt(rt, alloc, segment);
-        }
     }
 
     /// A block was given out.
@@ -202,11 +173,35 @@ impl Run {
             return;
         }
         assert_eq!(rt; answer, Ok(()));
-        let at = self.machine.block_at(handle.place).expect(rt, "a block");
+        self.come_home(rt, alloc, handle.place);
+    }
+
+    /// In the models a place comes home.
+    fn come_home(&mut self, rt: &impl Abort, alloc: Global, place: Place) {
+        let at = self.machine.block_at(place).expect(rt, "a block");
         assert!(rt; at < self.machine.blocks.len());
         let _ = self.machine.blocks.swap_remove(at);
-        let place = handle.place;
         self.order.free(rt, alloc, page_of(place), place.index);
+    }
+
+    /// Takes in what was sent to segment 1.
+    fn take(&mut self, rt: &impl Abort, alloc: Global) -> u32 {
+        assert!(rt; self.tried.heap.holds(1));
+        let count = self.tried.heap.take(1, &mut self.remote);
+        assert!(rt; self.remote.is_empty());
+        for taken in 0..SEGMENT_PLACES as u32 {
+            let Some((page, index)) = self.sent.drain_one() else {
+                assert_eq!(rt; count, taken);
+                return count;
+            };
+            let place = Place {
+                segment: 1,
+                page,
+                index,
+            };
+            self.come_home(rt, alloc, place);
+        }
+        count
     }
 
     /// Reads or writes a word of a block.
@@ -313,10 +308,8 @@ impl Run {
             0 => self.collect(rt, alloc),
             1..26 => self.alloc(rt, alloc, number),
             26..46 => self.free(rt, alloc, number),
-            46..51 => self.reach(rt, number, false),
-            51..56 => self.reach(rt, number, true),
-            56 => self.release(rt, number),
-            57..59 => self.come_back(rt, alloc, number),
+            46..52 => self.reach(rt, number, false),
+            52..58 => self.reach(rt, number, true),
             _ => self.look(rt, number),
         }
         assert_eq!(rt; self.tried.heap.charge(0), self.machine.charge(rt, 0));
@@ -336,7 +329,7 @@ impl Run {
     }
 
     /// Segment 1 with pages of three classes, as another heap left it: of two pages all blocks are
-    /// out, of two others some, and some are home again.
+    /// out, of two others some; some are home again, and some were freed and sent.
     fn used(&mut self, rt: &impl Abort, alloc: Global) -> Segment<PlainWords> {
         let mut segment = fresh(rt, alloc, &self.tried.policy, 1);
         self.use_page(rt, alloc, &mut segment, 1, 25, 9);
@@ -346,7 +339,8 @@ impl Run {
         segment
     }
 
-    /// Gives a page of a segment a class, and gives some places out; each third comes home.
+    /// Gives a page of a segment a class, and gives some places out; of three one comes home, and
+    /// one is freed by a worker that doesn't hold the segment.
     fn use_page(
         &mut self,
         rt: &impl Abort,
@@ -367,8 +361,13 @@ impl Run {
             let handle = segment.open_in(page, 1).expect(rt, "a place");
             let _ = self.order.page(rt, number).take(rt);
             self.give(rt, alloc, handle, 1, words);
-            if handle.place.index % 3 == 1 && many < 512 {
-                self.end_life(rt, segment, handle);
+            match handle.place.index % 3 {
+                1 if many < 512 => self.end_life(rt, segment, handle),
+                2 => {
+                    free_far(rt, segment, &mut self.remote, handle, 1);
+                    assert_eq!(rt; self.sent.push(page, handle.place.index), Ok(()));
+                }
+                _ => {}
             }
         }
     }
@@ -386,7 +385,7 @@ impl Run {
     }
 }
 
-/// A run from a seed, during which segments come and go.
+/// A run from a seed, during which segments come.
 fn run_from(rt: &impl Abort, alloc: Global, seed: u64) {
     let mut run = Run::new(rt, alloc);
     let seed = run.steps(rt, alloc, seed, 20);
@@ -395,13 +394,11 @@ fn run_from(rt: &impl Abort, alloc: Global, seed: u64) {
     let seed = run.steps(rt, alloc, seed, 800);
     let segment = run.used(rt, alloc);
     run.adopt(rt, alloc, segment);
+    assert_eq!(rt; run.take(rt, alloc), 25);
     let seed = run.steps(rt, alloc, seed, 800);
     let segment = fresh(rt, alloc, &run.tried.policy, 2);
     run.adopt(rt, alloc, segment);
     run.steps(rt, alloc, seed, 2400);
-    for _ in 0..3 {
-        run.come_back(rt, alloc, seed);
-    }
     let heap = &run.tried.heap;
     assert!(rt; heap.holds(0) && heap.holds(1) && heap.holds(2));
     assert_eq!(rt; heap.arena(0), MAIN);

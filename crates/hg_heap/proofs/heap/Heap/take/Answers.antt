@@ -1,0 +1,112 @@
+use Rattle.std.proofs.Common.{refl, ◌∙◌, arith}
+use Rattle.hg_remote.proofs.OrderLemmas.{empty_sent}
+use Rattle.hg_heap.proofs.TakeLoop.{Comes, none_taken, shorter, room, one_taken, one_passed}
+use Rattle.hg_heap.proofs.TakeLoop.{all_taken}
+use Rattle.hg_heap.proofs.heap.Heap.take.Goals as goal
+
+pub loop-page-init : goal.loop-page-init
+loop-page-init g c =
+    let w = g.S.SlotWords in
+    none_taken w.number w.records w.shows w.steps c.args.segment c.args.remote.now
+    c.args.self.now c.requires c.is_empty-is_empty.ensures.right
+
+pub take_one-requires-clause-held : goal.take_one-requires-clause-held
+take_one-requires-clause-held g c = c.loop-page.invariant.held
+
+pub overflow_add-count : goal.overflow_add-count
+overflow_add-count g c =
+    let w = g.S.SlotWords in
+    let d = c.in-Some.ensures in
+    let comes : Comes c.in-Some.page c.in-Some.index c.loop-page.remote c.drain_one.new.self =
+    record {
+      low = d.page;
+      small = d.index;
+      drains = d.drained;
+      removed = d.removed;
+      right = d.right;
+    } in
+    let less = room w.number w.records w.shows w.steps c.args.segment c.in-Some.page c.in-Some.index
+    c.loop-page.count c.args.remote.now c.loop-page.remote c.drain_one.new.self c.args.self.now
+    c.loop-page.self c.take_one.new.self c.loop-page.invariant comes in
+    omega (arith, less)
+
+pub loop-page-smaller-then-take_one : goal.loop-page-smaller-then-take_one
+loop-page-smaller-then-take_one g c =
+    let w = g.S.SlotWords in
+    let d = c.in-Some.ensures in
+    let comes : Comes c.in-Some.page c.in-Some.index c.loop-page.remote c.drain_one.new.self =
+    record {
+      low = d.page;
+      small = d.index;
+      drains = d.drained;
+      removed = d.removed;
+      right = d.right;
+    } in
+    shorter w.number w.records w.shows w.steps c.args.segment c.in-Some.page c.in-Some.index
+    c.loop-page.count c.args.remote.now c.loop-page.remote c.drain_one.new.self c.args.self.now
+    c.loop-page.self c.take_one.new.self c.loop-page.invariant comes
+
+pub loop-page-preserved-then-take_one : goal.loop-page-preserved-then-take_one
+loop-page-preserved-then-take_one g c =
+    let w = g.S.SlotWords in
+    let d = c.in-Some.ensures in
+    let comes : Comes c.in-Some.page c.in-Some.index c.loop-page.remote c.drain_one.new.self =
+    record {
+      low = d.page;
+      small = d.index;
+      drains = d.drained;
+      removed = d.removed;
+      right = d.right;
+    } in
+    one_taken w.number w.records w.shows w.steps c.args.segment c.in-Some.page c.in-Some.index
+    c.loop-page.count c.args.remote.now c.loop-page.remote c.drain_one.new.self c.args.self.now
+    c.loop-page.self c.take_one.new.self c.loop-page.invariant comes
+    (c.take_one.ensures.taken c.if-take_one.true)
+
+pub loop-page-smaller : goal.loop-page-smaller
+loop-page-smaller g c =
+    let w = g.S.SlotWords in
+    let d = c.in-Some.ensures in
+    let comes : Comes c.in-Some.page c.in-Some.index c.loop-page.remote c.drain_one.new.self =
+    record {
+      low = d.page;
+      small = d.index;
+      drains = d.drained;
+      removed = d.removed;
+      right = d.right;
+    } in
+    shorter w.number w.records w.shows w.steps c.args.segment c.in-Some.page c.in-Some.index
+    c.loop-page.count c.args.remote.now c.loop-page.remote c.drain_one.new.self c.args.self.now
+    c.loop-page.self c.take_one.new.self c.loop-page.invariant comes
+
+pub loop-page-preserved : goal.loop-page-preserved
+loop-page-preserved g c =
+    let w = g.S.SlotWords in
+    let d = c.in-Some.ensures in
+    let comes : Comes c.in-Some.page c.in-Some.index c.loop-page.remote c.drain_one.new.self =
+    record {
+      low = d.page;
+      small = d.index;
+      drains = d.drained;
+      removed = d.removed;
+      right = d.right;
+    } in
+    one_passed w.number w.records w.shows w.steps c.args.segment c.in-Some.page c.in-Some.index
+    c.loop-page.count c.args.remote.now c.loop-page.remote c.drain_one.new.self c.args.self.now
+    c.loop-page.self c.take_one.new.self c.loop-page.invariant comes
+    (c.take_one.ensures.passed c.if-take_one.false)
+
+pub returns-clause-empty : goal.returns-clause-empty
+returns-clause-empty g c =
+    c.in_default.ensures.unchanged
+    ∙ empty_sent c.loop-page.remote c.loop-page.invariant.right (c.in_default.ensures.none.0 refl)
+
+pub returns-clause-taken : goal.returns-clause-taken
+returns-clause-taken g c =
+    let w = g.S.SlotWords in
+    all_taken w.number w.records w.shows w.steps c.args.segment c.loop-page.count
+    c.args.remote.now c.loop-page.remote c.args.self.now c.loop-page.self c.loop-page.invariant
+    (c.in_default.ensures.none.0 refl)
+
+pub returns-clause-few : goal.returns-clause-few
+returns-clause-few g c = let few = c.loop-page.invariant.few in omega (arith, few)
