@@ -34,7 +34,8 @@ filters_twice p q r h (xs ∷ xss) =
     ∙ ap (λ (yss : List (List ℕ)). filter r xs ∷ yss) (filters_twice p q r h xss)
 
 -- filtered by tests that agree
-pub filter_same : (p q : ℕ → Bool) → ((x : ℕ) → p x ≡ q x) → (xs : List ℕ) → filter p xs ≡ filter q xs
+pub filter_same : (p q : ℕ → Bool) → ((x : ℕ) → p x ≡ q x) → (xs : List ℕ)
+    → filter p xs ≡ filter q xs
 filter_same p q h [] = refl
 filter_same p q h (x ∷ xs) =
     ap (λ (b : Bool). cond b (x ∷ filter p xs) (filter p xs)) (h x)

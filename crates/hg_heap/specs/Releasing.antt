@@ -1,5 +1,6 @@
 -- What a heap has when a segment has left it.
-use Rattle.std.specs.Prelude.{ℕ, ◌==◌, Bool, not, List, filter, map, Option, Some, None, swap_remove}
+use Rattle.std.specs.Prelude.{ℕ, ◌==◌, Bool, not, List, filter, map, swap_remove}
+use Rattle.std.specs.Prelude.{Option, Some, None}
 use Rattle.std.specs.List.{position_or_len}
 use Rattle.hg_place.specs.Places.{segment_of_page}
 use Rattle.hg_segment.specs.Kept.{Kept}

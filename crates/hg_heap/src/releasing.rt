@@ -16,9 +16,9 @@ use hg_queue::PageQueues;
 use hg_segment::{Charges, Segment, TENANTS};
 
 impl<S: SlotWords> Heap<S> {
-    /// Gives a segment out as it is: with its blocks, its lists and its classes. Its pages leave the
-    /// queues, and tenants are charged no more for its open places. None where it isn't held, and
-    /// then nothing changes.
+    /// Gives a segment out as it is: with its blocks, its lists and its classes. Its pages leave
+    /// the queues, and tenants are charged no more for its open places. None where it isn't held,
+    /// and then nothing changes.
     pub fn release(&mut self, segment: u8) -> Option<Segment<S>>
         ensures released { result ≡ segment_in S.number self.old.segments segment }
         ensures unchanged { IfNone result (self.new ≡ self.old) }

@@ -111,7 +111,7 @@ fn the_last_is_still_found(rt: HostRuntime) {
     assert_eq!(&rt; tried.read(ALICE, x, 0), Err(Refused::Elsewhere));
     assert_eq!(&rt; tried.read(ALICE, y, 0), Ok(5));
     assert_eq!(&rt; tried.read(ALICE, z, 0), Ok(6));
-    assert_eq!(&rt; (tried.heap.arena(0), tried.heap.arena(2)), (MAIN, VAULT));
+    assert!(&rt; tried.heap.holds(0) && tried.heap.holds(2));
 
     let moved = released(&rt, &mut tried, 0);
     assert_eq!(&rt; tried.heap.charge(0), 24);
