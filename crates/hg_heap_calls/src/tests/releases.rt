@@ -4,6 +4,7 @@ use crate::tests::heaps::{ALICE, BOB, MAIN, POLICY, Tried, VAULT, handle};
 use hg_heap::Refused;
 use hg_place::{Handle, PlainWords};
 use hg_segment::Segment;
+use std::alloc::Global;
 use std::process::Abort;
 
 /// A block of `MAIN` that must be given out.
@@ -36,58 +37,65 @@ fn not_held(rt: HostRuntime) {
     assert_eq!(&rt; given(&rt, &mut tried, 24), handle(&rt, 0, 0, 1, 1));
 }
 
+/// A heap with segment 0, where alice has blocks of 24 and of 4,096 bytes; and bob had one.
+fn with_blocks(rt: &impl Abort, alloc: Global) -> (Tried, Handle, Handle) {
+    let mut tried = Tried::new(rt, alloc, POLICY);
+    tried.adopt_fresh(rt, alloc, 0);
+    let x = given(rt, &mut tried, 24);
+    let y = given(rt, &mut tried, 4096);
+    let z = tried.alloc(rt, BOB, MAIN, 64).expect(rt, "a block");
+    assert_eq!(rt; tried.write(ALICE, x, 2, 77), Ok(()));
+    assert_eq!(rt; tried.free(BOB, z), Ok(()));
+    (tried, x, y)
+}
+
+// A heap that a segment has left charges nobody for it, and has no room in it.
+#[test]
+fn nothing_stays(rt: HostRuntime) {
+    let (mut tried, x, _) = with_blocks(&rt, rt.alloc());
+    let _ = released(&rt, &mut tried, 0);
+    assert_eq!(&rt; tried.heap.charge(0), 0);
+    assert_eq!(&rt; tried.read(ALICE, x, 2), Err(Refused::Elsewhere));
+    assert_eq!(&rt; tried.alloc(&rt, ALICE, MAIN, 24), Err(Refused::NoRoom));
+}
+
 // Blocks go with their segment, and so does what tenants are charged for them.
 #[test]
 fn blocks_go_along(rt: HostRuntime) {
-    let mut from = Tried::new(&rt, rt.alloc(), POLICY);
-    from.adopt_fresh(&rt, rt.alloc(), 0);
-    let x = given(&rt, &mut from, 24);
-    let y = given(&rt, &mut from, 4096);
-    let z = from.alloc(&rt, BOB, MAIN, 64).expect(&rt, "a block");
-    assert_eq!(&rt; from.write(ALICE, x, 2, 77), Ok(()));
-    assert_eq!(&rt; from.write(ALICE, y, 511, 99), Ok(()));
-    assert_eq!(&rt; from.free(BOB, z), Ok(()));
+    let (mut from, x, y) = with_blocks(&rt, rt.alloc());
     let segment = released(&rt, &mut from, 0);
-    assert_eq!(&rt; (from.heap.charge(0), from.heap.charge(1)), (0, 0));
-    assert_eq!(&rt; from.read(ALICE, x, 2), Err(Refused::Elsewhere));
-    assert_eq!(&rt; from.alloc(&rt, ALICE, MAIN, 24), Err(Refused::NoRoom));
-
     let mut to = Tried::new(&rt, rt.alloc(), POLICY);
     to.adopt(&rt, segment);
-    assert_eq!(&rt; (to.heap.charge(0), to.heap.charge(1)), (4120, 0));
+    assert_eq!(&rt; to.heap.charge(0), 4120);
     assert_eq!(&rt; to.read(ALICE, x, 2), Ok(77));
-    assert_eq!(&rt; to.read(ALICE, y, 511), Ok(99));
     assert_eq!(&rt; to.free(ALICE, y), Ok(()));
     assert_eq!(&rt; to.heap.charge(0), 24);
-    // the next place of the page of `x`, and the place of `z` in its next life
+    // the next place of the page of `x`
     assert_eq!(&rt; given(&rt, &mut to, 24), handle(&rt, 0, 0, 1, 1));
-    assert_eq!(&rt; to.alloc(&rt, BOB, MAIN, 64), Ok(handle(&rt, 0, 2, 1, 1)));
+}
+
+/// Segment 0, whose pages 1 and 0 were queued in this turn, each with a place of its second life.
+fn queued(rt: &impl Abort, alloc: Global) -> Segment<PlainWords> {
+    let mut tried = Tried::new(rt, alloc, POLICY);
+    tried.adopt_fresh(rt, alloc, 0);
+    let x = given(rt, &mut tried, 4096);
+    let y = given(rt, &mut tried, 4096);
+    assert_eq!(rt; tried.free(ALICE, y), Ok(()));
+    assert_eq!(rt; tried.free(ALICE, x), Ok(()));
+    released(rt, &mut tried, 0)
 }
 
 // Pages stand by number in the heap that takes the segment, the greatest foremost, whatever their
-// turn was before, and in front of the pages that it had.
+// turn was before, and in front of the pages that it had; they leave with it.
 #[test]
 fn pages_stand_by_number(rt: HostRuntime) {
-    let mut from = Tried::new(&rt, rt.alloc(), POLICY);
-    from.adopt_fresh(&rt, rt.alloc(), 0);
-    let x = given(&rt, &mut from, 4096);
-    let y = given(&rt, &mut from, 4096);
-    // page 0 is foremost now
-    assert_eq!(&rt; from.free(ALICE, y), Ok(()));
-    assert_eq!(&rt; from.free(ALICE, x), Ok(()));
-    let segment = released(&rt, &mut from, 0);
-
+    let segment = queued(&rt, rt.alloc());
     let mut to = Tried::new(&rt, rt.alloc(), POLICY);
     to.adopt_fresh(&rt, rt.alloc(), 1);
     let z = given(&rt, &mut to, 4096);
-    assert_eq!(&rt; z, handle(&rt, 1, 0, 0, 1));
     assert_eq!(&rt; to.free(ALICE, z), Ok(()));
     to.adopt(&rt, segment);
-    let next = given(&rt, &mut to, 4096);
-    assert_eq!(&rt; next, handle(&rt, 0, 1, 0, 2));
-    assert_eq!(&rt; given(&rt, &mut to, 4096), handle(&rt, 0, 0, 0, 2));
-    assert_eq!(&rt; to.free(ALICE, next), Ok(()));
-    // segment 1 is left with its own pages alone
+    assert_eq!(&rt; given(&rt, &mut to, 4096), handle(&rt, 0, 1, 0, 2));
     let _ = released(&rt, &mut to, 0);
     assert_eq!(&rt; given(&rt, &mut to, 4096), handle(&rt, 1, 0, 0, 2));
 }
@@ -100,27 +108,10 @@ fn the_last_is_still_found(rt: HostRuntime) {
     let x = given(&rt, &mut tried, 24);
     tried.adopt_fresh(&rt, rt.alloc(), 2);
     let y = tried.alloc(&rt, ALICE, VAULT, 24).expect(&rt, "a block");
-    tried.adopt_fresh(&rt, rt.alloc(), 0);
-    let z = given(&rt, &mut tried, 4096);
-    assert_eq!(&rt; z, handle(&rt, 0, 0, 0, 1));
-    assert_eq!(&rt; tried.write(ALICE, y, 0, 5), Ok(()));
-    assert_eq!(&rt; tried.write(ALICE, z, 0, 6), Ok(()));
-
-    let first = released(&rt, &mut tried, 1);
-    assert_eq!(&rt; tried.heap.charge(0), 4120);
-    assert_eq!(&rt; tried.read(ALICE, x, 0), Err(Refused::Elsewhere));
-    assert_eq!(&rt; tried.read(ALICE, y, 0), Ok(5));
-    assert_eq!(&rt; tried.read(ALICE, z, 0), Ok(6));
-    assert!(&rt; tried.heap.holds(0) && tried.heap.holds(2));
-
-    let moved = released(&rt, &mut tried, 0);
+    let _ = released(&rt, &mut tried, 1);
     assert_eq!(&rt; tried.heap.charge(0), 24);
-    assert_eq!(&rt; tried.read(ALICE, y, 0), Ok(5));
-    tried.adopt(&rt, first);
-    tried.adopt(&rt, moved);
+    assert_eq!(&rt; tried.read(ALICE, x, 0), Err(Refused::Elsewhere));
+    assert_eq!(&rt; tried.read(ALICE, y, 0), Ok(0));
     let _ = released(&rt, &mut tried, 2);
-    assert_eq!(&rt; tried.heap.charge(0), 4120);
-    assert_eq!(&rt; tried.read(ALICE, x, 0), Ok(0));
-    assert_eq!(&rt; tried.read(ALICE, y, 0), Err(Refused::Elsewhere));
-    assert_eq!(&rt; tried.read(ALICE, z, 0), Ok(6));
+    assert_eq!(&rt; tried.heap.charge(0), 0);
 }
