@@ -1,1 +1,3 @@
 pub mod Core
+pub mod Delivered
+pub mod LetGo
