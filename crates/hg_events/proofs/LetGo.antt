@@ -137,15 +137,19 @@ module _ (core : Core) (worker segment : ℕ) (one : Kept PlainWords) (t : IsTid
       ∙ ap (λ os. record gone_from { orphans = os; queues = new.queues })
       (map-append plain_from core.pool.orphans (one ∷ []))
 
+  step : worker < length core.heaps
+      → Step (state_of parts) worker (event.Abandon segment) answer.Done (state_of gone_from)
+  step below =
+      subst (λ k. Step (state_of parts) worker (event.Abandon k) answer.Done (state_of gone_from))
+      own
+      (let_go_is_step parts worker (map plain_from left) (plain_from one) (tidy_sorted parts t)
+      (go below))
+
   served : worker < length core.heaps
       → Step (state_of parts) worker (event.Abandon segment) answer.Done (state_of new) × IsTidy new
   served below = (
     subst (λ p. Step (state_of parts) worker (event.Abandon segment) answer.Done (state_of p))
-        (sym new_is)
-        (subst (λ k. Step (state_of parts) worker (event.Abandon k) answer.Done (state_of gone_from))
-        own
-        (let_go_is_step parts worker (map plain_from left) (plain_from one) (tidy_sorted parts t)
-        (go below))),
+        (sym new_is) (step below),
     subst IsTidy (sym new_is)
         (requeued gone_from new.queues
         (let_go_tidy parts worker (map plain_from left) (plain_from one) t (go below) left_once)),
