@@ -1,0 +1,3 @@
+mod TakenHome
+mod TakesHome
+mod Taking
