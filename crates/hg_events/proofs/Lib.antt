@@ -1,3 +1,7 @@
+mod StandsAlone
 mod TakenHome
 mod TakesHome
+mod SameListed
+mod CoreHeaps
+mod SentParted
 mod Taking

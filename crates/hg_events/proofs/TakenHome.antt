@@ -114,7 +114,8 @@ module _ (one now : Kept PlainWords) (page index : ℕ) (low : slot page index <
   came_home number = record {
     number = number;
     fixed = went.fixed;
-    records = λ other below. elim (cases_eq at other) as (λ _. record_by (Some (plain_from now)) other
+    records = λ other below. elim (cases_eq at other)
+        as (λ _. record_by (Some (plain_from now)) other
         ≡ taken_in ((at == other) || false) (record_by (Some (plain_from one)) other)) [
           | inl e ↦
               ap (record_by (Some (plain_from now))) (sym e) ∙ here
