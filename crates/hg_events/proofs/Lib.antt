@@ -1,3 +1,10 @@
 mod Told
 mod Delivered
 mod LetGo
+mod StandsAlone
+mod TakenHome
+mod TakesHome
+mod SameListed
+mod CoreHeaps
+mod SentParted
+mod Taking

@@ -1,3 +1,4 @@
 pub mod Core
 pub mod Delivered
 pub mod LetGo
+pub mod Take

@@ -31,4 +31,14 @@ pub fn abandon_is_served()
 /// An Abandon is refused where the heap hasn't the segment.
 pub fn abandon_is_refused()
     ensures { AbandonIsRefused }
+ghost use Rattle.hg_events.specs.Take.{TakingIsTake, NoTakeIsTake};
+
+/// What was sent to a segment that the worker holds comes home: a Take.
+pub fn taking_is_take()
+    ensures { TakingIsTake }
+{}
+
+/// Where the worker doesn't hold it, a Take is refused.
+pub fn no_take_is_take()
+    ensures { NoTakeIsTake }
 {}
