@@ -1,1 +1,2 @@
 pub mod Core
+pub mod Collects

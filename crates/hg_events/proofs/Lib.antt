@@ -1,0 +1,2 @@
+pub mod SweptHeaps
+pub mod Collects
