@@ -1,7 +1,7 @@
 -- A heap whose idle pages have lost their class is swept, segment by segment.
 use Rattle.std.proofs.Common.{◌≡◌, ℕ, zero, suc, ◌+◌, ◌*◌, ◌/◌, ◌%◌, ◌==◌, ◌<◌, ◌≤◌, ◌&&◌, inl, inr}
-use Rattle.std.proofs.Common.{Bool, true, false, not, cond, [], ◌∷◌, List, map, length, Option, Some}
-use Rattle.std.proofs.Common.{None, refl, sym, ap, subst, ◌∙◌, arith, is_some, slice_get}
+use Rattle.std.proofs.Common.{Bool, true, false, not, cond, [], ◌∷◌, List, map, length, Option}
+use Rattle.std.proofs.Common.{Some, None, refl, sym, ap, subst, ◌∙◌, arith, is_some, slice_get}
 use Rattle.std.proofs.Common.{slice_index_or, count_by}
 use Rattle.std.specs.List.{position_or_len}
 use Rattle.std.proofs.lemmas.Bool.{cases_Bool, true≢false, eq-eqb}
@@ -163,7 +163,8 @@ module _ (old new : Held PlainWords) (gone : Collected plain_number plain_record
 
     -- on a page whose places are home no block has words
     same_told : (at : ℕ) → at < 8192
-        → told_of x at (class_in y.classes (at / 512)) ≡ told_of x at (class_in x.classes (at / 512))
+        → told_of x at (class_in y.classes (at / 512))
+        ≡ told_of x at (class_in x.classes (at / 512))
     same_told at low =
         let page = at / 512 in
         let small : page < 16 = omega (arith, low) in

@@ -20,8 +20,8 @@ abbrev pub with_collected : Core → ℕ → Held PlainWords → Core
 with_collected core worker heap = record core { heaps = slice_set core.heaps worker heap }
 
 -- what `Heap::collect` answered and left, by its clauses `pages` and `collected`: so many pages had
--- a class and no open place; they have lost it, and nothing else of a segment has changed but lists;
--- and each segment is settled
+-- a class and no open place; they have lost it, and nothing else of a segment has changed but
+-- lists; and each segment is settled
 pub record IsCollected (old new : Held PlainWords) (count : ℕ) : Type 0 where
   pub pages : count ≡ idle_pages plain_number plain_records old.segments
   pub collected : Collected plain_number plain_records old new
