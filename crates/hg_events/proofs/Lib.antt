@@ -8,3 +8,5 @@ mod SameListed
 mod CoreHeaps
 mod SentParted
 mod Taking
+pub mod SweptHeaps
+pub mod Collects

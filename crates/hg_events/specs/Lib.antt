@@ -2,3 +2,4 @@ pub mod Core
 pub mod Delivered
 pub mod LetGo
 pub mod Take
+pub mod Collects

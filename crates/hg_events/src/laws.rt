@@ -41,4 +41,10 @@ pub fn taking_is_take()
 /// Where the worker doesn't hold it, a Take is refused.
 pub fn no_take_is_take()
     ensures { NoTakeIsTake }
+ghost use Rattle.hg_events.specs.Collects.{CollectIsStep};
+
+/// Where a worker's heap is collected, the machine steps by a Collect, answered by the number of
+/// pages that lost their class, and tidy parts stay tidy.
+pub fn collect_is_step()
+    ensures { CollectIsStep }
 {}
