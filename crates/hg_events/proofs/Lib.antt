@@ -1,6 +1,10 @@
 mod Told
 mod Delivered
 mod LetGo
+mod PlainLists
+mod NextPlain
+mod NextUnheld
+mod Refilled
 mod StandsAlone
 mod TakenHome
 mod TakesHome
@@ -8,5 +12,5 @@ mod SameListed
 mod CoreHeaps
 mod SentParted
 mod Taking
-pub mod SweptHeaps
-pub mod Collects
+mod SweptHeaps
+mod Collects
