@@ -1,16 +1,16 @@
 pub mod Flat
-mod Founds
-mod Times
-mod Records
-mod Sent
-mod Accounted
-mod Sound
-mod Swaps
-mod SpotChanges
-mod Sorted
-mod SpotPuts
-mod Remotes
-mod Moved
-mod Swept
-mod Starts
-mod Links
+pub mod Founds
+pub mod Times
+pub mod Records
+pub mod Sent
+pub mod Accounted
+pub mod Sound
+pub mod Swaps
+pub mod SpotChanges
+pub mod Sorted
+pub mod SpotPuts
+pub mod Remotes
+pub mod Moved
+pub mod Swept
+pub mod Starts
+pub mod Links

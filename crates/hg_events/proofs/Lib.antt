@@ -1,0 +1,16 @@
+mod Told
+mod Delivered
+mod LetGo
+mod PlainLists
+mod NextPlain
+mod NextUnheld
+mod Refilled
+mod StandsAlone
+mod TakenHome
+mod TakesHome
+mod SameListed
+mod CoreHeaps
+mod SentParted
+mod Taking
+mod SweptHeaps
+mod Collects
