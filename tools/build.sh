@@ -1,15 +1,17 @@
-# For bin/heapguard, which sets `root`: whether the program is built from the sources and the kit as
-# they stand, and proving and building it, crate by crate.
+# For bin/heapguard and bin/build-lib, which set `root`, `called` (the script), `crate` (what it
+# builds) and `program` (the file that comes of it), and have `place`, which puts that file in its
+# place: whether it is built from the sources and the kit as they stand, and proving and building it,
+# crate by crate.
 # shellcheck shell=sh disable=SC2154
-folder=$root/crates/heapguard
-program=$folder/out/heapguard
-record=$folder/out/made_from # what the program was made from; its time is that before the build
-log=$folder/out/build.log
-job='' clock='' scratch='' kept=''
+folder=$root/crates/$crate
+made=$(dirname -- "$program")
+record=$made/made_from # what the program was made from; its time is that before the build
+log=$made/build.log
+job='' clock='' scratch='' kept='' takes='10 to 15 minutes'
 
-say() { printf 'bin/heapguard: %s\n' "$*" >&2; }
+say() { printf '%s: %s\n' "$called" "$*" >&2; }
 
-# STATUS WORDS: ends with that status, and says why heapguard was not started.
+# STATUS WORDS: ends with that status, and says why nothing was started.
 stop() {
     ending=$1
     shift
@@ -21,9 +23,9 @@ need_rt() {
     command -v rt >/dev/null 2>&1 || stop 127 "the command rt of the Rattle kit is not on the PATH"
 }
 
-# The lines of crates.txt for heapguard and for all that it stands on, lowest first.
+# The lines of crates.txt for the crate and for all that it stands on, lowest first.
 lines() {
-    awk '
+    awk -v top="$crate" '
         { sub(/#.*/, "") }
         /:/ { name = $1; sub(/:.*/, "", name); line[name] = $0; sub(/.*:/, ""); needs[name] = $0 }
         function visit(name, n, at, parts) {
@@ -32,10 +34,13 @@ lines() {
             for (at = 1; at <= n; at++) visit(parts[at])
             print line[name]
         }
-        END { visit("heapguard") }' "$root/crates.txt"
+        END { visit(top) }' "$root/crates.txt"
 }
 
 crates() { lines | sed 's/[ :].*//'; }
+
+# The crates that a build proves.
+steps() { crates; }
 
 # What the program is made from besides its sources: the kit, and these lines. With no rt that runs,
 # the kit that was recorded.
@@ -56,7 +61,7 @@ newer() (
 
 # The gate leaves a program without a record: then its own time counts, and its kit isn't known.
 is_fresh() {
-    [ -x "$program" ] || return 1
+    [ -f "$program" ] || return 1
     if [ -f "$record" ]; then
         [ "$(made_from)" = "$(cat "$record")" ] && [ -z "$(newer "$record")" ]
     else
@@ -138,25 +143,26 @@ prove() {
 build() {
     need_rt
     scratch=$record.$$
-    { mkdir -p "$folder/out" && true >"$log" && true >"$scratch"; } 2>/dev/null \
-        || stop 126 "not built for the sources as they stand, and cannot write in $folder/out"
+    { mkdir -p "$made" && true >"$log" && true >"$scratch"; } 2>/dev/null \
+        || stop 126 "not built for the sources as they stand, and cannot write in $made"
     made_from >"$scratch"
     if has_kept_work; then
         say "building again: only what is new or has changed is proved; progress is in $log"
     else
-        say "proving and building first, which takes 10 to 15 minutes; progress is in $log"
+        say "proving and building first, which takes $takes; progress is in $log"
     fi
     kept="what is proved so far is kept, and the next call goes on from there"
     guard
     at=0
-    of=$(crates | wc -l)
-    for it in $(crates); do
+    of=$(steps | wc -l)
+    for it in $(steps); do
         at=$((at + 1))
         if ! watch "crate $at of $((of)), $it" prove "$it"; then
             tail -n 3 "$log" >&2
             stop 125 "not built, since $it failed; all of it is in $log"
         fi
     done
+    place || stop 126 "cannot write in $made"
     mv "$scratch" "$record"
     trap - INT TERM EXIT
 }

@@ -3,6 +3,7 @@ use std::time::{Duration, Instant};
 
 const ROUNDS: u32 = 2_000;
 const BLOCK: u16 = 3;
+const PLACES: u16 = 170;
 const PAGE_PLACES: usize = 512;
 const END: u16 = 0;
 
@@ -90,7 +91,7 @@ fn take_all(page: &mut Page, words: &Vec<u64>) -> u64 {
 
 fn put_all(page: &mut Page, words: &mut Vec<u64>) -> u64 {
     let mut put = 0u64;
-    for index in 0..512u16 {
+    for index in 0..PLACES {
         if page.is_used(index) {
             page.push_local(words, index);
             put += 1;

@@ -1,3 +1,4 @@
+mod handles;
 mod lists;
 mod page;
 mod plain_words;

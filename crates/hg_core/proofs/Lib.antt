@@ -1,16 +1,16 @@
-pub mod Ranges
-pub mod Sums
-pub mod Records
-pub mod Stores
-pub mod Ranged
-pub mod Changes
-pub mod Openings
-pub mod Given
-pub mod Found
-pub mod Next
-pub mod Live
-pub mod Runs
-pub mod Kept
-pub mod Orphans
-pub mod Sweeping
-pub mod Idle
+mod HoldersKept
+mod After
+mod Collected
+mod Delivered
+mod TakenIn
+mod Abandoned
+mod Refilled
+mod Opened
+mod Opens
+mod OpenLists
+mod OwnCalls
+mod Away
+mod Words
+mod FreedAway
+mod Kept
+mod Runs

@@ -1,13 +1,15 @@
--- What a core is seen as, and what holds of it.
-use Rattle.std.specs.Prelude.{[]}
-use Rattle.hg_machine.specs.Soundness.{IsSound}
-use Rattle.hg_machine.specs.Lists.{Kept}
-use Rattle.hg_machine.specs.PlainLists.{plain_lists}
-use Rattle.hg_core.specs.declared.serving.Core.TheInside.{Inside}
+-- What holds of the stores of a core, and what a core is seen as.
+use Rattle.hg_machine.specs.SoundPolicy.{IsSoundPolicy}
+use Rattle.hg_machine.specs.State.{State}
+use Rattle.hg_agreement.specs.Parts.{state_of}
+use Rattle.hg_parts.specs.Tidy.{IsTidy}
+use Rattle.hg_events.specs.Core.{Core, parts_of}
 
--- the state of its store, which keeps no lists and no queues: its lists are filters of its records
-abbrev pub kept_of : Inside → Kept
-kept_of c = record { state = c.store; lists = plain_lists c.store; queues = [] }
+-- the state of the machine for which they stand
+abbrev pub state_in : Core → State
+state_in core = state_of (parts_of core)
 
-abbrev pub IsKept : Inside → Type 0
-IsKept c = IsSound c.store
+-- the policy is sound, and the parts for which they stand are tidy
+pub record IsKept (core : Core) : Type 0 where
+  pub policy : IsSoundPolicy core.policy
+  pub tidy : IsTidy (parts_of core)

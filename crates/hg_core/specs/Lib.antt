@@ -1,6 +1,5 @@
-pub mod Slots
-pub mod Segments
-pub mod Stored
-pub mod Fresh
-pub mod Rooms
+pub mod Answers
 pub mod Keeping
+pub mod Stored
+pub mod Opened
+pub mod Opening

@@ -1,22 +1,30 @@
 //! Abandon: a worker gives up a segment.
 
-ghost use Rattle.hg_machine.specs.Soundness.{IsSound};
+ghost use Rattle.std.specs.Prelude.{◌<◌};
+ghost use Rattle.hg_machine.specs.declared.Event.TheVariants as Event;
 ghost use Rattle.hg_machine.specs.Steps.{Step};
+ghost use Rattle.hg_chosen.specs.Chosen.{IsChosenBy};
+ghost use Rattle.hg_core.specs.Answers.{abandon_answer};
+ghost use Rattle.hg_core.specs.Keeping.{state_in, IsKept};
 
-use crate::store::Store;
-use hg_machine::{Answer, Event};
+use crate::refusals::NotHeld;
+use crate::stores::Stores;
 
-impl Store {
-    /// The worker gives up a segment that it holds. There is room among the orphans for all
-    /// segments, so this takes no memory.
-    pub fn abandon(&mut self, worker: u8, segment: u8) -> Answer
-        requires { IsSound self.old }
-        ensures { Step self.old worker (Event.Abandon segment) result self.new }
+impl Stores {
+    /// The worker gives up a segment that it holds, with its blocks. It is the last orphan now.
+    pub(crate) fn abandon(&mut self, worker: u8, segment: u8) -> Result<(), NotHeld>
+        requires { worker < self.old.policy.workers }
+        ensures step { Step (state_in self.old) worker (Event.Abandon segment)
+            (abandon_answer result) (state_in self.new) }
+        ensures chosen { IsChosenBy self.old worker (Event.Abandon segment)
+            (abandon_answer result) self.new }
+        ensures kept { IsKept self.new }
     {
-        if !self.holds(worker, segment) {
-            return Answer::NotHeld;
-        }
-        self.give_up(segment);
-        Answer::Done
+        let Some(one) = self.heaps[usize::from(worker)].release(segment) else {
+            return Err(NotHeld);
+        };
+        self.pool.put_orphan(one);
+        self.holders[usize::from(segment)] = None;
+        Ok(())
     }
 }

@@ -4,21 +4,21 @@
 
 mod abandoning;
 mod allocating;
-mod charging;
+mod answers;
+mod calling;
 mod collecting;
 mod delivering;
 mod freeing;
-mod holder;
-mod judging;
 mod looking;
-mod numbers;
+mod opening;
 mod reaching;
+mod reading;
 mod refilling;
-mod room;
+mod refusals;
 mod serving;
-mod slot;
-mod store;
+mod stores;
 mod taking;
-mod words;
 
+pub use hg_heap::Refused;
+pub use refusals::{Freed, NoSegment, NotFreed, NotHeld, NothingInHand};
 pub use serving::Core;

@@ -1,57 +1,39 @@
 //! Look: a row of a block.
 
-ghost use Rattle.std.specs.Prelude.{◌≡◌};
-ghost use Rattle.hg_place.specs.Places.{number_of};
-ghost use Rattle.hg_machine.specs.State.{record_at};
-ghost use Rattle.hg_machine.specs.Served.{IsRow};
+ghost use Rattle.std.specs.Prelude.{◌<◌};
+ghost use Rattle.hg_machine.specs.declared.Event.TheVariants as Event;
 ghost use Rattle.hg_machine.specs.Steps.{Step};
-ghost use Rattle.hg_core.specs.Rooms.{IsLiveAt};
+ghost use Rattle.hg_chosen.specs.Chosen.{IsChosenBy};
+ghost use Rattle.hg_core.specs.Answers.{look_answer};
+ghost use Rattle.hg_core.specs.Keeping.{state_in, IsKept};
 
-use crate::store::Store;
-use hg_machine::{Answer, Event, Row};
-use hg_place::{Actor, Handle, Place, Right, WORD_BYTES};
+use crate::reaching::unlisted;
+use crate::stores::Stores;
+use hg_heap::Refused;
+use hg_machine::Row;
+use hg_place::{Actor, Place};
 
-impl Store {
-    /// The generation of a place, 0 where there is no such segment.
-    fn generation_of(&self, place: Place) -> u32
-        ensures { result ≡ (record_at self.now (number_of place)).generation }
+impl Stores {
+    /// Shows the actor the block at a place of a segment that the worker holds.
+    pub(crate) fn look(&mut self, worker: u8, actor: Actor, place: Place) -> Result<Row, Refused>
+        requires { worker < self.old.policy.workers }
+        ensures step { Step (state_in self.old) worker (Event.Look actor place)
+            (look_answer result) (state_in self.new) }
+        ensures chosen { IsChosenBy self.old worker (Event.Look actor place)
+            (look_answer result) self.new }
+        ensures kept { IsKept self.new }
     {
-        let number = place.number();
-        if number < self.count_places() {
-            self.slot_at(number).generation
-        } else {
-            0
-        }
-    }
-
-    /// The row of a live block.
-    fn row_at(&self, place: Place) -> Row
-        requires { IsLiveAt self.now (number_of place) }
-        ensures { IsRow self.now place result }
-    {
-        let slot = self.slot_at(place.number());
-        Row {
-            handle: Handle {
-                place,
-                generation: slot.generation,
-            },
-            owner: slot.owner,
-            bytes: WORD_BYTES as u32 * u32::from(slot.size),
-        }
-    }
-
-    /// Shows the actor the block that stands at a place, where the worker holds its segment.
-    pub fn look(&self, worker: u8, actor: Actor, place: Place) -> Answer
-        ensures { Step self.now worker (Event.Look actor place) result self.now }
-    {
-        let generation = self.generation_of(place).max(1);
-        let handle = Handle { place, generation };
-        if let Some(rule) = self.denial(actor, Right::List, handle) {
-            return Answer::Denied(rule);
-        }
         if !self.holds(worker, place.segment) {
-            return Answer::Elsewhere;
+            let word = self.word(place);
+            return Err(unlisted(&self.policy, actor, place, word));
         }
-        Answer::Listed(self.row_at(place))
+        let mut shown = 0;
+        let heap = &mut self.heaps[usize::from(worker)];
+        let row = heap.look(&self.policy, actor, place, &mut shown);
+        heap.settled();
+        let Some(row) = row else {
+            return Err(unlisted(&self.policy, actor, place, shown));
+        };
+        Ok(row)
     }
 }

@@ -1,67 +1,71 @@
-//! Read and Write: a word of a block.
+//! Blocks of segments that the worker doesn't hold: their slot words, and why they are out of
+//! reach.
 
-ghost use Rattle.std.specs.Prelude.{◌≡◌, IfNone};
-ghost use Rattle.hg_place.specs.Places.{number_of};
-ghost use Rattle.hg_machine.specs.Refusal.{reach_refusal};
-ghost use Rattle.hg_machine.specs.Steps.{Step};
-ghost use Rattle.hg_core.specs.Rooms.{IsWordAt};
+ghost use Rattle.std.specs.Prelude.{◌≡◌, max, Option};
+ghost use Rattle.hg_place.specs.Slots.{slot_in};
+ghost use Rattle.hg_heap.specs.Answers.{refused_answer, list_denial};
+ghost use Rattle.hg_heap.specs.Reading.{use_denial};
+ghost use Rattle.hg_machine.specs.declared.Rule.{Rule};
+ghost use Rattle.hg_machine.specs.Denial.{verdict_of};
+ghost use Rattle.hg_events.specs.Elsewhere.{word_at, away_answer};
 
-use crate::store::Store;
-use hg_machine::{Answer, Event};
-use hg_place::{Actor, Handle, Right};
+use crate::stores::Stores;
+use hg_decision::{Verdict, judge};
+use hg_heap::Refused;
+use hg_place::{Actor, Handle, Place, Right, unpack};
+use hg_policy::Policy;
 
-impl Store {
-    /// Why a word of a block is out of the actor's reach at the worker.
-    fn reach_refusal(
-        &self,
-        worker: u8,
-        actor: Actor,
-        right: Right,
-        handle: Handle,
-        index: u32,
-    ) -> Option<Answer>
-        ensures value { result ≡ reach_refusal self.now worker actor.0 right handle index }
-        ensures reached { IfNone result (IsWordAt self.now (number_of handle.place) index) }
+impl Stores {
+    /// The slot word of a place, wherever its segment stands; 0 where the policy has no such
+    /// segment.
+    pub(crate) fn word(&self, place: Place) -> u64
+        ensures { result ≡ word_at self.now place }
     {
-        if let Some(rule) = self.denial(actor, right, handle) {
-            return Some(Answer::Denied(rule));
+        if let Some(holder) = self.holder_of(place.segment) {
+            return self.heaps[usize::from(holder)].word(place);
         }
-        if !self.holds(worker, handle.place.segment) {
-            return Some(Answer::Elsewhere);
+        if self.pool.has(place.segment) {
+            return self.pool.word(place);
         }
-        if index >= u32::from(self.block_len(handle.place.number())) {
-            return Some(Answer::OutOfBlock);
-        }
-        None
+        0
     }
 
-    /// Reads a word.
-    pub fn read(&self, worker: u8, actor: Actor, handle: Handle, index: u32) -> Answer
-        ensures { Step self.now worker (Event.Read actor handle index) result self.now }
+    /// Why a block is out of a worker's reach that doesn't hold its segment.
+    pub(crate) fn out_of_reach(&self, actor: Actor, right: Right, handle: Handle) -> Refused
+        ensures { refused_answer result ≡ away_answer
+            (use_denial self.now.policy actor.0 right handle (word_at self.now handle.place)) }
     {
-        match self.reach_refusal(worker, actor, Right::Read, handle, index) {
-            Some(refused) => refused,
-            None => Answer::Value(self.word_at(handle.place.number(), index)),
-        }
+        let word = self.word(handle.place);
+        refused_by(judge(&self.policy, actor, right, handle, word))
     }
+}
 
-    /// Writes a word.
-    pub fn write(
-        &mut self,
-        worker: u8,
-        actor: Actor,
-        handle: Handle,
-        index: u32,
-        value: u64,
-    ) -> Answer
-        ensures { Step self.old worker (Event.Write actor handle index value) result self.new }
-    {
-        match self.reach_refusal(worker, actor, Right::Write, handle, index) {
-            Some(refused) => refused,
-            None => {
-                self.set_word(handle.place.number(), index, value);
-                Answer::Done
-            }
-        }
+/// Why a place's block isn't listed, by its slot word.
+pub(crate) fn unlisted(policy: &Policy, actor: Actor, place: Place, word: u64) -> Refused
+    ensures { refused_answer result ≡ away_answer (list_denial policy.now actor place word) }
+{
+    let generation = listed_generation(word);
+    let handle = Handle { place, generation };
+    refused_by(judge(policy, actor, Right::List, handle, word))
+}
+
+/// The generation that a word shows, 1 where the place was never given out.
+fn listed_generation(word: u64) -> u32
+    ensures { result ≡ max 1 (slot_in word).generation }
+{
+    match unpack(word) {
+        Some(slot) => slot.generation.max(1),
+        None => 1,
+    }
+}
+
+/// By the rule that denies it, or else because the block is elsewhere.
+fn refused_by(verdict: Verdict) -> Refused
+    ensures { (denial : Option Rule) → verdict ≡ verdict_of denial
+        → refused_answer result ≡ away_answer denial }
+{
+    match verdict {
+        Verdict::Denied(rule) => Refused::Denied(rule),
+        Verdict::Allowed => Refused::Elsewhere,
     }
 }

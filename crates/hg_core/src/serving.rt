@@ -1,68 +1,41 @@
 //! The core, and which event is served how.
 
 ghost use Rattle.std.specs.Prelude.{◌≡◌, ◌≤◌, ◌<◌, [], IfOk, OnErr, All, length, vec_capacity};
-ghost use Rattle.hg_machine.specs.SoundPolicy.{IsSoundPolicy};
 ghost use Rattle.hg_machine.specs.Holders.{holds};
 ghost use Rattle.hg_machine.specs.State.{opening};
 ghost use Rattle.hg_machine.specs.Steps.{Step, Run};
 ghost use Rattle.hg_machine.specs.Soundness.{IsSound};
 ghost use Rattle.hg_machine.specs.Lists.{IsPartition};
+ghost use Rattle.hg_choice.specs.ChosenSteps.{ChosenStep, Chosen};
+ghost use Rattle.hg_core.specs.Opening.{opened};
 
-use crate::store::Store;
+use crate::answers::{
+    abandon_answer, alloc_answer, deliver_answer, free_answer, look_answer, read_answer,
+    refill_answer, take_answer, write_answer,
+};
+use crate::stores::Stores;
 use hg_machine::{Answer, Event};
 use hg_policy::Policy;
 use std::alloc::{AllocError, Global};
 use std::marker::Model;
 
-/// The memory service, seen as a state of the machine with its lists.
+/// The memory service, seen as a state of the machine with its lists and queues.
 #[derive(Drop)]
 pub struct Core {
-    store: Store,
+    pub(crate) stores: Stores,
 }
 
 impl Model for Core {
     ghost use Rattle.hg_machine.specs.Lists.{Kept};
+    ghost use Rattle.hg_agreement.specs.Parts.{kept_of};
+    ghost use Rattle.hg_events.specs.Core.{parts_of};
+    ghost use Rattle.hg_core.specs.Keeping.{IsKept};
 
     ghost Value = { Kept };
 
-    ghost use Rattle.hg_core.specs.Keeping.{kept_of, IsKept};
+    ghost view = { λ c. kept_of (parts_of c.stores) };
 
-    ghost view = { kept_of };
-
-    ghost invariant = { IsKept };
-}
-
-/// Serves one event of a worker on the store.
-fn serve(store: &mut Store, worker: u8, event: Event) -> Answer
-    requires worker { worker < store.old.policy.workers }
-    requires sound { IsSound store.old }
-    ensures { Step store.old worker event result store.new }
-{
-    match event {
-        Event::Alloc {
-            actor,
-            arena,
-            bytes,
-        } => store.alloc(worker, actor, arena, bytes),
-        Event::Free { actor, handle } => store.free(worker, actor, handle),
-        Event::Deliver => store.deliver(worker),
-        Event::Take { segment } => store.take(worker, segment),
-        Event::Collect => store.collect(worker),
-        Event::Read {
-            actor,
-            handle,
-            index,
-        } => store.read(worker, actor, handle, index),
-        Event::Write {
-            actor,
-            handle,
-            index,
-            value,
-        } => store.write(worker, actor, handle, index, value),
-        Event::Look { actor, place } => store.look(worker, actor, place),
-        Event::Abandon { segment } => store.abandon(worker, segment),
-        Event::Refill { arena } => store.refill(worker, arena),
-    }
+    ghost invariant = { λ c. IsKept c.stores };
 }
 
 /// Room for so many answers, and for no more.
@@ -74,13 +47,15 @@ fn room_for_answers(alloc: Global, count: usize) -> Result<Vec<Answer>, AllocErr
 }
 
 impl Core {
-    /// A service in which no place was ever given out and nobody holds a segment.
+    /// A service in which no place was ever given out, nobody holds a segment, and nothing stands
+    /// on a list or in a queue.
     pub fn open(alloc: Global, policy: Policy) -> Result<Core, AllocError>
         ensures opening { IfOk result (λ core. core.state ≡ opening policy) }
+        ensures opened { IfOk result (λ core. core ≡ opened policy) }
         ensures kept { IfOk result (λ core. IsSound core.state × IsPartition core) }
     {
-        let store = Store::open(alloc, policy)?;
-        Ok(Core { store })
+        let stores = Stores::open(alloc, policy)?;
+        Ok(Core { stores })
     }
 
     /// The policy that it serves by.
@@ -88,23 +63,48 @@ impl Core {
         ensures value { result.now ≡ self.now.state.policy }
         ensures kept { IsSound self.now.state × IsPartition self.now }
     {
-        self.store.policy()
+        self.stores.policy()
     }
 
     /// Whether the worker holds the segment. Nobody holds one that the policy lacks.
     pub fn holds(&self, worker: u8, segment: u8) -> bool
         ensures { result ≡ holds self.now.state worker segment }
     {
-        self.store.holds(worker, segment)
+        self.stores.holds(worker, segment)
     }
 
     /// Serves one event of a worker.
     pub fn step(&mut self, worker: u8, event: Event) -> Answer
         requires worker { worker < self.old.state.policy.workers }
         ensures step { Step self.old.state worker event result self.new.state }
+        ensures chosen { ChosenStep self.old worker event result self.new }
         ensures kept { IsSound self.new.state × IsPartition self.new }
     {
-        serve(&mut self.store, worker, event)
+        match event {
+            Event::Alloc {
+                actor,
+                arena,
+                bytes,
+            } => alloc_answer(self.alloc(worker, actor, arena, bytes)),
+            Event::Free { actor, handle } => free_answer(self.free(worker, actor, handle)),
+            Event::Deliver => deliver_answer(self.deliver(worker)),
+            Event::Take { segment } => take_answer(self.take(worker, segment)),
+            Event::Collect => Answer::Pages(self.collect(worker)),
+            Event::Read {
+                actor,
+                handle,
+                index,
+            } => read_answer(self.read(worker, actor, handle, index)),
+            Event::Write {
+                actor,
+                handle,
+                index,
+                value,
+            } => write_answer(self.write(worker, actor, handle, index, value)),
+            Event::Look { actor, place } => look_answer(self.look(worker, actor, place)),
+            Event::Abandon { segment } => abandon_answer(self.abandon(worker, segment)),
+            Event::Refill { arena } => refill_answer(self.refill(worker, arena)),
+        }
     }
 
     /// Serves events of any workers in turn, and puts their answers into the room for them.
@@ -113,10 +113,11 @@ impl Core {
         requires empty { answers.old.items ≡ [] }
         requires room { length events.now ≤ vec_capacity answers.old }
         ensures run { Run self.old.state events.now answers.new.items self.new.state }
+        ensures chosen { Chosen self.old events.now answers.new.items self.new }
         ensures kept { IsSound self.new.state × IsPartition self.new }
         ensures room { vec_capacity answers.new ≡ vec_capacity answers.old }
     {
-        let _store = &self.store; // so that what holds of it is known before the first event
+        let _stores = &self.stores; // so that what holds of them is known before the first event
         for event in events {
             let answer = self.step(event.0, event.1);
             answers.push_reserved(answer);
@@ -129,10 +130,12 @@ impl Core {
         requires workers { All (λ event. event.0 < self.old.state.policy.workers) events.now }
         ensures run { IfOk result
             (λ answers. Run self.old.state events.now answers.items self.new.state) }
+        ensures chosen { IfOk result
+            (λ answers. Chosen self.old events.now answers.items self.new) }
         ensures kept { IsSound self.new.state × IsPartition self.new }
         ensures err { OnErr result (self.new ≡ self.old) }
     {
-        let _store = &self.store; // so that what holds of it is known where there is no memory
+        let _stores = &self.stores; // so that what holds of them is known where there is no memory
         let mut answers = room_for_answers(alloc, events.len())?;
         self.serve_all(events, &mut answers);
         Ok(answers)

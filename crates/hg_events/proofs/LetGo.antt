@@ -105,7 +105,7 @@ module _ (core : Core) (worker segment : ℕ) (one : Kept PlainWords) (t : IsTid
       (subst (λ xs. HasNoRepeats (numbers_in plain_number xs)) (sym left_is)
       (once_rest plain_number heap segment found one here once))
 
-  go : worker < length core.heaps → IsLetGo parts worker (map plain_from left) (plain_from one)
+  pub go : worker < length core.heaps → IsLetGo parts worker (map plain_from left) (plain_from one)
   go below = record {
     worker_below = omega (
       arith,
@@ -129,7 +129,7 @@ module _ (core : Core) (worker segment : ℕ) (one : Kept PlainWords) (t : IsTid
   abbrev gone_from : Parts
   gone_from = with_orphan parts worker (map plain_from left) (plain_from one)
 
-  new_is : new ≡ record gone_from { queues = new.queues }
+  pub new_is : new ≡ record gone_from { queues = new.queues }
   new_is =
       ap (λ hs. record new { heaps = hs })
       (map-set (λ held. map plain_from held.segments) core.heaps worker

@@ -1,16 +1,26 @@
-mod Told
-mod Delivered
-mod LetGo
+pub mod Told
+pub mod Delivered
+pub mod LetGo
 mod PlainLists
 mod NextPlain
-mod NextUnheld
-mod Refilled
+pub mod NextUnheld
+pub mod Refilled
 mod StandsAlone
 mod TakenHome
 mod TakesHome
 mod SameListed
-mod CoreHeaps
+pub mod CoreHeaps
 mod SentParted
-mod Taking
+pub mod Taking
 mod SweptHeaps
-mod Collects
+pub mod Collects
+pub mod OwnCall
+pub mod OwnSteps
+pub mod OwnLives
+pub mod WordAt
+pub mod PoolSpots
+pub mod Elsewhere
+mod PartedPlain
+mod PartedAway
+pub mod PartedInHeap
+pub mod PartedInPool

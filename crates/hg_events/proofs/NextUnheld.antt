@@ -17,10 +17,10 @@ use Rattle.hg_heap.specs.Held.{Held}
 use Rattle.hg_heap.specs.Held.{is_of as is_held_as}
 use Rattle.hg_agreement.specs.Parts.{Plain, Parts, is_of, heap_at, plain_from}
 use Rattle.hg_agreement.specs.Pool.{is_for}
-use Rattle.hg_agreement.proofs.Firsts.{some_counted}
+use Rattle.hg_agreement.proofs.Firsts.{some_counted, pool_inside}
 use Rattle.hg_parts.specs.Tidy.{IsTidy}
 use Rattle.hg_parts.proofs.Flat.{any_is}
-use Rattle.hg_parts.proofs.Sorted.{counted_apart, some_in}
+use Rattle.hg_parts.proofs.Sorted.{counted_apart, some_in, tidy_pooled}
 use Rattle.hg_parts.proofs.Times.{bit_small}
 use Rattle.hg_events.specs.Core.{Core, parts_of, heap_of, nothing_held}
 use Rattle.hg_events.specs.Refill.{NextMayBeAdopted}
@@ -74,6 +74,11 @@ module _ (core : Core) (worker arena : ℕ) (one : K) (t : IsTidy (parts_of core
   -- and in no heap
   pub next_unheld : find (is_of one.slots.segment) (heap_at (parts_of core) worker) ≡ None
   next_unheld = unheld (parts_of core) t one.slots.segment worker counted
+
+  -- and is one of the policy's
+  pub next_inside : one.slots.segment < length core.policy.segments
+  next_inside =
+      pool_inside (parts_of core) one.slots.segment (tidy_pooled (parts_of core) t) counted
 
   -- its arena is the policy's
   next_own : IsOwn core.policy one

@@ -87,7 +87,8 @@ module _ (core : Core) (worker arena : ℕ) (one : K) (held : Held PlainWords)
       ∙ map-append plain_from (heap_of core worker).segments (one ∷ [])
       ∙ ap (λ xs. xs ++ plain_from one ∷ []) (sym (heap_plain core worker below))
 
-  refilled : IsRefilled (parts_of core) worker arena (map plain_from held.segments) (plain_from one)
+  pub refilled : IsRefilled (parts_of core) worker arena (map plain_from held.segments)
+      (plain_from one)
   refilled =
       let come = pushed_has_come (heap_at (parts_of core) worker) (plain_from one)
       (next_unheld core worker arena one t is.next) in
@@ -102,7 +103,7 @@ module _ (core : Core) (worker arena : ℕ) (one : K) (held : Held PlainWords)
         others = λ segment ne. ap (find (is_of segment)) pushed ∙ come.1 segment ne;
       }
 
-  after_is : parts_of (with_refill core worker held pool)
+  pub after_is : parts_of (with_refill core worker held pool)
       ≡ with_queues (with_adopted (parts_of core) worker (map plain_from held.segments)
       one.slots.segment) (queues_of (slice_set core.heaps worker held))
   after_is = parts_after core worker one.slots.segment held pool is.left

@@ -50,7 +50,7 @@ freed_not true e = absurd (cc)
 freed_not false e = refl
 
 -- a live slot word is read so
-live_read : (word : ℕ) → IsSlotWord word → word_life word ≡ 1 → (slot_in word).live ≡ true
+pub live_read : (word : ℕ) → IsSlotWord word → word_life word ≡ 1 → (slot_in word).live ≡ true
 live_read word is lives =
     ap (λ s. s.live) (ap (read_as word) (from_parts word (record {
       low = (let bits = is.1 in omega arith);

@@ -4,3 +4,7 @@ pub mod LetGo
 pub mod Refill
 pub mod Take
 pub mod Collects
+pub mod Own
+pub mod OwnLives
+pub mod Elsewhere
+pub mod PartedAway

@@ -33,7 +33,7 @@ IsAway keys lists entry = (key : ℕ) → key < keys → Lacks entry (slice_inde
 
 -- the links of lists that are seen as a value
 abbrev pub IsKept : Inside → Lists → Type 0
-IsKept a m = Links (length m.by_key) m.entries (boxed_slice_items a.heads) (boxed_slice_items a.next) (boxed_slice_items a.prev) (boxed_slice_items a.owner) m.by_key
+IsKept a m = Links (length m.by_key) m.entries (boxed_slice_items a.heads) a.next a.prev a.owner m.by_key
 
 pub kept : (a : Inside) (m : Lists) → AreLinked a → lists_of a ≡ m → IsKept a m
-kept a m h e = subst (IsKept a) e (subst (λ (n : ℕ). Links n (length (boxed_slice_items a.owner)) (boxed_slice_items a.heads) (boxed_slice_items a.next) (boxed_slice_items a.prev) (boxed_slice_items a.owner) (lists_of a).by_key) (sym h.all) h)
+kept a m h e = subst (IsKept a) e (subst (λ (n : ℕ). Links n (length a.owner) (boxed_slice_items a.heads) a.next a.prev a.owner (lists_of a).by_key) (sym h.all) h)

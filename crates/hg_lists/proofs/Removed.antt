@@ -1,6 +1,6 @@
 -- What `remove` leaves.
 use Rattle.std.proofs.Common.{◌≡◌, ◌≢◌, ℕ, zero, suc, ◌<◌, ◌≤◌, ◌-◌, true, false, nat_eq, List, [], length, map, slice_index, slice_index_or, slice_set, refl, sym, ap, ◌∙◌, arith, subst, inl, inr, ⊎_elim, get_or-set_other, get_or-set_same}
-use Rattle.std.proofs.lemmas.List.{length-set, length-map, get_or-map, get_or_read, get_or_past, ext_get_or}
+use Rattle.std.proofs.lemmas.List.{length-set, length-map, get_or-map, get_or_past, ext_get_or}
 use Rattle.std.proofs.lemmas.Bool.{cases_eq, cases_lt}
 use Rattle.std.specs.Prelude.{Contains}
 use Rattle.hg_lists.specs.Chains.{IsDouble}
@@ -121,22 +121,19 @@ link_small : (entries link : ℕ) → ((z : ℕ) → link ≡ suc z → z < entr
 link_small entries zero f = omega arith
 link_small entries (suc z) f = omega (arith, f z refl)
 
-pub reads : (keys entries : ℕ) (heads next prev owner : List ℕ) (lists : List (List ℕ)) (entry own before after : ℕ) → Links keys entries heads next prev owner lists → entry < entries → own ≢ 0 → own ≡ slice_index_or owner entry own → before ≡ slice_index_or prev entry before → after ≡ slice_index_or next entry after → Reads keys entries next prev owner entry own before after
+pub reads : (keys entries : ℕ) (heads next prev owner : List ℕ) (lists : List (List ℕ)) (entry own before after : ℕ) → Links keys entries heads next prev owner lists → entry < entries → own ≢ 0 → own ≡ slice_index owner entry → before ≡ slice_index prev entry → after ≡ slice_index next entry → Reads keys entries next prev owner entry own before after
 reads keys entries heads next prev owner lists entry own before after h lt ne o b a =
-    let O : own ≡ slice_index owner entry = get_or_read owner entry own (omega (arith, h.all_owners)) o 0 in
-    let B : before ≡ slice_index prev entry = get_or_read prev entry before (omega (arith, h.all_prev)) b 0 in
-    let A : after ≡ slice_index next entry = get_or_read next entry after (omega (arith, h.all_next)) a 0 in
     let key : slice_index owner entry ≡ suc (own - 1) = omega arith in
     let place = h.found entry (own - 1) lt key in record {
-      own_is = O;
-      before_is = B;
-      after_is = A;
+      own_is = o;
+      before_is = b;
+      after_is = a;
       key_small = place.0;
-      before_small = link_small entries before (λ z s. (prev_key keys entries heads next prev owner lists (own - 1) entry z h place.0 place.1 (sym B ∙ s)).0);
-      after_small = link_small entries after (λ z s. (next_key keys entries heads next prev owner lists (own - 1) entry z h place.0 place.1 (sym A ∙ s)).0);
+      before_small = link_small entries before (λ z s. (prev_key keys entries heads next prev owner lists (own - 1) entry z h place.0 place.1 (sym b ∙ s)).0);
+      after_small = link_small entries after (λ z s. (next_key keys entries heads next prev owner lists (own - 1) entry z h place.0 place.1 (sym a ∙ s)).0);
     }
 
-pub removed-all : (keys entries : ℕ) (heads next prev owner firsts ons backs : List ℕ) (lists : List (List ℕ)) (entry own before after : ℕ) → Links keys entries heads next prev owner lists → entry < entries → own ≢ 0 → own ≡ slice_index_or owner entry own → before ≡ slice_index_or prev entry before → after ≡ slice_index_or next entry after
+pub removed-all : (keys entries : ℕ) (heads next prev owner firsts ons backs : List ℕ) (lists : List (List ℕ)) (entry own before after : ℕ) → Links keys entries heads next prev owner lists → entry < entries → own ≢ 0 → own ≡ slice_index owner entry → before ≡ slice_index prev entry → after ≡ slice_index next entry
     → firsts ≡ first_at heads (own - 1) before after → ons ≡ write_at next before after → backs ≡ write_at prev after before
     → Links keys entries firsts ons backs (slice_set owner entry 0) (map (without entry) lists)
 removed-all keys entries heads next prev owner firsts ons backs lists entry own before after k lt ne o b a f n p =

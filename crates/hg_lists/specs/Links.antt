@@ -37,18 +37,16 @@ pub record Links (keys entries : ℕ) (heads next prev owner : List ℕ) (lists 
 abbrev pub lists_of : Inside → Lists
 lists_of a =
     let heads : List ℕ = boxed_slice_items a.heads in
-    let next : List ℕ = boxed_slice_items a.next in
-    let entries : ℕ = length (boxed_slice_items a.owner) in
-    record { by_key = map (chain entries (slice_index next)) heads; entries = entries }
+    record {
+      by_key = map (chain (length a.owner) (slice_index a.next)) heads;
+      entries = length a.owner;
+    }
 
 -- the links of some lists, which are those that they show
 abbrev pub AreLinked : Inside → Type 0
 AreLinked a =
     let heads : List ℕ = boxed_slice_items a.heads in
-    let next : List ℕ = boxed_slice_items a.next in
-    let prev : List ℕ = boxed_slice_items a.prev in
-    let owner : List ℕ = boxed_slice_items a.owner in
-    Links (length heads) (length owner) heads next prev owner (lists_of a).by_key
+    Links (length heads) (length a.owner) heads a.next a.prev a.owner (lists_of a).by_key
 
 -- links with what one of them leads to written over
 abbrev pub write_at : List ℕ → ℕ → ℕ → List ℕ

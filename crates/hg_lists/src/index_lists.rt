@@ -2,22 +2,23 @@ ghost use Rattle.std.specs.Prelude.{◌≡◌, ℕ, ◌<◌, ◌↔◌, [], leng
 ghost use Rattle.std.specs.Prelude.{None, Contains, IsTrue, IfOk};
 
 use crate::links;
+use hg_reserved::Reserved;
 use std::alloc::{AllocError, Global};
 use std::boxed::BoxedSlice;
 use std::marker::Model;
 
 /// Lists of entries by key, doubly linked by the entries' numbers. Entries and keys are counted
 /// from 0, and how many there are is settled when the lists are made. A link is 0 at an end,
-/// otherwise the number of an entry plus 1. What is kept can't grow, and no call walks a list.
+/// otherwise the number of an entry plus 1. No call but `new` takes memory, and none walks a list.
 #[derive(Drop)]
 pub struct IndexLists {
     // by key, the first entry
     heads: BoxedSlice<u16>,
     // by entry, the ones behind and before
-    next: BoxedSlice<u16>,
-    prev: BoxedSlice<u16>,
+    next: Reserved<u16>,
+    prev: Reserved<u16>,
     // by entry, the key of its list plus 1, or 0 where it is in none
-    owner: BoxedSlice<u16>,
+    owner: Reserved<u16>,
 }
 
 impl Model for IndexLists {
@@ -44,9 +45,9 @@ impl IndexLists {
         ensures apart { IfOk result AreApart }
     {
         let heads = links::ends(alloc, keys)?;
-        let next = links::ends(alloc, entries)?;
-        let prev = links::ends(alloc, entries)?;
-        let owner = links::ends(alloc, entries)?;
+        let next = Reserved::new(alloc, entries as usize)?;
+        let prev = Reserved::new(alloc, entries as usize)?;
+        let owner = Reserved::new(alloc, entries as usize)?;
         Ok(IndexLists {
             heads,
             next,
@@ -64,10 +65,10 @@ impl IndexLists {
         ensures apart { AreApart self.new }
     {
         let head = self.heads[key as usize];
-        self.next[entry as usize] = head;
-        self.prev[entry as usize] = 0;
+        self.next.set(entry as usize, head);
+        self.prev.set(entry as usize, 0);
         links::write(&mut self.prev, head, entry + 1);
-        self.owner[entry as usize] = key + 1;
+        self.owner.set(entry as usize, key + 1);
         self.heads[key as usize] = entry + 1;
     }
 
@@ -77,16 +78,16 @@ impl IndexLists {
         ensures removed { self.new ≡ without_entry self.old entry }
         ensures apart { AreApart self.new }
     {
-        let owner = self.owner[entry as usize];
+        let owner = self.owner.get(entry as usize);
         if owner == 0 {
             return;
         }
-        let before = self.prev[entry as usize];
-        let after = self.next[entry as usize];
+        let before = self.prev.get(entry as usize);
+        let after = self.next.get(entry as usize);
         links::write_first(&mut self.heads, owner - 1, before, after);
         links::write(&mut self.next, before, after);
         links::write(&mut self.prev, after, before);
-        self.owner[entry as usize] = 0;
+        self.owner.set(entry as usize, 0);
     }
 
     /// The first entry of a key's list.
@@ -106,10 +107,10 @@ impl IndexLists {
         ensures nowhere { IsNowhere self.now entry → result ≡ None }
         ensures apart { AreApart self.now }
     {
-        if self.owner[entry as usize] == 0 {
+        if self.owner.get(entry as usize) == 0 {
             return None;
         }
-        links::entry_of(self.next[entry as usize])
+        links::entry_of(self.next.get(entry as usize))
     }
 
     /// Whether an entry is in a list.
@@ -118,6 +119,6 @@ impl IndexLists {
         ensures there { IsTrue result ↔ IsSomewhere self.now entry }
         ensures apart { AreApart self.now }
     {
-        self.owner[entry as usize] != 0
+        self.owner.get(entry as usize) != 0
     }
 }

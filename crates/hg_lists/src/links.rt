@@ -3,6 +3,7 @@ ghost use Rattle.std.specs.Prelude.{slice_index, vec_capacity, IfOk, None, Some}
 ghost use Rattle.std.specs.Box.{boxed_slice_items};
 ghost use Rattle.hg_lists.specs.Links.{write_at, first_at};
 
+use hg_reserved::Reserved;
 use std::alloc::{AllocError, Global};
 use std::boxed::BoxedSlice;
 
@@ -38,13 +39,12 @@ pub fn entry_of(link: u16) -> Option<u16>
 }
 
 /// Writes where a link leads to, if anywhere.
-pub fn write(links: &mut BoxedSlice<u16>, link: u16, value: u16)
-    requires { link ≤ length (boxed_slice_items links.old) }
-    ensures { boxed_slice_items links.new
-        ≡ write_at (boxed_slice_items links.old) link value }
+pub fn write(links: &mut Reserved<u16>, link: u16, value: u16)
+    requires { link ≤ length links.old }
+    ensures { links.new ≡ write_at links.old link value }
 {
     if link != 0 {
-        links[link as usize - 1] = value;
+        links.set(link as usize - 1, value);
     }
 }
 

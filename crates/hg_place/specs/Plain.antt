@@ -1,11 +1,10 @@
 -- The words and records of a segment that one thread has for itself.
 use Rattle.std.specs.Prelude.{ℕ, List}
-use Rattle.std.specs.Box.{boxed_slice_items}
 use Rattle.hg_place.specs.declared.standing.Standing.{Standing}
 use Rattle.hg_place.specs.declared.plain.PlainWords.{PlainWords}
 
 abbrev pub plain_words : PlainWords → List ℕ
-plain_words s = boxed_slice_items s.words
+plain_words s = s.words
 
 abbrev pub plain_records : PlainWords → List Standing
-plain_records s = boxed_slice_items s.records
+plain_records s = s.records

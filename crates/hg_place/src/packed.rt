@@ -1,4 +1,5 @@
 use crate::Standing;
+use hg_reserved::Blank;
 use std::marker::Model;
 use std::mem::size_of;
 
@@ -57,5 +58,16 @@ impl PackedStanding {
         } else {
             Standing::Home(self.generation)
         }
+    }
+}
+
+// A place of which nothing was written was never given out.
+impl Blank for PackedStanding {
+    ghost use Rattle.hg_place.specs.declared.standing.Standing.TheVariants.{Home};
+
+    ghost blank = { Home 0 };
+
+    fn blank() -> PackedStanding {
+        PackedStanding::of(Standing::Home(0))
     }
 }

@@ -1,32 +1,30 @@
 ghost use Rattle.std.specs.Prelude.{◌≡◌, ◌≢◌, ℕ, ◌-◌, ◌<◌, false, length, slice_set, slice_index};
 ghost use Rattle.std.specs.Prelude.{OnOk, IfErr, IfOk};
-ghost use Rattle.std.specs.Box.{boxed_slice_items};
 ghost use Rattle.hg_place.specs.declared.geometry.TheConstants.{MAX_SEGMENTS, SEGMENT_PLACES};
 ghost use Rattle.hg_place.specs.declared.geometry.TheConstants.{PAGE_PLACES};
 ghost use Rattle.hg_place.specs.Lives.{IsLiveWord, IsSlotWord};
 ghost use Rattle.hg_place.specs.Standings.{standing_at, slot_of, is_home, Fits};
 ghost use Rattle.hg_place.specs.declared.standing.Standing.TheVariants.{Home};
 
-use crate::fill::filled;
 use crate::geometry::{PAGE_PLACES, SEGMENT_PLACES};
 use crate::{Handle, PackedStanding, Place, SlotWords, Standing, pack, word_generation};
+use hg_reserved::Reserved;
 use std::alloc::{AllocError, Global};
-use std::boxed::BoxedSlice;
 
 /// The slot words of a segment for one thread alone: a step finds the word that stands. A place's
-/// word and its record take 8 bytes each.
+/// word and its record take 8 bytes each, in memory that is touched when the place, or one of a
+/// greater number, is first given out.
 #[derive(Drop)]
 pub struct PlainWords {
     segment: u8,
-    words: BoxedSlice<u64>,
-    records: BoxedSlice<PackedStanding>,
+    words: Reserved<u64>,
+    records: Reserved<PackedStanding>,
     ghost segment_below: { segment < MAX_SEGMENTS },
-    ghost all_words: { length (boxed_slice_items words) ≡ SEGMENT_PLACES },
-    ghost all_records: { length (boxed_slice_items records) ≡ SEGMENT_PLACES },
+    ghost all_words: { length words ≡ SEGMENT_PLACES },
+    ghost all_records: { length records ≡ SEGMENT_PLACES },
     ghost fit: { (at : ℕ) → at < SEGMENT_PLACES
-        → IsSlotWord (slice_index (boxed_slice_items words) at)
-        × Fits (standing_at (boxed_slice_items records) at)
-        (slice_index (boxed_slice_items words) at) },
+        → IsSlotWord (slice_index words at)
+        × Fits (standing_at records at) (slice_index words at) },
 }
 
 impl SlotWords for PlainWords {
@@ -68,7 +66,7 @@ impl SlotWords for PlainWords {
     }
 
     fn standing(&self, place: Place) -> Standing {
-        self.records[slot(place)].standing()
+        self.records.get(slot(place)).standing()
     }
 
     fn look(&mut self, place: Place) -> u64 {
@@ -118,9 +116,8 @@ impl PlainWords {
         ensures words { IfOk result (λ s. (at : ℕ) → slice_index (plain_words s) at ≡ 0) }
         ensures home { IfOk result (λ s. (at : ℕ) → standing_at (plain_records s) at ≡ Home 0) }
     {
-        let words = filled(alloc, 0, SEGMENT_PLACES)?;
-        let home = PackedStanding::of(Standing::Home(0));
-        let records = filled(alloc, home, SEGMENT_PLACES)?;
+        let words = Reserved::new(alloc, SEGMENT_PLACES)?;
+        let records = Reserved::new(alloc, SEGMENT_PLACES)?;
         Ok(PlainWords {
             segment,
             words,
@@ -133,8 +130,7 @@ impl PlainWords {
         requires { place.segment ≡ self.now.segment }
         ensures { result ≡ slice_index (plain_words self.now) (slot_of place) }
     {
-        let at = slot(place);
-        self.words[at]
+        self.words.get(slot(place))
     }
 
     /// Ends the life of the live word that is expected, and leaves the place open. An error has the
@@ -157,7 +153,7 @@ impl PlainWords {
         if found != expected {
             return Err(found);
         }
-        self.words[slot(place)] = found - 1;
+        self.words.set(slot(place), found - 1);
         Ok(())
     }
 
@@ -171,8 +167,8 @@ impl PlainWords {
         ensures records { plain_records self.new
             ≡ slice_set (plain_records self.old) (slot_of place) standing }
     {
-        self.words[slot(place)] = word;
-        self.records[slot(place)] = PackedStanding::of(standing);
+        self.words.set(slot(place), word);
+        self.records.set(slot(place), PackedStanding::of(standing));
     }
 }
 

@@ -6,5 +6,5 @@ mod Found
 mod Calls
 mod Puts
 mod Nexts
-mod Placed
+pub mod Placed
 pub mod Replacing

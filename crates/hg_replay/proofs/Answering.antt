@@ -8,10 +8,13 @@ use Rattle.hg_place.specs.declared.Actor.{Actor}
 use Rattle.hg_place.specs.declared.Handle.{Handle}
 use Rattle.hg_machine.specs.Policy.{Policy}
 use Rattle.hg_machine.specs.State.{State}
-use Rattle.hg_machine.specs.Steps.{Step, Run}
+use Rattle.hg_machine.specs.Steps.{Run}
+use Rattle.hg_machine.specs.Lists.{Kept}
 use Rattle.hg_machine.specs.declared.Event.{Event}
 use Rattle.hg_machine.specs.declared.Answer.{Answer}
 use Rattle.hg_machine.proofs.Preserves.{steps_keep_policy}
+use Rattle.hg_choice.specs.ChosenSteps.{ChosenStep, Chosen}
+use Rattle.hg_choice.proofs.ChoiceLemmas.{chosen_runs_are_runs}
 use Rattle.hg_trace.specs.declared.line.Command.{Command}
 use Rattle.hg_trace.specs.declared.line.Command.TheVariants as command
 use Rattle.hg_trace.specs.declared.line.Line.{Line}
@@ -87,36 +90,36 @@ unbound_labels policy handles c e =
 
 -- a line is answered by its meaning
 module _ (from : Progress) (line : Line) where
-  pub one_answered : (event : Event) (answer : Answer) (end : State) (handles : List (Option Handle))
-      → meaning_at from line ≡ meaning.One event → Step from.state line.worker event answer end
+  pub one_answered : (event : Event) (answer : Answer) (end : Kept) (handles : List (Option Handle))
+      → meaning_at from line ≡ meaning.One event → ChosenStep from.kept line.worker event answer end
       → handles ≡ handles_after from.handles line.command (answer ∷ [])
-      → Answered from line (record { state = end; handles = handles }) (answer_line from.state.policy answer)
+      → Answered from line (record { kept = end; handles = handles }) (answer_line from.kept.state.policy answer)
   one_answered event answer end handles meant step noted = record {
     answers = answer ∷ [];
-    run =
-        subst (λ m. Run from.state (events_of from.state line.worker m) (answer ∷ []) end) (sym meant) (end, step, refl);
+    chosen =
+        subst (λ m. Chosen from.kept (events_of from.kept.state line.worker m) (answer ∷ []) end) (sym meant) (end, step, refl);
     handles = noted;
-    told = sym (ap (λ m. reply_text from.state.policy m (answer ∷ [])) meant ∙ append-nil (answer_line from.state.policy answer));
+    told = sym (ap (λ m. reply_text from.kept.state.policy m (answer ∷ [])) meant ∙ append-nil (answer_line from.kept.state.policy answer));
   }
 
-  pub listing_answered : (actor : Actor) (answers : List Answer) (end : State)
-      → meaning_at from line ≡ meaning.Listing actor → end ≡ from.state → Run from.state (looks from.state line.worker actor) answers from.state
-      → Answered from line (record { state = end; handles = from.handles }) (listing_text from.state.policy (filter is_row answers))
-  listing_answered actor answers end meant same run = record {
+  pub listing_answered : (actor : Actor) (answers : List Answer) (end : Kept)
+      → meaning_at from line ≡ meaning.Listing actor → end ≡ from.kept → Chosen from.kept (looks from.kept.state line.worker actor) answers from.kept
+      → Answered from line (record { kept = end; handles = from.handles }) (listing_text from.kept.state.policy (filter is_row answers))
+  listing_answered actor answers end meant same chosen = record {
     answers = answers;
-    run =
-        subst (λ m. Run from.state (events_of from.state line.worker m) answers end) (sym meant)
-        (subst (λ t. Run from.state (looks from.state line.worker actor) answers t) (sym same) run);
-    handles = sym (no_label from.handles line.command answers (listing_labels from.state.policy from.handles line.command actor meant));
-    told = sym (ap (λ m. reply_text from.state.policy m answers) meant);
+    chosen =
+        subst (λ m. Chosen from.kept (events_of from.kept.state line.worker m) answers end) (sym meant)
+        (subst (λ k. Chosen from.kept (looks from.kept.state line.worker actor) answers k) (sym same) chosen);
+    handles = sym (no_label from.handles line.command answers (listing_labels from.kept.state.policy from.handles line.command actor meant));
+    told = sym (ap (λ m. reply_text from.kept.state.policy m answers) meant);
   }
 
-  pub unbound_answered : meaning_at from line ≡ meaning.Unbound → Answered from line from (reply_text from.state.policy meaning.Unbound [])
+  pub unbound_answered : meaning_at from line ≡ meaning.Unbound → Answered from line from (reply_text from.kept.state.policy meaning.Unbound [])
   unbound_answered meant = record {
     answers = [];
-    run = subst (λ m. Run from.state (events_of from.state line.worker m) [] from.state) (sym meant) refl;
-    handles = sym (no_label from.handles line.command [] (unbound_labels from.state.policy from.handles line.command meant));
-    told = sym (ap (λ m. reply_text from.state.policy m []) meant);
+    chosen = subst (λ m. Chosen from.kept (events_of from.kept.state line.worker m) [] from.kept) (sym meant) refl;
+    handles = sym (no_label from.handles line.command [] (unbound_labels from.kept.state.policy from.handles line.command meant));
+    told = sym (ap (λ m. reply_text from.kept.state.policy m []) meant);
   }
 
 -- a replay goes on by a line
@@ -134,15 +137,15 @@ replays_more (first ∷ lines) line from mid end text here (next, one, rest, don
 )
 
 -- the lines up to index i are answered, and the next one is too
-module _ (s : State) (lines : List Line) (i : ℕ) (line : Line) (mid end : Progress) (text here : List ℕ) (within : i < length lines)
-    (here_is : line ≡ get_or lines i line) (so_far : Replays (starting s) (take i lines) mid text) (answered : Answered mid line end here) where
-  pub replays_next : Replays (starting s) (take (i + 1) lines) end (text ++ here)
+module _ (k : Kept) (lines : List Line) (i : ℕ) (line : Line) (mid end : Progress) (text here : List ℕ) (within : i < length lines)
+    (here_is : line ≡ get_or lines i line) (so_far : Replays (starting k) (take i lines) mid text) (answered : Answered mid line end here) where
+  pub replays_next : Replays (starting k) (take (i + 1) lines) end (text ++ here)
   replays_next =
       let more : take (i + 1) lines ≡ take i lines ++ line ∷ [] =
       take_more lines i line within ∙ ap (λ l. take i lines ++ l ∷ []) (sym here_is) in
-      subst (λ ls. Replays (starting s) ls end (text ++ here)) (sym more) (replays_more (take i lines) line (starting s) mid end text here so_far answered)
+      subst (λ ls. Replays (starting k) ls end (text ++ here)) (sym more) (replays_more (take i lines) line (starting k) mid end text here so_far answered)
 
-  pub replays_stop : (old new : Seen) → StopsIn old new (text ++ here) → StopsWithin s lines old new
+  pub replays_stop : (old new : Seen) → StopsIn old new (text ++ here) → StopsWithin k lines old new
   replays_stop old new stopped = record {
     before = take (i + 1) lines;
     after = drop (i + 1) lines;
@@ -172,9 +175,11 @@ runs_keep_policy (e ∷ events) [] old new run = absurd run
 runs_keep_policy (e ∷ events) (a ∷ answers) old new run =
     runs_keep_policy events answers run.0 new run.2 ∙ steps_keep_policy old e.0 e.1 a run.0 run.1
 
-pub answered_keeps_policy : (from end : Progress) (line : Line) (text : List ℕ) → Answered from line end text → end.state.policy ≡ from.state.policy
+pub answered_keeps_policy : (from end : Progress) (line : Line) (text : List ℕ) → Answered from line end text → end.kept.state.policy ≡ from.kept.state.policy
 answered_keeps_policy from end line text answered =
-    runs_keep_policy (events_of from.state line.worker (meaning_at from line)) answered.answers from.state end.state answered.run
+    let events = events_of from.kept.state line.worker (meaning_at from line) in
+    runs_keep_policy events answered.answers from.kept.state end.kept.state
+    (chosen_runs_are_runs from.kept end.kept events answered.answers answered.chosen)
 
 -- where no line's worker is unknown, each is below the count
 pub workers_below : (workers : ℕ) (lines : List Line) → None ≡ unknown_worker workers lines → (k : ℕ) (d : Line) → k < length lines

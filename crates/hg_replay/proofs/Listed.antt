@@ -20,14 +20,16 @@ use Rattle.hg_machine.specs.declared.Answer.{Answer}
 use Rattle.hg_machine.specs.declared.Answer.TheVariants as answer
 use Rattle.hg_machine.proofs.Cases.{step_cases}
 use Rattle.hg_machine.proofs.Looks.{looks_are_listed}
+use Rattle.hg_choice.specs.ChosenSteps.{Chosen}
+use Rattle.hg_choice.proofs.ChoiceLemmas.{chosen_runs_are_runs}
 use Rattle.hg_replay.specs.declared.replaying.events.Meaning.TheVariants as meaning
 use Rattle.hg_replay.specs.Events.{actor_of, events_of, meaning_of}
-use Rattle.hg_replay.specs.Listings.{held_among, looks_at}
+use Rattle.hg_replay.specs.Listings.{held_among, held_places, looks, looks_at}
 use Rattle.hg_replay.specs.Rows.{is_row}
 use Rattle.hg_replay.specs.Text.{listing_text, reply_text}
 use Rattle.hg_replay.specs.Replays.{handles_after, meaning_at}
 use Rattle.hg_replay.specs.ReplayLaws.{row_of, rows_in, ListingsShowWhatIsListed, ListLinesPrintListings}
-use Rattle.hg_replay.proofs.Looking.{look_keeps}
+use Rattle.hg_replay.proofs.Looking.{look_keeps, looks_leave}
 
 pub number_at : (n : ℕ) → n < 64 * 8192 → number_of (place_at n) ≡ n
 number_at n below = omega arith
@@ -127,12 +129,14 @@ listings_show_what_is_listed s worker actor answers end sound run =
 
 pub list_lines_print_listings : ListLinesPrintListings
 list_lines_print_listings from end line name text sound lists answered =
-    let policy = from.state.policy in
+    let policy = from.kept.state.policy in
     let actor = actor_of policy name in
     let meant : meaning_at from line ≡ meaning.Listing actor = ap (meaning_of policy from.handles) lists in
-    let run = subst (λ m. Run from.state (events_of from.state line.worker m) answered.answers end.state) meant answered.run in
-    let shown = listings_show_what_is_listed from.state line.worker actor answered.answers end.state sound run in
+    let chosen = subst (λ m. Chosen from.kept (events_of from.kept.state line.worker m) answered.answers end.kept) meant answered.chosen in
+    let run = chosen_runs_are_runs from.kept end.kept (looks from.kept.state line.worker actor) answered.answers chosen in
+    let shown = listings_show_what_is_listed from.kept.state line.worker actor answered.answers end.kept.state sound run in
+    let kept : end.kept ≡ from.kept = looks_leave (held_places from.kept.state line.worker) answered.answers from.kept end.kept line.worker actor chosen in
     let handles : end.handles ≡ from.handles = answered.handles ∙ ap (λ c. handles_after from.handles c answered.answers) lists in
     let same : end ≡ from =
-    ap (λ s. record { state = s; handles = end.handles }) shown.0 ∙ ap (λ h. record { state = from.state; handles = h }) handles in
+    ap (λ k. record { kept = k; handles = end.handles }) kept ∙ ap (λ h. record { kept = from.kept; handles = h }) handles in
     (same, rows_in answered.answers, shown.1, answered.told ∙ ap (λ m. reply_text policy m answered.answers) meant ∙ ap (listing_text policy) shown.2)

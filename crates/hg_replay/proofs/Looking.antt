@@ -1,5 +1,5 @@
 -- Looks at places, one after another.
-use Rattle.std.proofs.Common.{◌≡◌, ℕ, ◌+◌, ◌*◌, ◌<◌, ◌≤◌, zero, suc, Bool, true, false, List, [], ◌∷◌, ◌++◌, length, Option, filter, refl, sym, ap, subst, ◌∙◌, arith, append-nil, length-append}
+use Rattle.std.proofs.Common.{◌≡◌, ℕ, ◌+◌, ◌*◌, ◌<◌, ◌≤◌, zero, suc, Bool, true, false, List, [], ◌∷◌, ◌++◌, length, filter, refl, sym, ap, subst, ◌∙◌, arith, append-nil, length-append}
 use Rattle.std.specs.List.{range_with_len}
 use Rattle.std.proofs.lemmas.List.{map-append}
 use Rattle.std.proofs.lemmas.List.Elements.{filter-append}
@@ -10,11 +10,14 @@ use Rattle.hg_place.specs.Places.{place_at, segment_of}
 use Rattle.hg_machine.specs.Policy.{Policy}
 use Rattle.hg_machine.specs.State.{State}
 use Rattle.hg_machine.specs.Holders.{holds}
-use Rattle.hg_machine.specs.Steps.{Step, Run}
+use Rattle.hg_machine.specs.Steps.{Step}
+use Rattle.hg_machine.specs.Lists.{Kept}
 use Rattle.hg_machine.specs.declared.Event.{Event}
 use Rattle.hg_machine.specs.declared.Event.TheVariants as event
 use Rattle.hg_machine.specs.declared.Answer.{Answer}
 use Rattle.hg_machine.proofs.Answered.{state_is_determined}
+use Rattle.hg_choice.specs.ChosenSteps.{ChosenStep, Chosen}
+use Rattle.hg_choice.proofs.ChoiceLemmas.{same_kept}
 use Rattle.hg_replay.specs.declared.replaying.output.Output.{Output}
 use Rattle.hg_replay.specs.Listings.{held_among, looks_at}
 use Rattle.hg_replay.specs.Looked.{Looked}
@@ -28,59 +31,74 @@ pub look_keeps : (s new : State) (worker : ℕ) (actor : Actor) (place : Place) 
     → Step s worker (event.Look actor place) answer new → new ≡ s
 look_keeps s new worker actor place answer step = state_is_determined s worker (event.Look actor place) answer new step
 
-pub run_then : (events more : List (ℕ × Event)) (answers rest : List Answer) (old mid new : State)
-    → Run old events answers mid → Run mid more rest new → Run old (events ++ more) (answers ++ rest) new
-run_then [] more [] rest old mid new run then = subst (λ s. Run s more rest new) run then
-run_then [] more (a ∷ answers) rest old mid new run then = absurd run
-run_then (e ∷ es) more [] rest old mid new run then = absurd run
-run_then (e ∷ es) more (a ∷ answers) rest old mid new run then =
-    (run.0, run.1, run_then es more answers rest run.0 mid new run.2 then)
+-- all that is kept stays
+pub look_leaves : (k new : Kept) (worker : ℕ) (actor : Actor) (place : Place) (answer : Answer)
+    → ChosenStep k worker (event.Look actor place) answer new → new ≡ k
+look_leaves k new worker actor place answer step =
+    same_kept k new (look_keeps k.state new.state worker actor place answer step.step) step.lists step.queues
+
+pub looks_leave : (places : List ℕ) (answers : List Answer) (k end : Kept) (worker : ℕ) (actor : Actor)
+    → Chosen k (looks_at worker actor places) answers end → end ≡ k
+looks_leave [] [] k end worker actor run = run
+looks_leave [] (a ∷ answers) k end worker actor run = absurd run
+looks_leave (place ∷ places) [] k end worker actor run = absurd run
+looks_leave (place ∷ places) (a ∷ answers) k end worker actor run =
+    looks_leave places answers run.0 end worker actor run.2 ∙ look_leaves k run.0 worker actor (place_at place) a run.1
+
+-- one run with its choices, and then another
+pub chosen_then : (events more : List (ℕ × Event)) (answers rest : List Answer) (old mid new : Kept)
+    → Chosen old events answers mid → Chosen mid more rest new → Chosen old (events ++ more) (answers ++ rest) new
+chosen_then [] more [] rest old mid new run then = subst (λ k. Chosen k more rest new) run then
+chosen_then [] more (a ∷ answers) rest old mid new run then = absurd run
+chosen_then (e ∷ es) more [] rest old mid new run then = absurd run
+chosen_then (e ∷ es) more (a ∷ answers) rest old mid new run then =
+    (run.0, run.1, chosen_then es more answers rest run.0 mid new run.2 then)
 
 answer_lines-append : (policy : Policy) (one other : List Answer) → answer_lines policy (one ++ other) ≡ answer_lines policy one ++ answer_lines policy other
 answer_lines-append policy one other = flat_map-append (answer_line policy) one other
 
 -- nothing is looked at
-pub looked_none : (s : State) (worker : ℕ) (actor : Actor) (a : Seen) (x : Output) → Looked s worker actor [] 0 a x a x
-looked_none s worker actor a x = record { answers = []; run = refl; counted = refl; given = emits_none a x }
+pub looked_none : (k : Kept) (worker : ℕ) (actor : Actor) (a : Seen) (x : Output) → Looked k worker actor [] 0 a x a x
+looked_none k worker actor a x = record { answers = []; chosen = refl; counted = refl; given = emits_none a x }
 
 -- some places are looked at, and then others
-pub looked_then : (s : State) (worker : ℕ) (actor : Actor) (one other : List ℕ) (m n : ℕ) (a b c : Seen) (x y z : Output)
-    → Looked s worker actor one m a x b y → Looked s worker actor other n b y c z → Looked s worker actor (one ++ other) (m + n) a x c z
-looked_then s worker actor one other m n a b c x y z first second =
+pub looked_then : (k : Kept) (worker : ℕ) (actor : Actor) (one other : List ℕ) (m n : ℕ) (a b c : Seen) (x y z : Output)
+    → Looked k worker actor one m a x b y → Looked k worker actor other n b y c z → Looked k worker actor (one ++ other) (m + n) a x c z
+looked_then k worker actor one other m n a b c x y z first second =
     let split = filter-append is_row first.answers second.answers in
     record {
       answers = first.answers ++ second.answers;
-      run =
-          subst (λ events. Run s events (first.answers ++ second.answers) s)
+      chosen =
+          subst (λ events. Chosen k events (first.answers ++ second.answers) k)
           (sym (map-append (λ place. (worker, event.Look actor (place_at place))) one other))
-          (run_then (looks_at worker actor one) (looks_at worker actor other) first.answers second.answers s s s first.run second.run);
+          (chosen_then (looks_at worker actor one) (looks_at worker actor other) first.answers second.answers k k k first.chosen second.chosen);
       counted =
           rw (first.counted, second.counted) (sym (ap (λ l. length l) split ∙ length-append (filter is_row first.answers) (filter is_row second.answers)));
       given =
           subst (Emits a x c z)
-          (sym (ap (answer_lines s.policy) split ∙ answer_lines-append s.policy (filter is_row first.answers) (filter is_row second.answers)))
-          (emits_then a b c x y z (answer_lines s.policy (filter is_row first.answers)) (answer_lines s.policy (filter is_row second.answers)) first.given second.given);
+          (sym (ap (answer_lines k.state.policy) split ∙ answer_lines-append k.state.policy (filter is_row first.answers) (filter is_row second.answers)))
+          (emits_then a b c x y z (answer_lines k.state.policy (filter is_row first.answers)) (answer_lines k.state.policy (filter is_row second.answers)) first.given second.given);
     }
 
-module _ (s : State) (worker : ℕ) (actor : Actor) (place : ℕ) (answer : Answer) (step : Step s worker (event.Look actor (place_at place)) answer s)
+module _ (k : Kept) (worker : ℕ) (actor : Actor) (place : ℕ) (answer : Answer) (step : ChosenStep k worker (event.Look actor (place_at place)) answer k)
     (a : Seen) (x : Output) where
   -- a place is looked at, and there is no row
-  pub looked_past : is_row answer ≡ false → Looked s worker actor (place ∷ []) 0 a x a x
+  pub looked_past : is_row answer ≡ false → Looked k worker actor (place ∷ []) 0 a x a x
   looked_past miss = record {
     answers = answer ∷ [];
-    run = (s, step, refl);
+    chosen = (k, step, refl);
     counted = rw miss refl;
     given = rw miss (emits_none a x);
   }
 
   -- or there is one
-  pub looked_row : (b : Seen) (y : Output) → is_row answer ≡ true → Emits a x b y (answer_line s.policy answer)
-      → Looked s worker actor (place ∷ []) 1 a x b y
+  pub looked_row : (b : Seen) (y : Output) → is_row answer ≡ true → Emits a x b y (answer_line k.state.policy answer)
+      → Looked k worker actor (place ∷ []) 1 a x b y
   looked_row b y hit given = record {
     answers = answer ∷ [];
-    run = (s, step, refl);
+    chosen = (k, step, refl);
     counted = rw hit refl;
-    given = rw hit (subst (Emits a x b y) (sym (append-nil (answer_line s.policy answer))) given);
+    given = rw hit (subst (Emits a x b y) (sym (append-nil (answer_line k.state.policy answer))) given);
   }
 
 pub range_more : (a n : ℕ) → range_with_len a (n + 1) ≡ range_with_len a n ++ (a + n) ∷ []

@@ -1,18 +1,19 @@
 -- Which status is due, and that runs and checks end with it.
-use Rattle.std.proofs.Common.{◌≡◌, ◌≢◌, ◌<◌, ℕ, zero, suc, List, Ok, Err, Some, None, Option, Result, length, refl, sym, ap, ◌∙◌, inl, inr, arith}
+use Rattle.std.proofs.Common.{◌≡◌, ℕ, zero, suc, List, Ok, Err, Some, None, Option, Result, length, refl, sym, ap, subst, ◌∙◌, inl, inr, arith}
 use Rattle.hg_machine.specs.Policy.{Policy}
 use Rattle.hg_policy.specs.Document.{document_of}
 use Rattle.hg_policy.specs.Faults.{Fault}
 use Rattle.hg_trace.specs.declared.fault.TraceFault.{TraceFault}
 use Rattle.hg_trace.specs.declared.line.Line.{Line}
 use Rattle.hg_trace.specs.Trace.{trace_of}
-use Rattle.hg_replay.specs.declared.run.input.TheConstants.{LIMIT}
 use Rattle.hg_replay.specs.declared.run.status.Status.{Status}
 use Rattle.hg_replay.specs.declared.run.status.Status.TheVariants as status
 use Rattle.hg_replay.specs.Events.{unknown_worker}
 use Rattle.hg_replay.specs.Numbers.{number_of}
-use Rattle.hg_replay.specs.Statuses.{NoTrace}
-use Rattle.hg_replay.specs.StatusLaws.{IsDue, OneStatusIsDue, RunsEndAsDue, ChecksEndAsDue, LongInputsFail, NumbersDiffer}
+use Rattle.hg_core.specs.Opening.{opened}
+use Rattle.hg_replay.specs.Replays.{Replays, starting}
+use Rattle.hg_replay.proofs.ValuesInWords.{values_show_in_words}
+use Rattle.hg_replay.specs.StatusLaws.{IsDue, OneStatusIsDue, RunsEndAsDue, RunsShowValuesInWords, ChecksEndAsDue, LongInputsFail, NumbersDiffer}
 
 -- bytes that mean no policy
 module _ (p t : List ℕ) (fault : Fault) (none : document_of p ≡ Err fault) where
@@ -88,6 +89,23 @@ runs_end_as_due status.BadPolicy p t old new (none, kept) = inr none
 runs_end_as_due status.BadTrace p t old new (policy, is, none, kept) = inr (policy, is, none)
 runs_end_as_due status.Failed p t old new early = inl refl
 runs_end_as_due status.BadLine p t old new ends = absurd ends
+
+pub runs_show_values_in_words : RunsShowValuesInWords
+runs_show_values_in_words p t u lines others old new before after read reread same
+    (policy, ones, means, end, text, replayed, wrote) (other, twos, meant, last, instead, retold, rewrote) =
+    let first = means.0 in
+    let second = meant.0 in
+    let one_read = means.1 in
+    let two_read = meant.1 in
+    let is : other ≡ policy = cc in
+    let one : ones ≡ lines = cc in
+    let two : twos ≡ others = cc in
+    let from = starting (opened policy) in
+    let here : Replays from lines end text = subst (λ ls. Replays from ls end text) one replayed in
+    let there : Replays from others last instead =
+    subst (λ ls. Replays from ls last instead) two (subst (λ q. Replays (starting (opened q)) twos last instead) is retold) in
+    let shown = values_show_in_words from from end last lines others text instead same (record { kept = refl; handles = refl }) here there in
+    (text, instead, shown.0, wrote, rewrote)
 
 pub checks_end_as_due : ChecksEndAsDue
 checks_end_as_due status.Done p t old new (policy, is, wrote) other =

@@ -1,4 +1,5 @@
 pub mod Events
+pub mod KnownNames
 pub mod Listings
 pub mod Rows
 pub mod Text
@@ -7,6 +8,7 @@ pub mod Writes
 pub mod Looked
 pub mod Replays
 pub mod ReplayLaws
+pub mod WrittenValues
 pub mod Numbers
 pub mod RunFaults
 pub mod Statuses

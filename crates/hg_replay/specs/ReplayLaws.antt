@@ -12,6 +12,7 @@ use Rattle.hg_machine.specs.declared.Event.{Event}
 use Rattle.hg_machine.specs.declared.Row.{Row}
 use Rattle.hg_machine.specs.declared.Answer.{Answer}
 use Rattle.hg_machine.specs.declared.Answer.TheVariants as answer
+use Rattle.hg_choice.specs.ChosenSteps.{Chosen}
 use Rattle.hg_trace.specs.declared.line.Command.TheVariants as command
 use Rattle.hg_trace.specs.declared.line.Line.{Line}
 use Rattle.hg_replay.specs.Events.{actor_of, events_of, unknown_worker}
@@ -43,10 +44,11 @@ ListingsShowWhatIsListed =
 abbrev pub ListLinesPrintListings : Type 0
 ListLinesPrintListings =
     (from end : Progress) (line : Line) (name : List ℕ) (text : List ℕ)
-    → IsSound from.state → line.command ≡ command.List name → Answered from line end text
+    → IsSound from.kept.state → line.command ≡ command.List name → Answered from line end text
     → (end ≡ from) × (rows : List Row)
-    × (map line_of rows ≡ listing from.state line.worker (actor_of from.state.policy name).0)
-    × (text ≡ listing_text from.state.policy (map answer.Listed rows))
+    × (map line_of rows
+    ≡ listing from.kept.state line.worker (actor_of from.kept.state.policy name).0)
+    × (text ≡ listing_text from.kept.state.policy (map answer.Listed rows))
 
 -- a line of a replay, where the replay stood at it, and what it was answered
 pub record Told : Type 0 where
@@ -58,7 +60,7 @@ pub record Told : Type 0 where
 -- answers, and the text of these
 abbrev pub all_events : List Told → List (ℕ × Event)
 all_events told =
-    flat_map (λ t. events_of t.at.state t.line.worker (meaning_at t.at t.line)) told
+    flat_map (λ t. events_of t.at.kept.state t.line.worker (meaning_at t.at t.line)) told
 
 abbrev pub all_answers : List Told → List Answer
 all_answers told = flat_map (λ t. t.answers) told
@@ -72,9 +74,11 @@ all_handles handles [] = handles
 all_handles handles (t ∷ told) =
     all_handles (handles_after handles t.line.command t.answers) told
 
--- the events of these lines are one run, which leads here, with their labels
+-- the events of these lines are one run of the machine, and with its choices it leads here, with
+-- their labels
 pub record LeadsTo (from : Progress) (told : List Told) (end : Progress) : Type 0 where
-  pub run : Run from.state (all_events told) (all_answers told) end.state
+  pub run : Run from.kept.state (all_events told) (all_answers told) end.kept.state
+  pub chosen : Chosen from.kept (all_events told) (all_answers told) end.kept
   pub handles : end.handles ≡ all_handles from.handles told
 
 -- at each line the replay stands where the lines before it lead
@@ -88,25 +92,25 @@ abbrev pub workers_of : List Line → List ℕ
 workers_of lines = map (λ line. line.worker) lines
 
 -- a replay is one run of the machine: the events of all lines, each line's what it means where the
--- lines before it lead, are answered as in a run, and the text is that of its answers. Each event
--- is of a line's worker
+-- lines before it lead, are answered as in a run with its choices, and the text is that of its
+-- answers. Each event is of a line's worker
 abbrev pub ReplaysAreRuns : Type 0
 ReplaysAreRuns =
     (from end : Progress) (lines : List Line) (text : List ℕ) → Replays from lines end text
     → (told : List Told) × (map (λ t. t.line) told ≡ lines)
     × LeadsTo from told end × StandsWhereLed from told
-    × (text ≡ all_text from.state.policy told)
+    × (text ≡ all_text from.kept.state.policy told)
     × All (λ event. Contains (workers_of lines) event.0) (all_events told)
 
 -- it leaves the policy as it was
 abbrev pub ReplaysKeepPolicy : Type 0
 ReplaysKeepPolicy =
     (from end : Progress) (lines : List Line) (text : List ℕ) → Replays from lines end text
-    → end.state.policy ≡ from.state.policy
+    → end.kept.state.policy ≡ from.kept.state.policy
 
 -- and a sound state sound, where no line's worker is unknown
 abbrev pub ReplaysKeepSound : Type 0
 ReplaysKeepSound =
     (from end : Progress) (lines : List Line) (text : List ℕ)
-    → IsSound from.state → unknown_worker from.state.policy.workers lines ≡ None
-    → Replays from lines end text → IsSound end.state
+    → IsSound from.kept.state → unknown_worker from.kept.state.policy.workers lines ≡ None
+    → Replays from lines end text → IsSound end.kept.state

@@ -3,12 +3,15 @@ use Rattle.std.specs.Prelude.{◌≡◌, ◌≢◌, ◌↔◌, ◌<◌, ◌⊎�
 use Rattle.hg_machine.specs.Policy.{Policy}
 use Rattle.hg_policy.specs.Document.{document_of}
 use Rattle.hg_trace.specs.declared.line.Line.{Line}
+use Rattle.hg_trace.specs.Trace.{trace_of}
 use Rattle.hg_replay.specs.declared.run.input.TheConstants.{LIMIT}
 use Rattle.hg_replay.specs.declared.run.status.Status.{Status}
 use Rattle.hg_replay.specs.declared.run.status.Status.TheVariants as status
 use Rattle.hg_replay.specs.Checks.{EndsCheck}
 use Rattle.hg_replay.specs.Numbers.{number_of}
 use Rattle.hg_replay.specs.Sinks.{Seen}
+use Rattle.hg_replay.specs.Writes.{Wrote}
+use Rattle.hg_replay.specs.WrittenValues.{unwritten_lines, PrintSameButWords}
 use Rattle.hg_replay.specs.Statuses.{Means, NoPolicy, NoTrace, EndsAs, EndsJoined}
 
 -- the status that bytes earn a run, whatever memory and files do: they mean a policy and a trace for
@@ -43,6 +46,19 @@ ChecksEndAsDue =
     → EndsCheck ended policy_bytes old new → ended ≢ status.Failed
     → ((ended ≡ status.Done) ⊎ (ended ≡ status.BadPolicy))
     × (ended ≡ status.BadPolicy ↔ IsDue status.BadPolicy policy_bytes trace_bytes)
+
+-- runs that go well under one policy, on the bytes of two traces that differ in written values
+-- alone, write line for line the same but for words that are read
+abbrev pub RunsShowValuesInWords : Type 0
+RunsShowValuesInWords =
+    (policy_bytes trace_bytes other_bytes : List ℕ) (lines others : List Line)
+    (old new before after : Seen)
+    → trace_of trace_bytes ≡ Ok lines → trace_of other_bytes ≡ Ok others
+    → unwritten_lines others ≡ unwritten_lines lines
+    → EndsAs status.Done policy_bytes trace_bytes old new
+    → EndsAs status.Done policy_bytes other_bytes before after
+    → (text : List ℕ) × (instead : List ℕ) × PrintSameButWords lines text instead
+    × Wrote old new text × Wrote before after instead
 
 -- an input longer than the limit is not read
 abbrev pub LongInputsFail : Type 0

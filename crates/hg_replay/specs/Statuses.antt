@@ -1,7 +1,6 @@
 -- How a run on the bytes of a policy and a trace ends: its status, and what it writes.
 use Rattle.std.specs.Prelude.{◌≡◌, ◌≤◌, ◌⊎◌, ℕ, List, Option, Some, None, Ok, Err, IfSome, length}
 use Rattle.hg_machine.specs.Policy.{Policy}
-use Rattle.hg_machine.specs.State.{opening}
 use Rattle.hg_policy.specs.Faults.{Fault}
 use Rattle.hg_policy.specs.Document.{document_of}
 use Rattle.hg_trace.specs.declared.line.Line.{Line}
@@ -11,6 +10,7 @@ use Rattle.hg_trace.specs.Joined.{policy_in, trace_in}
 use Rattle.hg_replay.specs.declared.run.input.TheConstants.{LIMIT}
 use Rattle.hg_replay.specs.declared.run.status.Status.{Status}
 use Rattle.hg_replay.specs.declared.run.status.Status.TheVariants as status
+use Rattle.hg_core.specs.Opening.{opened}
 use Rattle.hg_replay.specs.Events.{unknown_worker}
 use Rattle.hg_replay.specs.Replays.{Progress, Replays, StopsWithin, starting}
 use Rattle.hg_replay.specs.Sinks.{Seen}
@@ -37,7 +37,7 @@ NoTrace policy trace_bytes =
 abbrev pub EndsWell : List ℕ → List ℕ → Seen → Seen → Type 0
 EndsWell policy_bytes trace_bytes old new =
     (policy : Policy) × (lines : List Line) × Means policy_bytes trace_bytes policy lines
-    × (end : Progress) × (text : List ℕ) × Replays (starting (opening policy)) lines end text
+    × (end : Progress) × (text : List ℕ) × Replays (starting (opened policy)) lines end text
     × Wrote old new text
 
 -- nothing is written, or a write stopped in the text of the answers
@@ -45,7 +45,7 @@ abbrev pub EndsEarly : List ℕ → List ℕ → Seen → Seen → Type 0
 EndsEarly policy_bytes trace_bytes old new =
     (new ≡ old)
     ⊎ ((policy : Policy) × (lines : List Line) × Means policy_bytes trace_bytes policy lines
-    × StopsWithin (opening policy) lines old new)
+    × StopsWithin (opened policy) lines old new)
 
 -- by the status: Done where all went well, BadPolicy where there is no policy, BadTrace where there
 -- is one and no trace for it, with nothing written, and Failed for want of memory and for a write

@@ -1,5 +1,5 @@
 -- What a writer was given, where its writing stopped, and what waits to be written.
-use Rattle.std.specs.Prelude.{◌≡◌, ◌<◌, ℕ, true, false, List, ◌++◌, length, Option}
+use Rattle.std.specs.Prelude.{◌≡◌, ◌<◌, ℕ, true, false, List, ◌++◌, length}
 use Rattle.std.specs.Io.KnownBytes.{Appends}
 use Rattle.hg_replay.specs.declared.replaying.output.Output.{Output}
 use Rattle.hg_replay.specs.Sinks.{Seen}

@@ -3,7 +3,8 @@
 ghost use Rattle.hg_replay.specs.ReplayLaws.{ListLinesPrintListings, ListingsShowWhatIsListed};
 ghost use Rattle.hg_replay.specs.ReplayLaws.{ReplaysAreRuns, ReplaysKeepPolicy, ReplaysKeepSound};
 ghost use Rattle.hg_replay.specs.StatusLaws.{ChecksEndAsDue, LongInputsFail, NumbersDiffer};
-ghost use Rattle.hg_replay.specs.StatusLaws.{OneStatusIsDue, RunsEndAsDue};
+ghost use Rattle.hg_replay.specs.StatusLaws.{OneStatusIsDue, RunsEndAsDue, RunsShowValuesInWords};
+ghost use Rattle.hg_replay.specs.WrittenValues.{LinesShowValuesInWords, ValuesShowInWords};
 
 /// The rows of a listing are the machine's listing, and nothing changes.
 pub fn listings_show_what_is_listed()
@@ -31,6 +32,17 @@ pub fn replays_keep_sound()
     ensures { ReplaysKeepSound }
 {}
 
+/// Two lines that differ in a written value alone print the same but for a word that is read.
+pub fn lines_show_values_in_words()
+    ensures { LinesShowValuesInWords }
+{}
+
+/// So replays of two traces that differ in written values alone print line for line the same but
+/// for words that are read.
+pub fn values_show_in_words()
+    ensures { ValuesShowInWords }
+{}
+
 /// For all bytes one of the statuses Done, BadPolicy and BadTrace is due, and no other.
 pub fn one_status_is_due()
     ensures { OneStatusIsDue }
@@ -39,6 +51,11 @@ pub fn one_status_is_due()
 /// A run that doesn't fail ends with the status that is due.
 pub fn runs_end_as_due()
     ensures { RunsEndAsDue }
+{}
+
+/// So do runs on the bytes of such traces under one policy, where both end with Done.
+pub fn runs_show_values_in_words()
+    ensures { RunsShowValuesInWords }
 {}
 
 /// A check that doesn't fail ends with BadPolicy where a run would, and else with Done.

@@ -3,16 +3,18 @@
 ghost use Rattle.std.specs.Prelude.{◌≡◌, ◌+◌, ◌≤◌, ◌<◌, ℕ, List, [], ◌∷◌, All, true, false};
 ghost use Rattle.std.specs.Prelude.{OnOk, OnErr};
 ghost use Rattle.std.specs.Prelude.{vec_len, vec_capacity, if◌then◌else◌, IfOk};
-ghost use Rattle.hg_machine.specs.State.{opening};
-ghost use Rattle.hg_machine.specs.Steps.{Step};
+ghost use Rattle.hg_choice.specs.ChosenSteps.{ChosenStep};
+ghost use Rattle.hg_core.specs.Opening.{opened};
 ghost use Rattle.hg_replay.specs.Text.{answer_line};
 ghost use Rattle.hg_replay.specs.Writes.{Emits, IsGiven, Wrote};
 ghost use Rattle.hg_replay.specs.Replays.{Progress, handle_in, handles_after, starting};
 ghost use Rattle.hg_replay.specs.Replays.{Answered, Replays, StopsWithin, EndsReplay};
+ghost use Rattle.hg_replay.specs.KnownNames.{AreMeant};
 ghost use Rattle.hg_trace.specs.Labels.{gives_label, label_count};
 
 mod events;
 pub(crate) mod fault;
+mod known;
 mod listing;
 pub(crate) mod output;
 pub(crate) mod put;
@@ -26,6 +28,7 @@ use hg_machine::{Answer, Event};
 use hg_place::Handle;
 use hg_policy::Policy;
 use hg_trace::{Command, Line, Trace};
+use known::Known;
 use listing::list;
 use output::Output;
 use put::WriteStopped;
@@ -41,7 +44,7 @@ fn serve<W: Sink>(
     out: &mut W,
 ) -> Answer
     requires { worker < core.old.state.policy.workers }
-    ensures step { Step core.old.state worker event result core.new.state }
+    ensures chosen { ChosenStep core.old worker event result core.new }
     ensures given { Emits (W.seen out.old) output.old (W.seen out.new) output.new
         (answer_line core.old.state.policy result) }
 {
@@ -75,25 +78,28 @@ fn note(handles: &mut Vec<Option<Handle>>, command: &Command, answer: Answer)
 }
 
 /// Answers a line.
-fn replay_line<W: Sink>(
+fn replay_line<'t, W: Sink>(
     core: &mut Core,
+    known: &mut Known<'t>,
     handles: &mut Vec<Option<Handle>>,
-    line: &Line,
+    line: &Line<'t>,
     output: &mut Output,
     out: &mut W,
 )
     requires worker { line.now.worker < core.old.state.policy.workers }
+    requires known { AreMeant core.old.state.policy known.old.slots }
     requires room { gives_label line.now.command ≡ true
         → vec_len handles.old < vec_capacity handles.old }
     ensures answered { (text : List ℕ)
-        × Answered (record { state = core.old.state; handles = handles.old.items }) line.now
-        (record { state = core.new.state; handles = handles.new.items }) text
+        × Answered (record { kept = core.old; handles = handles.old.items }) line.now
+        (record { kept = core.new; handles = handles.new.items }) text
         × Emits (W.seen out.old) output.old (W.seen out.new) output.new text }
     ensures count { vec_len handles.new
         ≡ vec_len handles.old + (if gives_label line.now.command then 1 else 0) }
     ensures room { vec_capacity handles.new ≡ vec_capacity handles.old }
+    ensures known { AreMeant core.old.state.policy known.new.slots }
 {
-    match meaning_of(core.policy(), handles, &line.command) {
+    match meaning_of(core.policy(), known, handles, &line.command) {
         Meaning::One(event) => {
             let answer = serve(core, line.worker, event, output, out);
             note(handles, &line.command, answer);
@@ -104,29 +110,31 @@ fn replay_line<W: Sink>(
 }
 
 /// Answers the lines, until a write stops. It asks for no memory.
-fn replay_lines<W: Sink>(
+fn replay_lines<'t, W: Sink>(
     core: &mut Core,
+    known: &mut Known<'t>,
     handles: &mut Vec<Option<Handle>>,
-    lines: &[Line],
+    lines: &[Line<'t>],
     output: &mut Output,
     out: &mut W,
 ) -> Result<(), WriteStopped>
     requires workers { All (λ line. line.worker < core.old.state.policy.workers) lines.now }
+    requires known { AreMeant core.old.state.policy known.old.slots }
     requires none { handles.old.items ≡ [] }
     requires count { vec_len handles.old ≡ 0 }
     requires room { label_count lines.now ≤ vec_capacity handles.old }
     requires empty { IsGiven (W.seen out.old) (W.seen out.old) output.old [] }
     requires going { output.old.stopped ≡ false }
     ensures ok { OnOk result ((text : List ℕ)
-        × Replays (starting core.old.state) lines.now
-        (record { state = core.new.state; handles = handles.new.items }) text
+        × Replays (starting core.old) lines.now
+        (record { kept = core.new; handles = handles.new.items }) text
         × IsGiven (W.seen out.old) (W.seen out.new) output.new text
         × (output.new.stopped ≡ false)) }
-    ensures stopped { OnErr result (StopsWithin core.old.state lines.now
+    ensures stopped { OnErr result (StopsWithin core.old lines.now
         (W.seen out.old) (W.seen out.new)) }
 {
     for line in lines {
-        replay_line(core, handles, line, output, out);
+        replay_line(core, known, handles, line, output, out);
         if output.has_stopped() {
             return Err(WriteStopped);
         }
@@ -146,13 +154,14 @@ fn replay_on<W: Sink>(
     requires count { vec_len handles ≡ 0 }
     requires room { label_count lines.now ≤ vec_capacity handles }
     ensures ok { OnOk result ((end : Progress) × (text : List ℕ)
-        × Replays (starting core.old.state) lines.now end text
+        × Replays (starting core.old) lines.now end text
         × Wrote (W.seen out.old) (W.seen out.new) text) }
-    ensures stopped { OnErr result (StopsWithin core.old.state lines.now
+    ensures stopped { OnErr result (StopsWithin core.old lines.now
         (W.seen out.old) (W.seen out.new)) }
 {
     let mut output = Output::new();
-    match replay_lines(core, &mut handles, lines, &mut output, out) {
+    let mut known = Known::new();
+    match replay_lines(core, &mut known, &mut handles, lines, &mut output, out) {
         Ok(()) => output.finish(out),
         Err(stopped) => Err(stopped),
     }
@@ -164,7 +173,7 @@ fn start(
     policy: Policy,
     labels: usize,
 ) -> Result<(Core, Vec<Option<Handle>>), AllocError>
-    ensures opening { IfOk result (λ started. started.0.state ≡ opening policy) }
+    ensures opened { IfOk result (λ started. started.0 ≡ opened policy) }
     ensures none { IfOk result (λ started. started.1.items ≡ []) }
     ensures count { IfOk result (λ started. vec_len started.1 ≡ 0) }
     ensures room { IfOk result (λ started. labels ≤ vec_capacity started.1) }

@@ -7,4 +7,6 @@ mod event_rows;
 #[cfg(test)]
 mod policies;
 #[cfg(test)]
+mod text_secrets;
+#[cfg(test)]
 mod trace_rows;

@@ -3,6 +3,7 @@ pub mod Binds
 pub mod LineReads
 pub mod LineCuts
 pub mod TextCuts
+pub mod TextEnds
 pub mod PlainText
 pub mod WordCuts
 pub mod NameCuts

@@ -1,10 +1,8 @@
 -- Where lines are cut.
-use Rattle.std.proofs.Common.{◌≡◌, ◌==◌, false, ℕ, ◌+◌, ◌≤◌, ◌<◌, suc, List, [], ◌∷◌, length, take, drop, get_or, cond, refl, sym, ap, ◌∙◌, inl, inr, arith}
+use Rattle.std.proofs.Common.{◌≡◌, ◌==◌, false, ℕ, ◌+◌, ◌≤◌, ◌<◌, suc, List, [], ◌∷◌, length, take, drop, cond, refl, sym, ap, ◌∙◌, inl, inr, arith}
 use Rattle.std.specs.List.{concat, onto_first, position_or_len}
 use Rattle.std.proofs.lemmas.Bool.{cases_Bool}
 use Rattle.std.proofs.Math.Seq.{take-length, drop-length}
-use Rattle.std.proofs.lemmas.List.{get_or-take, length-take}
-use Rattle.std.proofs.lemmas.List.Sums.{fails_before_first, passes_at_first, position_or_len_is}
 use Rattle.hg_trace.specs.Lines.{lines_of, ends_line}
 
 pub concat-lines_of : (bs : List ℕ) → concat (lines_of bs) ≡ bs
@@ -76,19 +74,6 @@ first_len-none (b ∷ bs) h =
       | inl e ↦ let here = rw e at h in absurd (omega arith)
       | inr e ↦ let here = rw e at h in rw e (ap suc (rest (omega arith)))
     ]
-
--- the end of a first line that was cut off behind it
-pub end_of_cut : (bs : List ℕ) (end : ℕ) → end ≡ position_or_len ends_line bs → position_or_len ends_line bs < length bs
-    → end ≡ position_or_len ends_line (take (end + 1) bs)
-end_of_cut bs end is within =
-    let here : end < length bs = omega (arith, is) in
-    sym
-    (position_or_len_is ends_line (take (end + 1) bs) end 0 (omega (arith, length-take (end + 1) bs))
-    (λ k below. get_before k below ∙ fails_before_first ends_line bs k 0 (omega (arith, is)))
-    (λ short. ap ends_line (get_or-take (end + 1) bs end 0 (omega arith)) ∙ ap (λ n. ends_line (get_or bs n 0)) is ∙ passes_at_first ends_line bs 0 within))
-  where
-    get_before : (k : ℕ) → k < end → ends_line (get_or (take (end + 1) bs) k 0) ≡ ends_line (get_or bs k 0)
-    get_before k below = ap ends_line (get_or-take (end + 1) bs k 0 (omega arith))
 
 pub some_left : (bs : List ℕ) → (length bs == 0) ≡ false → 0 < length bs
 some_left [] h = absurd (cc)

@@ -1,8 +1,8 @@
--- Lines of plain bytes alone, and lines with no comment.
-use Rattle.std.proofs.Common.{◌≡◌, ℕ, Bool, true, false, ◌&&◌, ◌||◌, ◌==◌, not, suc, ◌+◌, List, [], ◌∷◌, ap, refl, inl, inr, arith}
+-- Lines of plain bytes alone.
+use Rattle.std.proofs.Common.{◌≡◌, ℕ, Bool, true, false, ◌&&◌, ◌||◌, ◌==◌, suc, ◌+◌, List, [], ◌∷◌, refl, inl, inr, arith}
 use Rattle.std.specs.List.{list_all, onto_first, position_or_len}
 use Rattle.std.proofs.lemmas.Bool.{cases_Bool}
-use Rattle.hg_trace.specs.Lines.{lines_of, ends_line, ends_text, is_allowed, is_no_hash, is_plain, before_comment}
+use Rattle.hg_trace.specs.Lines.{lines_of, ends_line, ends_text, is_allowed, is_plain, before_comment}
 
 one_more : (n : ℕ) → 1 + n ≡ suc n
 one_more n = omega arith
@@ -44,18 +44,3 @@ text_allowed (b ∷ bs) h =
       | inl e ↦ rw e refl
       | inr e ↦ rw (e, one_more (position_or_len ends_text bs)) (rw (allowed b parts.0 e) (text_allowed bs parts.1))
     ]
-
--- with no comment a text ends with its line
-pub text_is_bare : (line : List ℕ) → list_all is_no_hash line ≡ true → position_or_len ends_line line ≡ position_or_len ends_text line
-text_is_bare [] h = refl
-text_is_bare (b ∷ bs) h =
-    let parts = both (is_no_hash b) (list_all is_no_hash bs) h in
-    let rest = text_is_bare bs parts.1 in
-    elim (cases_Bool (ends_line b)) [
-      | inl e ↦ rw e refl
-      | inr e ↦ rw (e, not_true (b == 35) parts.0) (ap (λ n. 1 + n) rest)
-    ]
-  where
-    not_true : (x : Bool) → not x ≡ true → x ≡ false
-    not_true true h = absurd (cc)
-    not_true false h = refl

@@ -1,6 +1,6 @@
 -- Lines, what is read of each, and its words.
 use Rattle.std.specs.Prelude.{ℕ, ◌==◌, ◌||◌, ◌&&◌, Bool, true, false, nat_le, List, [], ◌∷◌, filter}
-use Rattle.std.specs.Prelude.{not, if◌then◌else◌}
+use Rattle.std.specs.Prelude.{if◌then◌else◌}
 use Rattle.std.specs.List.{slice_split, onto_first, before_first}
 
 abbrev pub ends_line : ℕ → Bool
@@ -31,9 +31,9 @@ is_allowed b = is_blank b || (nat_le 0x21 b && nat_le b 0x7E)
 abbrev pub is_plain : ℕ → Bool
 is_plain b = is_allowed b || ends_line b
 
--- any byte but the `#` of a comment
-abbrev pub is_no_hash : ℕ → Bool
-is_no_hash b = not (b == 35)
+-- the `#` of a comment
+abbrev pub is_hash : ℕ → Bool
+is_hash b = b == 35
 
 abbrev pub is_some_word : List ℕ → Bool
 is_some_word [] = false

@@ -9,17 +9,7 @@ use Rattle.hg_trace.specs.declared.line.Command.{Command}
 use Rattle.hg_trace.specs.declared.line.Command.TheVariants as command
 use Rattle.hg_trace.specs.declared.line.Line.{Line}
 use Rattle.hg_trace.specs.Labels.{with_label}
-
--- segment, page and index
-abbrev pub place_text : Place → List ℕ
-place_text place =
-    decimal place.segment ++ codes "." ++ decimal place.page ++ codes "." ++ decimal place.index
-
--- `@`, segment, page, index and generation
-abbrev pub handle_text : Handle → List ℕ
-handle_text h =
-    codes "@" ++ decimal h.place.segment ++ codes "." ++ decimal h.place.page
-    ++ codes "." ++ decimal h.place.index ++ codes "." ++ decimal h.generation
+pub use Rattle.hg_place.specs.Texts.{place_text, handle_text}
 
 -- a handle, or the text of a label by its number among these
 abbrev pub block_text : List (List ℕ) → BlockName → List ℕ

@@ -1,6 +1,6 @@
 //! The labels that lines gave.
 
-ghost use Rattle.std.specs.Prelude.{◌≡◌, ◌∷◌, ◌++◌, [], false, position, bytes_eq, OnOk, IfErr};
+ghost use Rattle.std.specs.Prelude.{◌≡◌, ◌∷◌, ◌++◌, [], true, not, position, bytes_eq, IfOk, IfErr};
 ghost use Rattle.hg_policy.specs.NameForm.{is_among};
 ghost use Rattle.hg_trace.specs.Labels.{repeats, with_label};
 
@@ -41,38 +41,23 @@ impl<'a> Labels<'a> {
         self.names.get_index_of(name)
     }
 
-    fn has(&self, name: &str) -> bool
-        ensures { result ≡ is_among name.now self.now }
-    {
-        self.names.contains(name)
-    }
-
-    /// Whether a command gives a label again.
-    pub(crate) fn repeats(&self, command: &Command) -> bool
-        ensures { result ≡ repeats self.now command.now }
-    {
-        match command {
-            Command::Alloc {
-                label: Some(label),
-                ..
-            } => self.has(label.as_str()),
-            _ => false,
-        }
-    }
-
-    fn push(&mut self, name: &'a str) -> Result<(), TraceFault>
-        requires { is_among name.now self.old ≡ false }
-        ensures ok { OnOk result (self.new ≡ self.old ++ name.now ∷ []) }
+    /// A label goes behind the others, unless it is one of them. Tells whether it wasn't.
+    fn push(&mut self, name: &'a str) -> Result<bool, TraceFault>
+        ensures added { IfOk result (λ added. added ≡ not (is_among name.now self.old)) }
+        ensures ok { IfOk result
+            (λ added. added ≡ true → self.new ≡ self.old ++ name.now ∷ []) }
         ensures err { IfErr result (λ fault. fault ≡ TraceFault.Memory) }
     {
-        self.names.insert(name)?;
-        Ok(())
+        let added = self.names.insert(name)?;
+        Ok(added)
     }
 
-    /// The label that a command gives, if it gives one, goes behind the others.
-    pub(crate) fn add(&mut self, command: &Command<'a>) -> Result<(), TraceFault>
-        requires { repeats self.old command.now ≡ false }
-        ensures ok { OnOk result (self.new ≡ with_label self.old command.now) }
+    /// The label that a command gives, if it gives one, goes behind the others, unless it is one of
+    /// them. Tells whether it wasn't.
+    pub(crate) fn add(&mut self, command: &Command<'a>) -> Result<bool, TraceFault>
+        ensures added { IfOk result (λ added. added ≡ not (repeats self.old command.now)) }
+        ensures ok { IfOk result
+            (λ added. added ≡ true → self.new ≡ with_label self.old command.now) }
         ensures err { IfErr result (λ fault. fault ≡ TraceFault.Memory) }
     {
         match command {
@@ -80,7 +65,7 @@ impl<'a> Labels<'a> {
                 label: Some(label),
                 ..
             } => self.push(label.as_str()),
-            _ => Ok(()),
+            _ => Ok(true),
         }
     }
 }

@@ -1,77 +1,78 @@
 //! Lines of bytes.
 
-ghost use Rattle.std.specs.Prelude.{◌≡◌, ◌≤◌, ◌∷◌, ◌&&◌, [], length};
+ghost use Rattle.std.specs.Prelude.{◌≡◌, ◌≤◌, ◌∷◌, ◌&&◌, [], length, drop};
 ghost use Rattle.std.specs.Prelude.{MatchOption, position, not, true, false};
 ghost use Rattle.std.specs.List.{list_all, concat, before_first, position_or_len};
 ghost use Rattle.hg_trace.specs.Lines.{lines_of, before_comment, ends_line, ends_text, is_blank};
-ghost use Rattle.hg_trace.specs.Lines.{is_allowed, is_no_hash, is_plain};
+ghost use Rattle.hg_trace.specs.Lines.{is_allowed, is_hash, is_plain};
 
-use memchr::{memchr, memchr2};
+use memchr::memchr;
 use std::marker::Model;
 
-/// The lines that are left of some bytes.
+/// The lines that are left of some bytes. Where the next `#` stands is kept, so that lines with no
+/// comment aren't searched for one.
 #[derive(Drop)]
 pub(crate) struct Lines<'a> {
     rest: &'a [u8],
+    /// How many bytes stand before the next `#`, or how many are left where there is none.
+    hash: usize,
 }
 
 impl<'a> Model for Lines<'a> {
-    ghost use Rattle.std.specs.Prelude.{ℕ, List};
-    ghost use Rattle.hg_trace.specs.Lines.{lines_of};
+    ghost use Rattle.std.specs.Prelude.{◌≡◌, ℕ, List};
+    ghost use Rattle.std.specs.List.{position_or_len};
+    ghost use Rattle.hg_trace.specs.Lines.{lines_of, is_hash};
 
     ghost Value = { List (List ℕ) };
 
     ghost view = { λ lines. lines_of lines.rest.now };
+
+    ghost invariant = { λ lines. lines.hash ≡ position_or_len is_hash lines.rest.now };
 }
 
-/// A line, and the same without its end.
+/// A line, and the same without its comment and its end.
 #[derive(Drop)]
 pub(crate) struct Cut<'a> {
     line: &'a [u8],
-    bare: &'a [u8],
+    text: &'a [u8],
 }
 
 impl<'a> Model for Cut<'a> {
     ghost use Rattle.std.specs.Prelude.{◌≡◌, ℕ, List};
-    ghost use Rattle.std.specs.List.{before_first};
-    ghost use Rattle.hg_trace.specs.Lines.{ends_line};
+    ghost use Rattle.hg_trace.specs.Lines.{before_comment};
 
     ghost Value = { List ℕ };
 
     ghost view = { λ cut. cut.line.now };
 
-    ghost invariant = { λ cut. cut.bare.now ≡ before_first ends_line cut.line.now };
+    ghost invariant = { λ cut. cut.text.now ≡ before_comment cut.line.now };
 }
 
 impl<'a> Cut<'a> {
-    /// A line whose end stands there.
+    /// A line whose text ends there.
     fn at(line: &'a [u8], end: usize) -> Cut<'a>
-        requires { end ≡ position_or_len ends_line line.now }
+        requires { end ≡ position_or_len ends_text line.now }
         ensures { result ≡ line.now }
     {
         Cut {
             line,
-            bare: &line[..end],
+            text: &line[..end],
         }
     }
 
     /// What is read of the line, unless it has a byte that can't stand there. Where its bytes are
-    /// known to be plain none is looked at, and where none begins a comment none is searched for.
-    pub(crate) fn text(self, plain: bool, uncommented: bool) -> Option<&'a [u8]>
-        requires plain { plain ≡ true → list_all is_plain self ≡ true }
-        requires uncommented { uncommented ≡ true → list_all is_no_hash self ≡ true }
+    /// known to be plain none is looked at.
+    pub(crate) fn text(self, plain: bool) -> Option<&'a [u8]>
+        requires { plain ≡ true → list_all is_plain self ≡ true }
         ensures { MatchOption result
             (list_all is_allowed (before_comment self.entry) ≡ false)
             (λ text. (list_all is_allowed text.now ≡ true)
             × (text.now ≡ before_comment self.entry)) }
     {
-        if !plain {
-            return clean_text(self.line);
+        if plain {
+            return Some(self.text);
         }
-        if uncommented {
-            return Some(self.bare);
-        }
-        Some(before_comment(self.line))
+        clean_text(self.line)
     }
 }
 
@@ -80,7 +81,10 @@ impl<'a> Lines<'a> {
         ensures lines { result ≡ lines_of bytes.now }
         ensures few { length result ≤ length bytes.now }
     {
-        Lines { rest: bytes }
+        Lines {
+            rest: bytes,
+            hash: hash_in(bytes),
+        }
     }
 
     /// The next line, with its end.
@@ -95,7 +99,7 @@ impl<'a> Lines<'a> {
         }
     }
 
-    /// The next line, and where its end is.
+    /// The next line, and what is read of it.
     pub(crate) fn next_cut(&mut self) -> Option<Cut<'a>>
         ensures { MatchOption result
             ((self.old ≡ []) × (self.new ≡ []))
@@ -106,14 +110,18 @@ impl<'a> Lines<'a> {
         }
         match line_end(self.rest) {
             Some(end) => {
+                let hash = hash_behind(self.rest, self.hash, end + 1);
                 let (line, rest) = self.rest.split_at(end + 1);
+                let cut = Cut::at(line, self.hash.min(end));
                 self.rest = rest;
-                Some(Cut::at(line, end))
+                self.hash = hash;
+                Some(cut)
             }
             None => {
-                let line = self.rest;
+                let cut = Cut::at(self.rest, self.hash);
                 self.rest = &[];
-                Some(Cut::at(line, line.len()))
+                self.hash = 0;
+                Some(cut)
             }
         }
     }
@@ -124,6 +132,33 @@ impl<'a> Lines<'a> {
     {
         self.rest
     }
+}
+
+/// Where the first `#` stands.
+fn first_hash(bytes: &[u8]) -> Option<usize>
+    ensures { result ≡ position is_hash bytes.now }
+{
+    memchr(b'#', bytes)
+}
+
+/// How many bytes stand before the first `#`, or how many there are.
+#[tactic(auto, using(crate::proofs::Firsts::unwrap_or_position))]
+fn hash_in(bytes: &[u8]) -> usize
+    ensures { result ≡ position_or_len is_hash bytes.now }
+{
+    first_hash(bytes).unwrap_or(bytes.len())
+}
+
+/// The same once so many bytes in front are cut off, where before the cut this was it.
+fn hash_behind(bytes: &[u8], hash: usize, cut: usize) -> usize
+    requires hash { hash ≡ position_or_len is_hash bytes.now }
+    requires within { cut ≤ length bytes.now }
+    ensures { result ≡ position_or_len is_hash (drop cut bytes.now) }
+{
+    if hash < cut {
+        return hash_in(&bytes[cut..]);
+    }
+    hash - cut
 }
 
 /// Where the first line ends.
@@ -190,21 +225,6 @@ fn clean_text(line: &[u8]) -> Option<&[u8]>
     }
 }
 
-/// Where a line's text ends.
-fn text_end(line: &[u8]) -> Option<usize>
-    ensures { result ≡ position ends_text line.now }
-{
-    memchr2(b'\n', b'#', line)
-}
-
-/// A line without its comment and its end.
-#[tactic(auto, using(crate::proofs::Firsts::unwrap_or_position))]
-fn before_comment(line: &[u8]) -> &[u8]
-    ensures { result.now ≡ before_comment line.now }
-{
-    &line[..text_end(line).unwrap_or(line.len())]
-}
-
 fn is_plain(b: u8) -> bool
     ensures { result ≡ is_plain b }
 {
@@ -220,15 +240,4 @@ pub(crate) fn are_plain(bytes: &[u8]) -> bool
         plain &= is_plain(*b);
     }
     plain
-}
-
-/// Whether no byte begins a comment.
-pub(crate) fn are_uncommented(bytes: &[u8]) -> bool
-    ensures { result ≡ list_all is_no_hash bytes.now }
-{
-    let mut uncommented = true;
-    for b in bytes {
-        uncommented &= *b != b'#';
-    }
-    uncommented
 }

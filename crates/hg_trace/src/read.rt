@@ -3,7 +3,7 @@
 ghost use Rattle.std.specs.Prelude.{◌≡◌, ◌≢◌, ◌^◌, ◌++◌, ◌∷◌, [], IfOk, IfErr, OnOk};
 ghost use Rattle.std.specs.Prelude.{MatchResult, Ok, Err, ok_or, bytes_eq, true, false};
 ghost use Rattle.std.specs.List.{list_all};
-ghost use Rattle.hg_trace.specs.Lines.{is_no_hash, is_plain};
+ghost use Rattle.hg_trace.specs.Lines.{is_plain};
 ghost use Rattle.hg_trace.specs.Numbers.{number_below};
 ghost use Rattle.hg_trace.specs.Commands.{worker_of, command_at, words_at};
 ghost use Rattle.hg_trace.specs.Labels.{repeats, with_label};
@@ -14,7 +14,7 @@ use crate::commands::command_of;
 use crate::fault::{LineFault, TraceFault};
 use crate::labels::Labels;
 use crate::line::{Line, Trace};
-use crate::lines::{Cut, Lines, are_plain, are_uncommented};
+use crate::lines::{Cut, Lines, are_plain};
 use crate::numbers::parse_number;
 use crate::words::Words;
 use std::alloc::Global;
@@ -47,10 +47,9 @@ fn keep<'a>(
         → (repeats labels.old line.entry.command ≡ true)
         × (fault ≡ TraceFault.Line line.entry.number LineFault.RepeatedLabel)) }
 {
-    if labels.repeats(&line.command) {
+    if !labels.add(&line.command)? {
         return Err(LineFault::RepeatedLabel.at(line.number));
     }
-    labels.add(&line.command)?;
     trace.push(line)
 }
 
@@ -85,21 +84,19 @@ fn read_words<'a>(
     }
 }
 
-/// Reads the line with this number, which may be known to have plain bytes alone, or no comment.
+/// Reads the line with this number, which may be known to have plain bytes alone.
 fn read_line<'a>(
     trace: &mut Trace<'a>,
     labels: &mut Labels<'a>,
     number: u64,
     line: Cut<'a>,
     plain: bool,
-    uncommented: bool,
 ) -> Result<(), TraceFault>
-    requires plain { plain ≡ true → list_all is_plain line ≡ true }
-    requires uncommented { uncommented ≡ true → list_all is_no_hash line ≡ true }
+    requires { plain ≡ true → list_all is_plain line ≡ true }
     ensures { Reads (numbered number (line_at labels.old line.entry))
         trace.old trace.new labels.old labels.new result }
 {
-    match line.text(plain, uncommented) {
+    match line.text(plain) {
         Some(text) => read_words(trace, labels, number, &mut Words::new(text)),
         None => Err(LineFault::Byte.at(number)),
     }
@@ -115,11 +112,10 @@ pub fn read_trace<'a>(alloc: Global, bytes: &'a [u8]) -> Result<Trace<'a>, Trace
     let mut labels = Labels::new(alloc);
     let mut lines = Lines::new(bytes);
     let plain = are_plain(bytes);
-    let uncommented = are_uncommented(bytes);
     let mut number = 0;
     while let Some(line) = lines.next_cut() {
         number += 1;
-        read_line(&mut trace, &mut labels, number, line, plain, uncommented)?;
+        read_line(&mut trace, &mut labels, number, line, plain)?;
     }
     Ok(trace)
 }

@@ -1,38 +1,36 @@
 ghost use Rattle.std.specs.Prelude.{◌≡◌, ℕ, ◌+◌, ◌<◌, ◌≤◌, ◌⊎◌};
 ghost use Rattle.std.specs.Prelude.{length, slice_index, slice_set, slice_range, IfOk};
-ghost use Rattle.std.specs.Prelude.{vec_capacity};
 ghost use Rattle.hg_place.specs.declared.geometry.TheConstants.{SEGMENT_WORDS};
 
 use hg_place::SEGMENT_WORDS;
+use hg_reserved::Reserved;
 use std::alloc::{AllocError, Global};
-use std::boxed::BoxedSlice;
 use std::marker::Model;
 
 /// The words of one segment, seen as their list.
 #[derive(Drop)]
 pub struct WordMemory {
-    words: BoxedSlice<u64>,
+    words: Reserved<u64>,
 }
 
 impl Model for WordMemory {
     ghost use Rattle.std.specs.Prelude.{◌≡◌, List, ℕ, length};
-    ghost use Rattle.std.specs.Box.{boxed_slice_items};
     ghost use Rattle.hg_place.specs.declared.geometry.TheConstants.{SEGMENT_WORDS};
 
     ghost Value = { List ℕ };
 
-    ghost view = { λ m. boxed_slice_items m.words };
+    ghost view = { λ m. m.words };
 
-    ghost invariant = { λ m. length (boxed_slice_items m.words) ≡ SEGMENT_WORDS };
+    ghost invariant = { λ m. length m.words ≡ SEGMENT_WORDS };
 }
 
 impl WordMemory {
-    /// Words that are all zero.
+    /// Words that are all zero. Their memory is touched when it is first written.
     pub fn new(alloc: Global) -> Result<WordMemory, AllocError>
         ensures all { IfOk result (λ m. length m ≡ SEGMENT_WORDS) }
         ensures zero { IfOk result (λ m. (at : ℕ) → slice_index m at ≡ 0) }
     {
-        let words = zeros(alloc)?.into_boxed_slice();
+        let words = Reserved::new(alloc, SEGMENT_WORDS)?;
         Ok(WordMemory { words })
     }
 
@@ -41,7 +39,7 @@ impl WordMemory {
         requires { at < SEGMENT_WORDS }
         ensures { result ≡ slice_index self.now at }
     {
-        self.words[at]
+        self.words.get(at)
     }
 
     /// Makes the word at `at` the value.
@@ -50,7 +48,7 @@ impl WordMemory {
         ensures words { self.new ≡ slice_set self.old at value }
         ensures all { length self.new ≡ SEGMENT_WORDS }
     {
-        self.words[at] = value;
+        self.words.set(at, value);
     }
 
     /// Makes `count` words from `from` on zero.
@@ -61,7 +59,7 @@ impl WordMemory {
             → slice_index self.new at ≡ slice_index self.old at }
         ensures all { length self.new ≡ SEGMENT_WORDS }
     {
-        self.words[from..from + count].fill(0);
+        self.words.clear(from, count);
     }
 
     /// Copies as many words as `into` holds from `from` on.
@@ -69,21 +67,6 @@ impl WordMemory {
         requires { from + length into.old ≤ SEGMENT_WORDS }
         ensures { into.new ≡ slice_range self.now from (from + length into.old) }
     {
-        let end = from + into.len();
-        into.copy_from_slice(&self.words[from..end]);
+        self.words.copy_out(from, into);
     }
-}
-
-/// Words that are all zero, in a vector with room for no more.
-fn zeros(alloc: Global) -> Result<Vec<u64>, AllocError>
-    ensures all { IfOk result (λ words. length words.items ≡ SEGMENT_WORDS) }
-    ensures zero { IfOk result (λ words. (at : ℕ) → slice_index words.items at ≡ 0) }
-    ensures room { IfOk result (λ words. vec_capacity words ≡ SEGMENT_WORDS) }
-{
-    let mut words = Vec::with_capacity(alloc, SEGMENT_WORDS)?;
-    for at in 0..SEGMENT_WORDS {
-        // where there is room, `insert` keeps to it, and says so
-        words.insert(at, 0)?;
-    }
-    Ok(words)
 }

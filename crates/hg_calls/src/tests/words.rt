@@ -22,6 +22,21 @@ fn words_named(rt: HostRuntime) {
     assert_eq!(&rt; memory.get(SEGMENT_WORDS - 1), 0);
 }
 
+// What was never written reads as zero, behind all that was and beside it.
+#[test]
+fn words_unwritten(rt: HostRuntime) {
+    let mut memory = WordMemory::new(rt.alloc()).expect(&rt, "memory");
+    assert_eq!(&rt; memory.get(SEGMENT_WORDS - 1), 0);
+    memory.zero(5, 100);
+    memory.set(7, 8);
+    let mut copied = [9; 4];
+    memory.copy_out(6, &mut copied);
+    assert_eq!(&rt; copied, [0, 8, 0, 0]);
+    memory.zero(7, 100);
+    assert_eq!(&rt; memory.get(7), 0);
+    assert_eq!(&rt; memory.get(100), 0);
+}
+
 // The words are there, or memory was refused: for a run in which requests are refused in turn.
 #[test]
 fn refused_in_turn(rt: HostRuntime) {

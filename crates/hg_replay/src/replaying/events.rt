@@ -4,27 +4,30 @@ ghost use Rattle.std.specs.Prelude.{◌≡◌, Some, None, MatchResult};
 ghost use Rattle.hg_policy.specs.Names.{arena_number};
 ghost use Rattle.hg_replay.specs.Events.{or_nobody, actor_of, handle_named, meaning_of};
 ghost use Rattle.hg_replay.specs.Events.{of_block, unknown_worker};
+ghost use Rattle.hg_replay.specs.KnownNames.{AreMeant};
 ghost use Rattle.hg_trace.specs.Labels.{label_count};
 
+use crate::replaying::known::Known;
 use hg_machine::Event;
 use hg_place::{Actor, Handle};
 use hg_policy::Policy;
 use hg_trace::{BlockName, Command, Line, Name};
 
-/// The number of a name that the policy lacks.
-const NOBODY: u8 = 255;
-
 /// Who has a name under a policy.
-fn actor_of(policy: &Policy, name: &Name) -> Actor
-    ensures { result ≡ actor_of policy.now name.now }
+fn actor_of<'t>(policy: &Policy, known: &mut Known<'t>, name: &Name<'t>) -> Actor
+    requires { AreMeant policy.now known.old.slots }
+    ensures actor { result ≡ actor_of policy.now name.now }
+    ensures known { AreMeant policy.now known.new.slots }
 {
-    Actor(policy.tenant(name.as_str()).unwrap_or(NOBODY))
+    Actor(known.of(policy, name.as_str()).tenant)
 }
 
-fn arena_of(policy: &Policy, name: &Name) -> u8
-    ensures { result ≡ or_nobody (arena_number policy.now name.now) }
+fn arena_of<'t>(policy: &Policy, known: &mut Known<'t>, name: &Name<'t>) -> u8
+    requires { AreMeant policy.now known.old.slots }
+    ensures arena { result ≡ or_nobody (arena_number policy.now name.now) }
+    ensures known { AreMeant policy.now known.new.slots }
 {
-    policy.arena(name.as_str()).unwrap_or(NOBODY)
+    known.of(policy, name.as_str()).arena
 }
 
 /// What a command means where a replay stands.
@@ -51,13 +54,21 @@ fn handle_named(handles: &[Option<Handle>], block: BlockName) -> Option<Handle>
 }
 
 /// An allocation.
-fn alloc_meant(policy: &Policy, actor: &Name, arena: &Name, bytes: u64) -> Meaning
-    ensures { result ≡ Meaning.One (Event.Alloc (actor_of policy.now actor.now)
+fn alloc_meant<'t>(
+    policy: &Policy,
+    known: &mut Known<'t>,
+    actor: &Name<'t>,
+    arena: &Name<'t>,
+    bytes: u64,
+) -> Meaning
+    requires { AreMeant policy.now known.old.slots }
+    ensures meaning { result ≡ Meaning.One (Event.Alloc (actor_of policy.now actor.now)
         (or_nobody (arena_number policy.now arena.now)) bytes) }
+    ensures known { AreMeant policy.now known.new.slots }
 {
     Meaning::One(Event::Alloc {
-        actor: actor_of(policy, actor),
-        arena: arena_of(policy, arena),
+        actor: actor_of(policy, known, actor),
+        arena: arena_of(policy, known, arena),
         bytes,
     })
 }
@@ -102,8 +113,15 @@ fn write_meant(actor: Actor, block: Option<Handle>, index: u32, value: u64) -> M
 }
 
 /// What a command means under a policy, where these are the handles that the labels stand for.
-pub(crate) fn meaning_of(policy: &Policy, handles: &[Option<Handle>], command: &Command) -> Meaning
-    ensures { result ≡ meaning_of policy.now handles.now command.now }
+pub(crate) fn meaning_of<'t>(
+    policy: &Policy,
+    known: &mut Known<'t>,
+    handles: &[Option<Handle>],
+    command: &Command<'t>,
+) -> Meaning
+    requires { AreMeant policy.now known.old.slots }
+    ensures meaning { result ≡ meaning_of policy.now handles.now command.now }
+    ensures known { AreMeant policy.now known.new.slots }
 {
     match command {
         Command::Alloc {
@@ -111,9 +129,12 @@ pub(crate) fn meaning_of(policy: &Policy, handles: &[Option<Handle>], command: &
             arena,
             bytes,
             label: _,
-        } => alloc_meant(policy, actor, arena, *bytes),
+        } => alloc_meant(policy, known, actor, arena, *bytes),
         Command::Free { actor, block } => {
-            free_meant(actor_of(policy, actor), handle_named(handles, *block))
+            free_meant(
+                actor_of(policy, known, actor),
+                handle_named(handles, *block),
+            )
         }
         Command::Deliver => Meaning::One(Event::Deliver),
         Command::Take { segment } => Meaning::One(Event::Take { segment: *segment }),
@@ -123,7 +144,7 @@ pub(crate) fn meaning_of(policy: &Policy, handles: &[Option<Handle>], command: &
             block,
             index,
         } => read_meant(
-            actor_of(policy, actor),
+            actor_of(policy, known, actor),
             handle_named(handles, *block),
             *index,
         ),
@@ -133,19 +154,19 @@ pub(crate) fn meaning_of(policy: &Policy, handles: &[Option<Handle>], command: &
             index,
             value,
         } => write_meant(
-            actor_of(policy, actor),
+            actor_of(policy, known, actor),
             handle_named(handles, *block),
             *index,
             *value,
         ),
         Command::Look { actor, place } => Meaning::One(Event::Look {
-            actor: actor_of(policy, actor),
+            actor: actor_of(policy, known, actor),
             place: *place,
         }),
-        Command::List { actor } => Meaning::Listing(actor_of(policy, actor)),
+        Command::List { actor } => Meaning::Listing(actor_of(policy, known, actor)),
         Command::Abandon { segment } => Meaning::One(Event::Abandon { segment: *segment }),
         Command::Refill { arena } => Meaning::One(Event::Refill {
-            arena: arena_of(policy, arena),
+            arena: arena_of(policy, known, arena),
         }),
     }
 }

@@ -2,7 +2,7 @@
 
 ghost use Rattle.std.specs.Prelude.{◌≡◌, ◌+◌, ◌*◌, ◌≤◌, ◌<◌, List, [], ◌∷◌, filter};
 ghost use Rattle.std.specs.List.{range_with_len};
-ghost use Rattle.hg_machine.specs.Steps.{Run};
+ghost use Rattle.hg_choice.specs.ChosenSteps.{Chosen};
 ghost use Rattle.hg_machine.specs.declared.Answer.{Answer};
 ghost use Rattle.hg_place.specs.declared.geometry.TheConstants.{MAX_SEGMENTS};
 ghost use Rattle.hg_replay.specs.Listings.{held_among, held_places, looks};
@@ -37,8 +37,8 @@ fn look<W: Sink>(
     requires worker { worker < core.old.state.policy.workers }
     requires segment { segment < MAX_SEGMENTS }
     requires number { number < SEGMENT_PLACES }
-    ensures same { core.new.state ≡ core.old.state }
-    ensures looked { Looked core.old.state worker actor
+    ensures same { core.new ≡ core.old }
+    ensures looked { Looked core.old worker actor
         ((segment * SEGMENT_PLACES + number) ∷ []) result
         (W.seen out.old) output.old (W.seen out.new) output.new }
     ensures few { result ≤ 1 }
@@ -63,8 +63,8 @@ fn list_segment<W: Sink>(
 ) -> u32
     requires worker { worker < core.old.state.policy.workers }
     requires segment { segment < MAX_SEGMENTS }
-    ensures same { core.new.state ≡ core.old.state }
-    ensures looked { Looked core.old.state worker actor
+    ensures same { core.new ≡ core.old }
+    ensures looked { Looked core.old worker actor
         (range_with_len (segment * SEGMENT_PLACES) SEGMENT_PLACES)
         result (W.seen out.old) output.old (W.seen out.new) output.new }
     ensures few { result ≤ SEGMENT_PLACES }
@@ -87,8 +87,8 @@ fn list_held<W: Sink>(
 ) -> u32
     requires worker { worker < core.old.state.policy.workers }
     requires segment { segment < MAX_SEGMENTS }
-    ensures same { core.new.state ≡ core.old.state }
-    ensures looked { Looked core.old.state worker actor
+    ensures same { core.new ≡ core.old }
+    ensures looked { Looked core.old worker actor
         (held_among core.old.state worker
         (range_with_len (segment * SEGMENT_PLACES) SEGMENT_PLACES))
         result (W.seen out.old) output.old (W.seen out.new) output.new }
@@ -109,8 +109,8 @@ fn list_rows<W: Sink>(
     out: &mut W,
 ) -> u32
     requires { worker < core.old.state.policy.workers }
-    ensures same { core.new.state ≡ core.old.state }
-    ensures looked { Looked core.old.state worker actor (held_places core.old.state worker)
+    ensures same { core.new ≡ core.old }
+    ensures looked { Looked core.old worker actor (held_places core.old.state worker)
         result (W.seen out.old) output.old (W.seen out.new) output.new }
 {
     let mut rows = 0;
@@ -129,9 +129,9 @@ pub(crate) fn list<W: Sink>(
     out: &mut W,
 )
     requires { worker < core.old.state.policy.workers }
-    ensures same { core.new.state ≡ core.old.state }
+    ensures same { core.new ≡ core.old }
     ensures listed { (answers : List Answer)
-        × Run core.old.state (looks core.old.state worker actor) answers core.old.state
+        × Chosen core.old (looks core.old.state worker actor) answers core.old
         × Emits (W.seen out.old) output.old (W.seen out.new) output.new
         (listing_text core.old.state.policy (filter is_row answers)) }
 {

@@ -9,7 +9,7 @@ ghost use Rattle.hg_replay.specs.Writes.{Wrote, StopsIn, IsGiven, Emits};
 
 use crate::replaying::put::{WriteStopped, put};
 use crate::replaying::sink::Sink;
-use crate::replaying::text::{Text, listing_end, push_line, row_back, row_front};
+use crate::replaying::text::{Text, listing_end, push_line, ready_line, row_back, row_front};
 use arrayvec::ArrayVec;
 use hg_machine::{Answer, Row};
 use hg_policy::Policy;
@@ -120,11 +120,14 @@ impl Output {
     {
         match answer {
             Answer::Listed(row) => self.put_row(out, policy, row),
-            _ => {
-                let mut text = Text::new();
-                push_line(&mut text, answer);
-                self.put(out, text.as_str().as_bytes());
-            }
+            _ => match ready_line(answer) {
+                Some(line) => self.put(out, line.as_bytes()),
+                None => {
+                    let mut text = Text::new();
+                    push_line(&mut text, answer);
+                    self.put(out, text.as_str().as_bytes());
+                }
+            },
         }
     }
 

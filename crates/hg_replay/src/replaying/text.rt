@@ -1,13 +1,13 @@
 //! The line of an answer.
 
 ghost use Rattle.std.specs.Prelude.{◌≡◌, ◌+◌, ◌-◌, ◌≤◌, ◌++◌, ◌∷◌, []};
-ghost use Rattle.std.specs.Prelude.{length, replicate, decimal, codes, false};
+ghost use Rattle.std.specs.Prelude.{length, replicate, decimal, codes, MatchOption, true, false};
 ghost use Rattle.arrayvec.specs.ArrayString.{array_string_len};
 ghost use Rattle.hg_machine.specs.Policy.{Policy};
 ghost use Rattle.hg_trace.specs.Printed.{handle_text};
 ghost use Rattle.hg_replay.specs.Text.{rule_text, answer_line, at_left, at_right};
 ghost use Rattle.hg_replay.specs.Text.{listing_end};
-ghost use Rattle.hg_replay.specs.Rows.{is_row};
+ghost use Rattle.hg_replay.specs.Rows.{is_row, has_number};
 
 use arrayvec::ArrayString;
 use hg_machine::{Answer, Rule};
@@ -60,17 +60,40 @@ fn push_tagged(text: &mut Text, word: &str, n: u64)
     text.push_str(digits.format(n));
 }
 
-fn rule_word(rule: Rule) -> &'static str
-    ensures text { result.now ≡ rule_text rule }
-    ensures len { length result.now ≤ 8 }
+/// The line of a denial.
+fn denied_line(rule: Rule) -> &'static str
+    ensures { result.now ≡ codes "denied " ++ rule_text rule ++ 10 ∷ [] }
 {
     match rule {
-        Rule::Stranger => "stranger",
-        Rule::Stale(_) => "stale",
-        Rule::AlreadyFreed => "freed",
-        Rule::ForeignArena => "arena",
-        Rule::NotGranted => "grant",
-        Rule::OverLimit => "limit",
+        Rule::Stranger => "denied stranger\n",
+        Rule::Stale(_) => "denied stale\n",
+        Rule::AlreadyFreed => "denied freed\n",
+        Rule::ForeignArena => "denied arena\n",
+        Rule::NotGranted => "denied grant\n",
+        Rule::OverLimit => "denied limit\n",
+    }
+}
+
+/// The line of an answer with no number in it. Most answers are such, and nothing is built for
+/// them.
+pub(crate) fn ready_line(answer: Answer) -> Option<&'static str>
+    ensures { MatchOption result
+        (has_number answer ≡ true)
+        (λ line. (policy : Policy) → line.now ≡ answer_line policy answer) }
+{
+    match answer {
+        Answer::Done => Some("ok\n"),
+        Answer::Parted => Some("parted\n"),
+        Answer::Denied(rule) => Some(denied_line(rule)),
+        Answer::TooLarge => Some("large\n"),
+        Answer::NoRoom => Some("noroom\n"),
+        Answer::Elsewhere => Some("elsewhere\n"),
+        Answer::OutOfBlock => Some("range\n"),
+        Answer::Busy => Some("busy\n"),
+        Answer::NothingInHand => Some("empty\n"),
+        Answer::NotHeld => Some("notheld\n"),
+        Answer::NoSegment => Some("nosegment\n"),
+        _ => None,
     }
 }
 
@@ -81,15 +104,6 @@ fn push_block(text: &mut Text, handle: Handle)
 {
     text.push_str("ok ");
     push_handle(text, handle);
-}
-
-fn push_denied(text: &mut Text, rule: Rule)
-    requires { text.old.bytes ≡ [] }
-    ensures bytes { text.new.bytes ≡ codes "denied " ++ rule_text rule }
-    ensures len { array_string_len text.new ≤ 15 }
-{
-    text.push_str("denied ");
-    text.push_str(rule_word(rule));
 }
 
 fn push_blanks(text: &mut Text, n: usize)
@@ -141,30 +155,20 @@ pub(crate) fn listing_end(rows: u32) -> Text
     text
 }
 
-/// Appends the line of an answer that is no row to an empty text.
+/// Appends the line of an answer with a number in it, but for a row, to an empty text.
 pub(crate) fn push_line(text: &mut Text, answer: Answer)
     requires empty { text.old.bytes ≡ [] }
+    requires numbered { has_number answer ≡ true }
     requires other { is_row answer ≡ false }
     ensures { (policy : Policy) → text.new.bytes ≡ answer_line policy answer }
 {
     match answer {
         Answer::Block(handle) => push_block(text, handle),
-        Answer::Done => text.push_str("ok"),
-        Answer::Parted => text.push_str("parted"),
         Answer::Value(n) => push_tagged(text, "word ", n),
         Answer::Taken(n) => push_tagged(text, "taken ", u64::from(n)),
         Answer::Pages(n) => push_tagged(text, "pages ", u64::from(n)),
         Answer::Refilled(segment) => push_tagged(text, "segment ", u64::from(segment)),
-        Answer::Listed(_) => unreachable!(),
-        Answer::Denied(rule) => push_denied(text, rule),
-        Answer::TooLarge => text.push_str("large"),
-        Answer::NoRoom => text.push_str("noroom"),
-        Answer::Elsewhere => text.push_str("elsewhere"),
-        Answer::OutOfBlock => text.push_str("range"),
-        Answer::Busy => text.push_str("busy"),
-        Answer::NothingInHand => text.push_str("empty"),
-        Answer::NotHeld => text.push_str("notheld"),
-        Answer::NoSegment => text.push_str("nosegment"),
+        _ => unreachable!(),
     }
     text.push_str("\n");
 }

@@ -2,7 +2,7 @@
 
 ghost use Rattle.std.specs.Prelude.{◌<◌, ◌≤◌};
 
-use crate::replaying::text::{Text, push_line};
+use crate::replaying::text::{Text, push_line, ready_line};
 use hg_machine::{Answer, Rule};
 use hg_place::{Handle, Place};
 use std::process::Abort;
@@ -10,11 +10,14 @@ use std::process::Abort;
 fn shows(rt: &impl Abort, answer: Answer, want: &str) {
     match answer {
         Answer::Listed(_) => {}
-        _ => {
-            let mut text = Text::new();
-            push_line(&mut text, answer);
-            assert_eq!(rt; text.as_str(), want);
-        }
+        _ => match ready_line(answer) {
+            Some(line) => assert_eq!(rt; line, want),
+            None => {
+                let mut text = Text::new();
+                push_line(&mut text, answer);
+                assert_eq!(rt; text.as_str(), want);
+            }
+        },
     }
 }
 

@@ -13,5 +13,5 @@ replay_on-requires-clause-workers g c =
     λ k d within.
     let below : (get_or lines k d).worker < workers =
     workers_below workers lines none k d (subst (λ ls. k < length ls) c.lines-in-Ok-start.ensures within) in
-    subst (λ s. (get_or c.lines-in-Ok-start.result.now k d).worker < s.policy.workers) (sym c.in-Ok-start.ensures.opening)
+    subst (λ core. (get_or c.lines-in-Ok-start.result.now k d).worker < core.state.policy.workers) (sym c.in-Ok-start.ensures.opened)
     (subst (λ ls. (get_or ls k d).worker < workers) (sym c.lines-in-Ok-start.ensures) below)

@@ -12,10 +12,10 @@ returns-in-One-clause-answered g c =
     let handles = c.args.handles.now.items in
     let line = c.args.line.now in
     let meant : meaning_of s.policy handles line.command ≡ meaning.One c.in-One.event =
-    sym (c.in-One.ensures ∙ (ap (λ p. meaning_of p c.deref.result.now line.command) c.policy.ensures.value ∙ ap (λ hs. meaning_of s.policy hs line.command) c.deref.ensures.value)) in (
+    sym (c.in-One.ensures.meaning ∙ (ap (λ p. meaning_of p c.deref.result.now line.command) c.policy.ensures.value ∙ ap (λ hs. meaning_of s.policy hs line.command) c.deref.ensures.value)) in (
       answer_line s.policy c.serve-answer.result,
-      one_answered (record { state = s; handles = handles }) line c.in-One.event c.serve-answer.result c.serve-answer.new.core.state
-          c.note.new.handles.items meant c.serve-answer.ensures.step c.note.ensures.handles,
+      one_answered (record { kept = c.args.core.now; handles = handles }) line c.in-One.event c.serve-answer.result c.serve-answer.new.core
+          c.note.new.handles.items meant c.serve-answer.ensures.chosen c.note.ensures.handles,
       c.serve-answer.ensures.given,
     )
 
@@ -25,10 +25,10 @@ returns-in-Listing-clause-answered g c =
     let handles = c.args.handles.now.items in
     let line = c.args.line.now in
     let meant : meaning_of s.policy handles line.command ≡ meaning.Listing c.in-Listing.actor =
-    sym (c.in-Listing.ensures ∙ (ap (λ p. meaning_of p c.deref.result.now line.command) c.policy.ensures.value ∙ ap (λ hs. meaning_of s.policy hs line.command) c.deref.ensures.value)) in
-    let (answers, run, given) = c.list.ensures.listed in (
+    sym (c.in-Listing.ensures.meaning ∙ (ap (λ p. meaning_of p c.deref.result.now line.command) c.policy.ensures.value ∙ ap (λ hs. meaning_of s.policy hs line.command) c.deref.ensures.value)) in
+    let (answers, chosen, given) = c.list.ensures.listed in (
       listing_text s.policy (filter is_row answers),
-      listing_answered (record { state = s; handles = handles }) line c.in-Listing.actor answers c.list.new.core.state meant c.list.ensures.same run,
+      listing_answered (record { kept = c.args.core.now; handles = handles }) line c.in-Listing.actor answers c.list.new.core meant c.list.ensures.same chosen,
       given,
     )
 
@@ -38,5 +38,5 @@ returns-in-Unbound-clause-answered g c =
     let handles = c.args.handles.now.items in
     let line = c.args.line.now in
     let meant : meaning_of s.policy handles line.command ≡ meaning.Unbound =
-    sym (c.in-Unbound.ensures ∙ (ap (λ p. meaning_of p c.deref.result.now line.command) c.policy.ensures.value ∙ ap (λ hs. meaning_of s.policy hs line.command) c.deref.ensures.value)) in
-    (_, unbound_answered (record { state = s; handles = handles }) line meant, c.put.ensures)
+    sym (c.in-Unbound.ensures.meaning ∙ (ap (λ p. meaning_of p c.deref.result.now line.command) c.policy.ensures.value ∙ ap (λ hs. meaning_of s.policy hs line.command) c.deref.ensures.value)) in
+    (_, unbound_answered (record { kept = c.args.core.now; handles = handles }) line meant, c.put.ensures)

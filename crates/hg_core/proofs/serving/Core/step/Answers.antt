@@ -1,21 +1,17 @@
-use Rattle.std.proofs.Common.{◌<◌, [], sym, subst}
-use Rattle.hg_machine.specs.Steps.{Step}
-use Rattle.hg_machine.specs.Soundness.{IsSound}
-use Rattle.hg_machine.proofs.Preserves.{steps_keep_sound}
-use Rattle.hg_machine.proofs.Plain.{each_has_lists}
 use Rattle.hg_core.proofs.serving.Core.step.Goals as goal
 
--- a worker of the policy
-worker_is : (c : goal.After-serve) → c.args.worker < c.self.inside.store.policy.workers
-worker_is c = subst (λ k. c.args.worker < k.state.policy.workers) (sym c.self.view_is) c.requires.worker
+pub returns-in-Alloc-clause-step : goal.returns-in-Alloc-clause-step
+returns-in-Alloc-clause-step c =
+    rw (c.in-Alloc.is, c.alloc_answer.ensures) c.alloc.ensures.step
 
-pub invariant_of-self : goal.invariant_of-self
-invariant_of-self c = steps_keep_sound c.self.inside.store c.args.worker c.args.event c.serve.result c.serve.new.store c.self.invariant (worker_is c) c.serve.ensures
+pub returns-in-Alloc-clause-chosen : goal.returns-in-Alloc-clause-chosen
+returns-in-Alloc-clause-chosen c =
+    rw (c.in-Alloc.is, c.alloc_answer.ensures) c.alloc.ensures.chosen
 
-pub returns-clause-kept : goal.returns-clause-kept
-returns-clause-kept c =
-    let sound : IsSound c.serve.new.store = steps_keep_sound c.self.inside.store c.args.worker c.args.event c.serve.result c.serve.new.store c.self.invariant (worker_is c) c.serve.ensures in
-    (sound, each_has_lists c.serve.new.store [] sound)
+pub returns-in-Look-clause-step : goal.returns-in-Look-clause-step
+returns-in-Look-clause-step c =
+    rw (c.in-Look.is, c.look_answer.ensures) c.look.ensures.step
 
-pub returns-clause-step : goal.returns-clause-step
-returns-clause-step c = subst (λ k. Step k.state c.args.worker c.args.event c.serve.result c.serve.new.store) c.self.view_is c.serve.ensures
+pub returns-in-Look-clause-chosen : goal.returns-in-Look-clause-chosen
+returns-in-Look-clause-chosen c =
+    rw (c.in-Look.is, c.look_answer.ensures) c.look.ensures.chosen

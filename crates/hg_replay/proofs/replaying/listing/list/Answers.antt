@@ -16,7 +16,7 @@ returns-clause-listed g c =
     let end : Emits (seen mid.out) mid.output (seen last.out) last.self (listing_end (length lines)) =
     subst (λ n. Emits (seen mid.out) mid.output (seen last.out) last.self (listing_end n)) looked.counted c.put_listing_end.ensures in (
       looked.answers,
-      looked.run,
+      looked.chosen,
       emits_then (seen c.args.out.now) (seen mid.out) (seen last.out) c.args.output.now mid.output last.self
           (answer_lines s.policy lines) (listing_end (length lines)) looked.given end,
     )

@@ -9,9 +9,9 @@ abbrev pub invariant-loop-segment : goal.invariant-loop-segment
 invariant-loop-segment g l =
     let seen = g.W.Sink.seen in
     record {
-      same : l.core.state ≡ l.fn.core.state;
+      same : l.core ≡ l.fn.core;
       looked :
-          Looked l.fn.core.state l.fn.worker l.fn.actor
+          Looked l.fn.core l.fn.worker l.fn.actor
           (held_among l.fn.core.state l.fn.worker (range_with_len 0 (l.segment * 8192))) l.rows (seen l.fn.out) l.fn.output (seen l.out) l.output;
       few : l.rows ≤ l.segment * 8192;
     }

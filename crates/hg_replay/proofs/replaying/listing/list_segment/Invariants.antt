@@ -8,9 +8,9 @@ abbrev pub invariant-loop-number : goal.invariant-loop-number
 invariant-loop-number g l =
     let seen = g.W.Sink.seen in
     record {
-      same : l.core.state ≡ l.fn.core.state;
+      same : l.core ≡ l.fn.core;
       looked :
-          Looked l.fn.core.state l.fn.worker l.fn.actor (range_with_len (l.fn.segment * 8192) l.number) l.rows (seen l.fn.out) l.fn.output
+          Looked l.fn.core l.fn.worker l.fn.actor (range_with_len (l.fn.segment * 8192) l.number) l.rows (seen l.fn.out) l.fn.output
           (seen l.out) l.output;
       few : l.rows ≤ l.number;
     }

@@ -1,4 +1,4 @@
-use Rattle.std.proofs.Common.{◌≡◌, [], true}
+use Rattle.std.proofs.Common.{[]}
 use Rattle.hg_replay.specs.Writes.{Emits}
 use Rattle.hg_replay.proofs.Writes.{emits_then}
 use Rattle.hg_replay.proofs.replaying.output.Output.put.Goals as goal

@@ -1,4 +1,4 @@
-use Rattle.std.proofs.Common.{◌≡◌, true, refl, rules}
+use Rattle.std.proofs.Common.{true, refl, rules}
 use Rattle.hg_replay.specs.declared.replaying.output.Output.{Output}
 use Rattle.hg_replay.specs.Writes.{Wrote, StopsIn}
 use Rattle.hg_replay.proofs.Writes.{emits_after_stop, emits_written, emits_stopped}

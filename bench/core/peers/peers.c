@@ -1,0 +1,209 @@
+// The cases of bench/core on an allocator of C: glibc's, or with -DMIMALLOC mimalloc's.
+//     peers CASE THREADS MS [OPS]
+// prints the line that bench/core prints. What is freed elsewhere is freed by a second thread, and
+// neither thread's waiting is counted: a batch is given out by one and freed by the other.
+#define _GNU_SOURCE
+#include <pthread.h>
+#include <sched.h>
+#include <stdatomic.h>
+#include <stdbool.h>
+#include <stdint.h>
+#include <stdio.h>
+#include <stdlib.h>
+#include <string.h>
+#include <time.h>
+#include <unistd.h>
+#ifdef MIMALLOC
+#include <mimalloc.h>
+#define NAME "mimalloc"
+#define GIVE mi_malloc
+#define FREE mi_free
+#else
+#define NAME "glibc"
+#define GIVE malloc
+#define FREE free
+#endif
+
+enum { LIVE = 2000, ORDER = 4096, LIFO = 100, ROUND = 2000, MEMORY = 174080 };
+
+static uint64_t state = 0x2545f4914f6cdd1du;
+static uint64_t *live[LIVE];
+static uint64_t *kept[MEMORY];
+static uint16_t order[ORDER];
+
+// xorshift, the same numbers as in the other programs
+static uint64_t next(void) {
+    state ^= state << 13;
+    state ^= state >> 7;
+    state ^= state << 17;
+    return state;
+}
+
+static size_t block(void) { return (next() >> 32) % LIVE; }
+
+static size_t bytes(void) {
+    uint64_t number = next(), low = 8u << ((number >> 48) % 6);
+    return low + ((number >> 20) & (low - 1));
+}
+
+static void *give(size_t size) {
+    void *p = GIVE(size);
+    if (!p) abort();
+    return p;
+}
+
+static uint64_t clock_of(clockid_t clock) {
+    struct timespec t;
+    clock_gettime(clock, &t);
+    return (uint64_t)t.tv_sec * 1000000000u + (uint64_t)t.tv_nsec;
+}
+
+static uint64_t now(void) { return clock_of(CLOCK_THREAD_CPUTIME_ID); }
+
+static void fill(bool mixed) {
+    for (size_t i = 0; i < LIVE; i++) {
+        live[i] = give(mixed ? bytes() : 24);
+        *live[i] = i;
+    }
+    for (size_t i = 0; i < ORDER; i++) order[i] = (uint16_t)block();
+}
+
+// Each does so many operations, and gives what they came to.
+
+static uint64_t pairs(uint64_t count) {
+    for (uint64_t i = 0; i < count; i++) {
+        volatile uint64_t *p = give(24);
+        *p = i;
+        FREE((void *)p);
+    }
+    return count;
+}
+
+static uint64_t lifo(uint64_t count) {
+    static void *stack[LIFO];
+    for (uint64_t done = 0; done < count; done += LIFO) {
+        for (size_t i = 0; i < LIFO; i++) stack[i] = give(24);
+        for (size_t i = LIFO; i-- > 0;) FREE(stack[i]);
+    }
+    return count;
+}
+
+static uint64_t churn(uint64_t count) {
+    for (uint64_t i = 0; i < count; i++) {
+        size_t at = block();
+        FREE(live[at]);
+        live[at] = give(bytes());
+    }
+    return count;
+}
+
+static uint64_t reads(uint64_t count) {
+    uint64_t sum = 0;
+    for (uint64_t done = 0; done < count; done += ORDER)
+        for (size_t i = 0; i < ORDER; i++) sum += *(volatile uint64_t *)live[order[i]];
+    return sum;
+}
+
+static uint64_t writes(uint64_t count) {
+    for (uint64_t done = 0; done < count; done += ORDER)
+        for (size_t i = 0; i < ORDER; i++) *(volatile uint64_t *)live[order[i]] = done + i;
+    return count;
+}
+
+// What the second thread is to free, and when: the number of blocks, 0 while there is nothing to
+// do, -1 at the end.
+static void *sent[ROUND];
+static atomic_long waiting;
+static uint64_t freeing;
+
+static void *freer(void *nothing) {
+    for (;;) {
+        long count;
+        while (!(count = atomic_load(&waiting))) sched_yield();
+        if (count < 0) return nothing;
+        uint64_t start = clock_of(CLOCK_MONOTONIC);
+        for (long i = 0; i < count; i++) FREE(sent[i]);
+        freeing += clock_of(CLOCK_MONOTONIC) - start;
+        atomic_store(&waiting, 0);
+    }
+}
+
+// Gives out a batch and has the other thread free it; the nanoseconds of both.
+static uint64_t remote(uint64_t count, size_t batch) {
+    uint64_t giving = 0, before = freeing;
+    for (uint64_t done = 0; done < count; done += batch) {
+        uint64_t start = clock_of(CLOCK_MONOTONIC);
+        for (size_t i = 0; i < batch; i++) sent[i] = give(24);
+        giving += clock_of(CLOCK_MONOTONIC) - start;
+        atomic_store(&waiting, (long)batch);
+        while (atomic_load(&waiting)) sched_yield();
+    }
+    return giving + freeing - before;
+}
+
+static uint64_t resident(void) {
+    long all, pages;
+    FILE *f = fopen("/proc/self/statm", "r");
+    if (!f || fscanf(f, "%ld %ld", &all, &pages) != 2) exit(1);
+    fclose(f);
+    return (uint64_t)pages * (uint64_t)sysconf(_SC_PAGESIZE);
+}
+
+static volatile uint64_t sink;
+
+static void tell(const char *name, double nanos, uint64_t done) {
+    printf("%s %s 1 %.2f %llu\n", NAME, name, nanos, (unsigned long long)done);
+}
+
+// Runs batches until the time is over, or the number of operations is done.
+static void run(const char *name, uint64_t (*kind)(uint64_t), uint64_t batch, uint64_t span,
+                uint64_t ops) {
+    uint64_t done = 0, start = now(), spent = 0;
+    do {
+        sink = kind(batch);
+        done += batch;
+        spent = now() - start;
+    } while (ops ? done < ops : spent < span);
+    tell(name, (double)spent / (double)done, done);
+}
+
+static void run_remote(const char *name, size_t batch, uint64_t span, uint64_t ops) {
+    pthread_t other;
+    if (pthread_create(&other, NULL, freer, NULL)) exit(1);
+    uint64_t done = 0, spent = 0, start = clock_of(CLOCK_MONOTONIC);
+    do {
+        spent += remote(32000, batch);
+        done += 32000;
+    } while (ops ? done < ops : clock_of(CLOCK_MONOTONIC) - start < span);
+    atomic_store(&waiting, -1);
+    pthread_join(other, NULL);
+    tell(name, (double)spent / (double)done, done);
+}
+
+int main(int count, char **words) {
+    if (count < 4 || strcmp(words[2], "1")) {
+        fputs("usage: peers CASE 1 MS [OPS]\n", stderr);
+        return 2;
+    }
+    const char *name = words[1];
+    uint64_t span = strtoull(words[3], NULL, 10) * 1000000u;
+    uint64_t ops = count > 4 ? strtoull(words[4], NULL, 10) : 0;
+    if (!strcmp(name, "mem")) {
+        memset(kept, 1, sizeof kept);
+        uint64_t before = resident();
+        for (size_t i = 0; i < MEMORY; i++) *(kept[i] = give(24)) = i;
+        tell(name, (double)(resident() - before) / MEMORY, MEMORY);
+        return 0;
+    }
+    bool mixed = !strcmp(name, "churn");
+    if (mixed || !strcmp(name, "read") || !strcmp(name, "write")) fill(mixed);
+    if (!strcmp(name, "pair")) run(name, pairs, ORDER, span, ops);
+    else if (!strcmp(name, "lifo")) run(name, lifo, 4100, span, ops);
+    else if (!strcmp(name, "churn")) run(name, churn, ORDER, span, ops);
+    else if (!strcmp(name, "read")) run(name, reads, ORDER, span, ops);
+    else if (!strcmp(name, "write")) run(name, writes, ORDER, span, ops);
+    else if (!strcmp(name, "remote")) run_remote(name, ROUND, span, ops);
+    else if (!strcmp(name, "remote64")) run_remote(name, 64, span, ops);
+    else return 3;
+    return 0;
+}

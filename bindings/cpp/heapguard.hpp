@@ -1,0 +1,172 @@
+// heapguard.hpp: heapguard's core as a class of C++17 that closes what it opened. The duties at the
+// head of heapguard.h are its caller's too, but for those on the 16 bytes of a core: a moved-from
+// Core is a closed one.
+#ifndef HEAPGUARD_HPP
+#define HEAPGUARD_HPP
+
+#include "heapguard.h"
+
+#include <cstddef>
+#include <cstdint>
+#include <optional>
+#include <stdexcept>
+#include <string>
+#include <string_view>
+#include <utility>
+
+namespace heapguard {
+
+using Handle = hg_handle;
+using Reply = hg_reply;
+
+/// The handle as it is written, `@segment.page.index.generation`.
+inline std::string to_string(Handle block)
+{
+    return "@" + std::to_string(hg_segment_of(block)) + "."
+        + std::to_string(hg_page_of(block)) + "." + std::to_string(hg_index_of(block)) + "."
+        + std::to_string(hg_generation_of(block));
+}
+
+#ifdef __cpp_exceptions
+/// Why a text is no policy. Its text is the line that heapguard tells.
+class PolicyFault : public std::runtime_error {
+public:
+    PolicyFault(std::uint16_t status, const std::string &line)
+        : std::runtime_error(line), status_(status) {}
+    /// One of HG_NOT_TOML to HG_NO_MEMORY.
+    std::uint16_t status() const noexcept { return status_; }
+
+private:
+    std::uint16_t status_;
+};
+#endif
+
+/// A core. One call at a time may be made on it.
+class Core {
+public:
+    /// A closed one, which answers HG_CLOSED.
+    Core() noexcept = default;
+
+#ifdef __cpp_exceptions
+    /// Opens by the text of a policy, or throws its first fault.
+    explicit Core(std::string_view policy)
+    {
+        std::string line;
+        Reply opened = open(policy, line);
+        if (opened.status != HG_DONE) throw PolicyFault(opened.status, line);
+    }
+#endif
+
+    Core(const Core &) = delete;
+    Core &operator=(const Core &) = delete;
+
+    Core(Core &&other) noexcept : core_(std::exchange(other.core_, hg_core HG_CORE_INIT)) {}
+
+    Core &operator=(Core &&other) noexcept
+    {
+        if (this != &other) {
+            hg_close(&core_);
+            core_ = std::exchange(other.core_, hg_core HG_CORE_INIT);
+        }
+        return *this;
+    }
+
+    ~Core() { hg_close(&core_); }
+
+    /// Opens a closed one by the text of a policy; with a fault, `line` is the line that tells it,
+    /// as far as 1,024 bytes go.
+    Reply open(std::string_view policy, std::string &line)
+    {
+        char room[1024];
+        Reply opened = hg_open(&core_, policy.data(), policy.size(), room, sizeof room);
+        line.assign(room, static_cast<std::size_t>(opened.value));
+        return opened;
+    }
+
+    Reply close() noexcept { return hg_close(&core_); }
+
+    Reply alloc(std::uint8_t worker, std::uint8_t actor, std::uint8_t arena, std::uint64_t bytes)
+    {
+        return hg_alloc(&core_, worker, actor, arena, bytes);
+    }
+
+    Reply free(std::uint8_t worker, std::uint8_t actor, Handle block)
+    {
+        return hg_free(&core_, worker, actor, block);
+    }
+
+    Reply deliver(std::uint8_t worker) { return hg_deliver(&core_, worker); }
+
+    Reply take(std::uint8_t worker, std::uint8_t segment)
+    {
+        return hg_take(&core_, worker, segment);
+    }
+
+    Reply collect(std::uint8_t worker) { return hg_collect(&core_, worker); }
+
+    Reply read(std::uint8_t worker, std::uint8_t actor, Handle block, std::uint32_t index)
+    {
+        return hg_read(&core_, worker, actor, block, index);
+    }
+
+    Reply write(std::uint8_t worker, std::uint8_t actor, Handle block, std::uint32_t index,
+                std::uint64_t value)
+    {
+        return hg_write(&core_, worker, actor, block, index, value);
+    }
+
+    /// `place` is hg_place_of a handle.
+    Reply look(std::uint8_t worker, std::uint8_t actor, std::uint32_t place)
+    {
+        return hg_look(&core_, worker, actor, place);
+    }
+
+    Reply abandon(std::uint8_t worker, std::uint8_t segment)
+    {
+        return hg_abandon(&core_, worker, segment);
+    }
+
+    Reply refill(std::uint8_t worker, std::uint8_t arena)
+    {
+        return hg_refill(&core_, worker, arena);
+    }
+
+    /// How many workers there are, 0 where it is closed.
+    std::uint8_t workers() { return static_cast<std::uint8_t>(hg_workers(&core_).value); }
+
+    bool holds(std::uint8_t worker, std::uint8_t segment)
+    {
+        return hg_holds(&core_, worker, segment).value == 1;
+    }
+
+    std::optional<std::uint8_t> tenant(std::string_view name)
+    {
+        return number(hg_tenant(&core_, name.data(), name.size()));
+    }
+
+    std::optional<std::uint8_t> arena(std::string_view name)
+    {
+        return number(hg_arena(&core_, name.data(), name.size()));
+    }
+
+    std::optional<std::string> tenant_name(std::uint8_t tenant)
+    {
+        char room[16];
+        Reply told = hg_tenant_name(&core_, tenant, room, sizeof room);
+        if (told.status != HG_VALUE) return std::nullopt;
+        return std::string(room, static_cast<std::size_t>(told.value));
+    }
+
+private:
+    static std::optional<std::uint8_t> number(Reply told)
+    {
+        if (told.status != HG_VALUE) return std::nullopt;
+        return static_cast<std::uint8_t>(told.value);
+    }
+
+    hg_core core_ HG_CORE_INIT;
+};
+
+} // namespace heapguard
+
+#endif

@@ -1,0 +1,20 @@
+//! Links the library that `bin/build-lib` leaves: in the folder HEAPGUARD_LIB, or in out/lib of the
+//! repository that this crate stands in.
+
+use std::env;
+use std::path::PathBuf;
+
+fn main() {
+    let folder = env::var_os("HEAPGUARD_LIB").map_or_else(
+        || PathBuf::from(env::var_os("CARGO_MANIFEST_DIR").unwrap()).join("../../out/lib"),
+        PathBuf::from,
+    );
+    println!("cargo:rerun-if-env-changed=HEAPGUARD_LIB");
+    println!(
+        "cargo:rerun-if-changed={}",
+        folder.join("libhg.a").display()
+    );
+    println!("cargo:rustc-link-search=native={}", folder.display());
+    println!("cargo:rustc-link-lib=static=hg");
+    println!("cargo:rustc-link-lib=static=hg_malloc");
+}

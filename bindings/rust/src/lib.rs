@@ -1,0 +1,244 @@
+//! heapguard's core in a Rust program: blocks of a memory of its own that tenants share under a
+//! written policy, named by handles and never by addresses.
+//!
+//! ```
+//! use heapguard::{Core, Refusal, Rule};
+//!
+//! let mut core = Core::open(
+//!     "version = 1
+//!      workers = 1
+//!      tenant = [ {name = \"alice\", limit = 8192}, {name = \"bob\", limit = 64} ]
+//!      arena = [ {name = \"main\", segments = 1} ]",
+//! )?;
+//! let (alice, bob) = (core.tenant("alice").unwrap(), core.tenant("bob").unwrap());
+//! core.refill(0, 0).unwrap();
+//! let block = core.alloc(0, alice, 0, 24).unwrap();
+//! core.write(0, alice, block, 1, 42).unwrap();
+//! assert_eq!(core.read(0, alice, block, 1), Ok(42));
+//! assert_eq!(core.read(0, bob, block, 1), Err(Refusal::Denied(Rule::NotGranted)));
+//! # Ok::<(), heapguard::OpenError>(())
+//! ```
+//!
+//! All calls are safe. What the library proves of each is in `crates/hg_c/README.md`.
+
+mod handle;
+mod raw;
+mod refusal;
+
+pub use handle::{Handle, NoHandle, Place};
+pub use refusal::{FaultKind, OpenError, PolicyFault, Refusal, Rule};
+
+use raw::{RawCore, RawReply};
+use std::cell::UnsafeCell;
+
+/// Room for the line that tells a policy's fault; a longer one is cut.
+const LINE_ROOM: usize = 1024;
+
+/// What became of a block that was freed.
+#[derive(Clone, Copy, Debug, PartialEq, Eq)]
+pub enum Freed {
+    /// Its place is home.
+    Here,
+    /// The worker doesn't hold its segment, and has the place in hand.
+    InHand,
+}
+
+/// A block that is listed.
+#[derive(Clone, Copy, Debug, PartialEq, Eq)]
+pub struct Row {
+    pub handle: Handle,
+    /// The number of the tenant whose block it is.
+    pub owner: u8,
+    pub bytes: u32,
+}
+
+/// An open core. It may go to another thread, and one thread at a time has it.
+pub struct Core {
+    // Each call takes what the fields point to out and puts it back, questions too.
+    raw: UnsafeCell<RawCore>,
+}
+
+// SAFETY: crates/hg_c proves `Send` of the type behind these fields.
+unsafe impl Send for Core {}
+
+impl Core {
+    /// Opens a core by the text of its policy.
+    pub fn open(policy: &str) -> Result<Core, OpenError> {
+        let mut raw = RawCore::closed();
+        let mut room = [0; LINE_ROOM];
+        // SAFETY: the core is closed and this call's alone; pointers and lengths are those of
+        // slices that are borrowed for the call.
+        let reply = unsafe {
+            raw::hg_open(
+                &mut raw,
+                policy.as_ptr(),
+                policy.len(),
+                room.as_mut_ptr(),
+                room.len(),
+            )
+        };
+        if reply.status == raw::DONE {
+            return Ok(Core {
+                raw: UnsafeCell::new(raw),
+            });
+        }
+        Err(OpenError::of(reply.status, &room[..reply.value as usize]))
+    }
+
+    /// Asks for a block of so many bytes, whose words are 0.
+    pub fn alloc(
+        &mut self,
+        worker: u8,
+        actor: u8,
+        arena: u8,
+        bytes: u64,
+    ) -> Result<Handle, Refusal> {
+        let call = |core| unsafe { raw::hg_alloc(core, worker, actor, arena, bytes) };
+        handle_of(self.serve(raw::BLOCK, call)?)
+    }
+
+    /// Frees a block.
+    pub fn free(&mut self, worker: u8, actor: u8, block: Handle) -> Result<Freed, Refusal> {
+        let call = |core| unsafe { raw::hg_free(core, worker, actor, block.to_u64()) };
+        let reply = self.ask(call);
+        match reply.status {
+            raw::DONE => Ok(Freed::Here),
+            raw::PARTED => Ok(Freed::InHand),
+            _ => Err(Refusal::of(reply)),
+        }
+    }
+
+    /// Sends what the worker has in hand to those who hold its segment.
+    pub fn deliver(&mut self, worker: u8) -> Result<(), Refusal> {
+        let call = |core| unsafe { raw::hg_deliver(core, worker) };
+        self.serve(raw::DONE, call).map(drop)
+    }
+
+    /// Takes home what was sent to a segment that the worker holds, and tells how many places came.
+    pub fn take(&mut self, worker: u8, segment: u8) -> Result<u64, Refusal> {
+        let call = |core| unsafe { raw::hg_take(core, worker, segment) };
+        Ok(self.serve(raw::TAKEN, call)?.value)
+    }
+
+    /// Takes the class from each of the worker's pages that has no block, and tells from how many.
+    pub fn collect(&mut self, worker: u8) -> Result<u64, Refusal> {
+        let call = |core| unsafe { raw::hg_collect(core, worker) };
+        Ok(self.serve(raw::PAGES, call)?.value)
+    }
+
+    /// Reads a word of a block.
+    pub fn read(
+        &mut self,
+        worker: u8,
+        actor: u8,
+        block: Handle,
+        index: u32,
+    ) -> Result<u64, Refusal> {
+        let call = |core| unsafe { raw::hg_read(core, worker, actor, block.to_u64(), index) };
+        Ok(self.serve(raw::VALUE, call)?.value)
+    }
+
+    /// Writes a word of a block.
+    pub fn write(
+        &mut self,
+        worker: u8,
+        actor: u8,
+        block: Handle,
+        index: u32,
+        value: u64,
+    ) -> Result<(), Refusal> {
+        let word = block.to_u64();
+        let call = |core| unsafe { raw::hg_write(core, worker, actor, word, index, value) };
+        self.serve(raw::DONE, call).map(drop)
+    }
+
+    /// Looks at the block that stands at a place.
+    pub fn look(&mut self, worker: u8, actor: u8, place: Place) -> Result<Row, Refusal> {
+        let call = |core| unsafe { raw::hg_look(core, worker, actor, place.number()) };
+        let reply = self.serve(raw::LISTED, call)?;
+        Ok(Row {
+            handle: handle_of(reply)?,
+            owner: reply.owner as u8,
+            bytes: reply.detail,
+        })
+    }
+
+    /// Gives up a segment that the worker holds.
+    pub fn abandon(&mut self, worker: u8, segment: u8) -> Result<(), Refusal> {
+        let call = |core| unsafe { raw::hg_abandon(core, worker, segment) };
+        self.serve(raw::DONE, call).map(drop)
+    }
+
+    /// Takes a segment of an arena that nobody holds, and tells which.
+    pub fn refill(&mut self, worker: u8, arena: u8) -> Result<u8, Refusal> {
+        let call = |core| unsafe { raw::hg_refill(core, worker, arena) };
+        Ok(self.serve(raw::REFILLED, call)?.value as u8)
+    }
+
+    /// How many workers there are.
+    pub fn workers(&self) -> u8 {
+        self.ask(|core| unsafe { raw::hg_workers(core) }).value as u8
+    }
+
+    /// Whether the worker holds the segment.
+    pub fn holds(&self, worker: u8, segment: u8) -> bool {
+        self.ask(|core| unsafe { raw::hg_holds(core, worker, segment) })
+            .value
+            == 1
+    }
+
+    /// The number of the tenant of this name.
+    pub fn tenant(&self, name: &str) -> Option<u8> {
+        named(self.ask(|core| unsafe { raw::hg_tenant(core, name.as_ptr(), name.len()) }))
+    }
+
+    /// The number of the arena of this name.
+    pub fn arena(&self, name: &str) -> Option<u8> {
+        named(self.ask(|core| unsafe { raw::hg_arena(core, name.as_ptr(), name.len()) }))
+    }
+
+    /// The name of the tenant of this number.
+    pub fn tenant_name(&self, tenant: u8) -> Option<String> {
+        let mut room = [0; 16];
+        let told = self.ask(|core| unsafe {
+            raw::hg_tenant_name(core, tenant, room.as_mut_ptr(), room.len())
+        });
+        let length = named(told)?;
+        Some(String::from_utf8_lossy(&room[..usize::from(length)]).into_owned())
+    }
+
+    /// Makes one call on the core. It is open and stays so, and nothing else reaches it meanwhile:
+    /// `Core` is not `Sync`, and no call calls back.
+    fn ask(&self, call: impl FnOnce(*mut RawCore) -> RawReply) -> RawReply {
+        call(self.raw.get())
+    }
+
+    /// Makes a call, and gives its reply where it has that status.
+    fn serve(
+        &mut self,
+        status: u16,
+        call: impl FnOnce(*mut RawCore) -> RawReply,
+    ) -> Result<RawReply, Refusal> {
+        let reply = self.ask(call);
+        if reply.status == status {
+            Ok(reply)
+        } else {
+            Err(Refusal::of(reply))
+        }
+    }
+}
+
+impl Drop for Core {
+    fn drop(&mut self) {
+        // SAFETY: the core is this value's alone, and isn't used again.
+        unsafe { raw::hg_close(self.raw.get_mut()) };
+    }
+}
+
+fn handle_of(raw: RawReply) -> Result<Handle, Refusal> {
+    Handle::from_u64(raw.value).ok_or(Refusal::Other(raw.status))
+}
+
+fn named(told: RawReply) -> Option<u8> {
+    (told.status == raw::VALUE).then_some(told.value as u8)
+}

@@ -1,0 +1,73 @@
+//! The calls of `include/heapguard.h`.
+
+/// The 16 bytes of a core, which the library alone looks into.
+#[repr(C)]
+pub struct RawCore {
+    at: *mut u8,
+    mark: u64,
+}
+
+impl RawCore {
+    pub fn closed() -> RawCore {
+        RawCore {
+            at: std::ptr::null_mut(),
+            mark: 0,
+        }
+    }
+}
+
+#[repr(C)]
+#[derive(Clone, Copy)]
+pub struct RawReply {
+    pub status: u16,
+    pub owner: u16,
+    pub detail: u32,
+    pub value: u64,
+}
+
+pub const BLOCK: u16 = 1;
+pub const DONE: u16 = 2;
+pub const PARTED: u16 = 3;
+pub const VALUE: u16 = 4;
+pub const TAKEN: u16 = 5;
+pub const PAGES: u16 = 6;
+pub const REFILLED: u16 = 7;
+pub const LISTED: u16 = 8;
+
+extern "C" {
+    pub fn hg_open(
+        core: *mut RawCore,
+        policy: *const u8,
+        policy_length: usize,
+        room: *mut u8,
+        room_length: usize,
+    ) -> RawReply;
+    pub fn hg_close(core: *mut RawCore) -> RawReply;
+    pub fn hg_alloc(core: *mut RawCore, worker: u8, actor: u8, arena: u8, bytes: u64) -> RawReply;
+    pub fn hg_free(core: *mut RawCore, worker: u8, actor: u8, block: u64) -> RawReply;
+    pub fn hg_deliver(core: *mut RawCore, worker: u8) -> RawReply;
+    pub fn hg_take(core: *mut RawCore, worker: u8, segment: u8) -> RawReply;
+    pub fn hg_collect(core: *mut RawCore, worker: u8) -> RawReply;
+    pub fn hg_read(core: *mut RawCore, worker: u8, actor: u8, block: u64, index: u32) -> RawReply;
+    pub fn hg_write(
+        core: *mut RawCore,
+        worker: u8,
+        actor: u8,
+        block: u64,
+        index: u32,
+        value: u64,
+    ) -> RawReply;
+    pub fn hg_look(core: *mut RawCore, worker: u8, actor: u8, place: u32) -> RawReply;
+    pub fn hg_abandon(core: *mut RawCore, worker: u8, segment: u8) -> RawReply;
+    pub fn hg_refill(core: *mut RawCore, worker: u8, arena: u8) -> RawReply;
+    pub fn hg_workers(core: *mut RawCore) -> RawReply;
+    pub fn hg_holds(core: *mut RawCore, worker: u8, segment: u8) -> RawReply;
+    pub fn hg_tenant(core: *mut RawCore, name: *const u8, name_length: usize) -> RawReply;
+    pub fn hg_arena(core: *mut RawCore, name: *const u8, name_length: usize) -> RawReply;
+    pub fn hg_tenant_name(
+        core: *mut RawCore,
+        tenant: u8,
+        room: *mut u8,
+        room_length: usize,
+    ) -> RawReply;
+}

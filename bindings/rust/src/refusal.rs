@@ -1,0 +1,164 @@
+//! Why something isn't served.
+
+use crate::raw::RawReply;
+use std::fmt;
+
+/// A rule of the policy or of the memory, by the order in which rules refuse.
+#[derive(Clone, Copy, Debug, PartialEq, Eq)]
+pub enum Rule {
+    Stranger,
+    /// The handle is of another life; this generation is there, 0 where none is.
+    Stale {
+        generation: u32,
+    },
+    AlreadyFreed,
+    ForeignArena,
+    NotGranted,
+    OverLimit,
+}
+
+impl fmt::Display for Rule {
+    fn fmt(&self, f: &mut fmt::Formatter<'_>) -> fmt::Result {
+        f.write_str(match self {
+            Rule::Stranger => "stranger",
+            Rule::Stale { .. } => "stale",
+            Rule::AlreadyFreed => "freed",
+            Rule::ForeignArena => "arena",
+            Rule::NotGranted => "grant",
+            Rule::OverLimit => "limit",
+        })
+    }
+}
+
+/// Why an event isn't served. As text it is what heapguard prints.
+#[derive(Clone, Copy, Debug, PartialEq, Eq)]
+pub enum Refusal {
+    Denied(Rule),
+    TooLarge,
+    NoRoom,
+    /// The worker doesn't hold the segment.
+    Elsewhere,
+    /// There is no such word in the block.
+    OutOfBlock,
+    /// The worker has another place in hand.
+    Busy,
+    NothingInHand,
+    NotHeld,
+    NoSegment,
+    NoWorker,
+    /// A status that this crate doesn't know, of a later library.
+    Other(u16),
+}
+
+impl Refusal {
+    pub(crate) fn of(raw: RawReply) -> Refusal {
+        match raw.status {
+            16 => Refusal::TooLarge,
+            17 => Refusal::NoRoom,
+            18 => Refusal::Elsewhere,
+            19 => Refusal::OutOfBlock,
+            20 => Refusal::Busy,
+            21 => Refusal::NothingInHand,
+            22 => Refusal::NotHeld,
+            23 => Refusal::NoSegment,
+            32 => Refusal::Denied(Rule::Stranger),
+            33 => Refusal::Denied(Rule::Stale {
+                generation: raw.detail,
+            }),
+            34 => Refusal::Denied(Rule::AlreadyFreed),
+            35 => Refusal::Denied(Rule::ForeignArena),
+            36 => Refusal::Denied(Rule::NotGranted),
+            37 => Refusal::Denied(Rule::OverLimit),
+            65 => Refusal::NoWorker,
+            other => Refusal::Other(other),
+        }
+    }
+}
+
+impl fmt::Display for Refusal {
+    fn fmt(&self, f: &mut fmt::Formatter<'_>) -> fmt::Result {
+        match self {
+            Refusal::Denied(rule) => write!(f, "denied {rule}"),
+            Refusal::TooLarge => f.write_str("large"),
+            Refusal::NoRoom => f.write_str("noroom"),
+            Refusal::Elsewhere => f.write_str("elsewhere"),
+            Refusal::OutOfBlock => f.write_str("range"),
+            Refusal::Busy => f.write_str("busy"),
+            Refusal::NothingInHand => f.write_str("empty"),
+            Refusal::NotHeld => f.write_str("notheld"),
+            Refusal::NoSegment => f.write_str("nosegment"),
+            Refusal::NoWorker => f.write_str("no such worker"),
+            Refusal::Other(status) => write!(f, "status {status}"),
+        }
+    }
+}
+
+impl std::error::Error for Refusal {}
+
+/// What a fault of a policy is about.
+#[derive(Clone, Copy, Debug, PartialEq, Eq)]
+pub enum FaultKind {
+    NotToml,
+    Missing,
+    Kind,
+    Unknown,
+    Repeated,
+    NoSuchName,
+    TooMany,
+    Version,
+}
+
+/// The first fault of a policy. As text it is the line that heapguard tells.
+#[derive(Clone, Debug, PartialEq, Eq)]
+pub struct PolicyFault {
+    pub kind: FaultKind,
+    line: String,
+}
+
+impl fmt::Display for PolicyFault {
+    fn fmt(&self, f: &mut fmt::Formatter<'_>) -> fmt::Result {
+        f.write_str(&self.line)
+    }
+}
+
+impl std::error::Error for PolicyFault {}
+
+/// Why no core was opened.
+#[derive(Clone, Debug, PartialEq, Eq)]
+pub enum OpenError {
+    Policy(PolicyFault),
+    Memory,
+    /// A status that this crate doesn't know, of a later library.
+    Other(u16),
+}
+
+impl OpenError {
+    pub(crate) fn of(status: u16, line: &[u8]) -> OpenError {
+        let kind = match status {
+            49 => FaultKind::NotToml,
+            50 => FaultKind::Missing,
+            51 => FaultKind::Kind,
+            52 => FaultKind::Unknown,
+            53 => FaultKind::Repeated,
+            54 => FaultKind::NoSuchName,
+            55 => FaultKind::TooMany,
+            56 => FaultKind::Version,
+            57 => return OpenError::Memory,
+            other => return OpenError::Other(other),
+        };
+        let line = String::from_utf8_lossy(line).into_owned();
+        OpenError::Policy(PolicyFault { kind, line })
+    }
+}
+
+impl fmt::Display for OpenError {
+    fn fmt(&self, f: &mut fmt::Formatter<'_>) -> fmt::Result {
+        match self {
+            OpenError::Policy(fault) => fault.fmt(f),
+            OpenError::Memory => f.write_str("no memory"),
+            OpenError::Other(status) => write!(f, "status {status}"),
+        }
+    }
+}
+
+impl std::error::Error for OpenError {}

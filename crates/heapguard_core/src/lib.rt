@@ -1,0 +1,22 @@
+//! heapguard for a host in Rattle: what its calls take and tell, under one name. A host's line of
+//! crates.txt is `host: heapguard_core`, and its clauses and proofs name the definitions as
+//! `Rattle.heapguard_core.specs.Steps` and so on.
+//!
+//! A core is opened by a policy, and serves one event a call:
+//!
+//! ```rust
+//! let policy = read_policy(alloc, text)?;
+//! let mut core = Core::open(alloc, policy)?;
+//! core.refill(0, 0)?;
+//! let block = core.alloc(0, alice, 0, 24)?;
+//! core.write(0, alice, block, 2, 42)?;
+//! ```
+//!
+//! Each call is proved to be a step of the written machine, by the event of its name, and wants a
+//! worker that the policy has: `worker < core.policy().workers()`.
+#![tactic(auto)]
+
+pub use hg_core::{Core, Freed, NoSegment, NotFreed, NotHeld, NothingInHand, Refused};
+pub use hg_machine::{Answer, Event, Row, Rule, laws};
+pub use hg_place::{Actor, Handle, NotAHandle, Place, Right};
+pub use hg_policy::{Counted, Key, Policy, PolicyFault, read_policy};

@@ -1,0 +1,27 @@
+-- Calls on blocks and places that C names by numbers.
+use Rattle.std.proofs.Common.{◌≡◌, ℕ, Bool, true, false, T, sym, ◌∙◌, subst}
+use Rattle.hg_machine.specs.declared.Event.{Event}
+use Rattle.hg_place.specs.declared.Handle.{Handle}
+use Rattle.hg_place.specs.declared.Place.{Place}
+use Rattle.hg_place.specs.Places.{number_of}
+use Rattle.hg_place.specs.HandleWords.{handle_word, is_handle, is_place}
+use Rattle.hg_c.specs.declared.reply.Reply.{Reply}
+use Rattle.hg_c.specs.declared.host_core.HostCore.{HostCore}
+use Rattle.hg_c.specs.Calls.{Serves, ServesOn, ServesAt}
+
+both_ways : {X : Type 0} {b : Bool} → b ≡ true → b ≡ false → X
+both_ways is isnt = absurd (subst T (sym is ∙ isnt) tt)
+
+pub on_handle : {old new : HostCore} {worker word : ℕ} {event : Handle → Event} {reply : Reply} (handle : Handle)
+    → (is_handle word ≡ true) × (word ≡ handle_word handle) → Serves old worker (event handle) reply new → ServesOn old worker word event reply new
+on_handle handle is serves = record {
+  named = λ _. (handle, is.1, serves);
+  unnamed = λ no. both_ways is.0 no;
+}
+
+pub at_place : {old new : HostCore} {worker number : ℕ} {event : Place → Event} {reply : Reply} (place : Place)
+    → (is_place number ≡ true) × (number ≡ number_of place) → Serves old worker (event place) reply new → ServesAt old worker number event reply new
+at_place place is serves = record {
+  named = λ _. (place, is.1, serves);
+  unnamed = λ no. both_ways is.0 no;
+}

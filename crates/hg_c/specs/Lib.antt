@@ -1,0 +1,6 @@
+pub mod Owning
+pub mod Replies
+pub mod Telling
+pub mod Calls
+pub mod Opening
+pub mod Asking

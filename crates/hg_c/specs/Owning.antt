@@ -1,0 +1,47 @@
+-- What a core in a host's hands owns.
+use Rattle.std.specs.Prelude.{ℕ, ◌==◌, Bool, true, false, []}
+use Rattle.hg_machine.specs.Lists.{Kept}
+use Rattle.hg_machine.specs.State.{opening}
+use base.Fml.{Fml, ftrue}
+use denote.RattleType.{RattleType}
+use denote.RawPtr.{Ptr}
+use mir.Syntax.{Ty}
+use Rattle.std.specs.Global.{Global}
+use Rattle.std.specs.contracts.impls.GlobalAllocator.TheImpl.{ghosts}
+use Rattle.std.specs.Box.Ownership.{box_owns}
+
+-- the mark of one that is open
+abbrev pub open_mark : ℕ
+open_mark = 3550334381634438984
+
+-- the program's one heap: its handle holds nothing
+abbrev pub heap : Global
+heap = record { memory = record { seal = tt } }
+
+-- the right to free what lies at a pointer
+abbrev pub may_free : Ty → Ptr → Fml
+may_free = ghosts.dealloc_token heap
+
+abbrev pub when : Bool → Fml → Fml
+when true owned = owned
+when false owned = ftrue
+
+-- with the open mark: a value on the heap, and the right to free it; with any other: nothing
+abbrev pub owns_if_open : (R : RattleType) → ℕ → Ptr → R.Denot → Fml
+owns_if_open R mark at value = when (mark == open_mark) (box_owns may_free R at value)
+
+-- what stands for the core of one that is closed
+abbrev pub no_core : Kept
+no_core = record {
+  state = opening (record {
+    workers = 0;
+    max_generation = 0;
+    tenants = [];
+    arenas = [];
+    segments = [];
+    admitted = [];
+    granted = [];
+  });
+  lists = record { free = []; local_free = []; thread_free = []; delayed = [] };
+  queues = [];
+}

@@ -1,0 +1,274 @@
+//! What a host calls.
+
+ghost use Rattle.std.specs.Prelude.{◌≡◌};
+ghost use Rattle.std.specs.Str.{IsUtf8};
+ghost use Rattle.hg_machine.specs.declared.Event.TheVariants as event;
+ghost use Rattle.hg_policy.specs.Names.{tenant_number, arena_number};
+ghost use Rattle.hg_c.specs.declared.asking.Question.TheVariants as question;
+ghost use Rattle.hg_c.specs.Asking.{Tells, TellsName, answer_to, numbered};
+ghost use Rattle.hg_c.specs.Calls.{Serves, ServesOn, ServesAt, Closes, IsSame};
+ghost use Rattle.hg_c.specs.Opening.{Opens};
+ghost use Rattle.hg_c.specs.Replies.{no_name};
+
+use crate::asking::{NO_NAME, Question, ask, ask_name};
+use crate::host_core::HostCore;
+use crate::opening::{DONE, open};
+use crate::reply::Reply;
+use crate::serving::{CLOSED, NO_BLOCK, serve};
+use crate::word::place_of;
+use hg_machine::Event;
+use hg_place::{Actor, Handle};
+use std::alloc::Global;
+use std::mem;
+
+/// Opens a core by the text of its policy. Where the text is no policy, the status tells its first
+/// fault, and the value how many bytes of the fault's line stand in `room`.
+#[unsafe(no_mangle)]
+pub extern "C" fn hg_open(
+    alloc: Global,
+    host: &mut HostCore,
+    policy: &[u8],
+    room: &mut [u8],
+) -> Reply
+    ensures { Opens host.old policy.now room.old result host.new room.new }
+{
+    open(alloc, policy, host, room)
+}
+
+/// Closes a core, and frees its memory.
+#[unsafe(no_mangle)]
+pub extern "C" fn hg_close(alloc: Global, host: &mut HostCore) -> Reply
+    ensures { Closes host.old result host.new }
+{
+    match mem::replace(host, HostCore::closed()).into_core(alloc) {
+        Ok(core) => {
+            drop(core);
+            Reply::plain(DONE)
+        }
+        Err(closed) => {
+            *host = closed;
+            Reply::plain(CLOSED)
+        }
+    }
+}
+
+/// Asks for a block of so many bytes.
+#[unsafe(no_mangle)]
+pub extern "C" fn hg_alloc(
+    alloc: Global,
+    host: &mut HostCore,
+    worker: u8,
+    actor: u8,
+    arena: u8,
+    bytes: u64,
+) -> Reply
+    ensures { Serves host.old worker (event.Alloc (record { 0 = actor }) arena bytes)
+        result host.new }
+{
+    let actor = Actor(actor);
+    serve(
+        alloc,
+        host,
+        worker,
+        Event::Alloc {
+            actor,
+            arena,
+            bytes,
+        },
+    )
+}
+
+/// Frees a block.
+#[unsafe(no_mangle)]
+pub extern "C" fn hg_free(
+    alloc: Global,
+    host: &mut HostCore,
+    worker: u8,
+    actor: u8,
+    word: u64,
+) -> Reply
+    ensures { ServesOn host.old worker word (λ handle. event.Free (record { 0 = actor }) handle)
+        result host.new }
+{
+    let actor = Actor(actor);
+    match Handle::from_u64(word) {
+        Some(handle) => serve(alloc, host, worker, Event::Free { actor, handle }),
+        None => Reply::plain(NO_BLOCK),
+    }
+}
+
+/// Reads a word of a block.
+#[unsafe(no_mangle)]
+pub extern "C" fn hg_read(
+    alloc: Global,
+    host: &mut HostCore,
+    worker: u8,
+    actor: u8,
+    word: u64,
+    index: u32,
+) -> Reply
+    ensures { ServesOn host.old worker word
+        (λ handle. event.Read (record { 0 = actor }) handle index) result host.new }
+{
+    let actor = Actor(actor);
+    match Handle::from_u64(word) {
+        Some(handle) => serve(
+            alloc,
+            host,
+            worker,
+            Event::Read {
+                actor,
+                handle,
+                index,
+            },
+        ),
+        None => Reply::plain(NO_BLOCK),
+    }
+}
+
+/// Writes a word of a block.
+#[unsafe(no_mangle)]
+pub extern "C" fn hg_write(
+    alloc: Global,
+    host: &mut HostCore,
+    worker: u8,
+    actor: u8,
+    word: u64,
+    index: u32,
+    value: u64,
+) -> Reply
+    ensures { ServesOn host.old worker word
+        (λ handle. event.Write (record { 0 = actor }) handle index value) result host.new }
+{
+    let actor = Actor(actor);
+    match Handle::from_u64(word) {
+        Some(handle) => serve(
+            alloc,
+            host,
+            worker,
+            Event::Write {
+                actor,
+                handle,
+                index,
+                value,
+            },
+        ),
+        None => Reply::plain(NO_BLOCK),
+    }
+}
+
+/// Looks at the block that stands at the place of a number, the upper half of a handle's word.
+#[unsafe(no_mangle)]
+pub extern "C" fn hg_look(
+    alloc: Global,
+    host: &mut HostCore,
+    worker: u8,
+    actor: u8,
+    number: u32,
+) -> Reply
+    ensures { ServesAt host.old worker number (λ place. event.Look (record { 0 = actor }) place)
+        result host.new }
+{
+    let actor = Actor(actor);
+    match place_of(number) {
+        Some(place) => serve(alloc, host, worker, Event::Look { actor, place }),
+        None => Reply::plain(NO_BLOCK),
+    }
+}
+
+/// Sends what the worker has in hand to those who hold its segment.
+#[unsafe(no_mangle)]
+pub extern "C" fn hg_deliver(alloc: Global, host: &mut HostCore, worker: u8) -> Reply
+    ensures { Serves host.old worker event.Deliver result host.new }
+{
+    serve(alloc, host, worker, Event::Deliver)
+}
+
+/// Takes home what was sent to a segment that the worker holds.
+#[unsafe(no_mangle)]
+pub extern "C" fn hg_take(alloc: Global, host: &mut HostCore, worker: u8, segment: u8) -> Reply
+    ensures { Serves host.old worker (event.Take segment) result host.new }
+{
+    serve(alloc, host, worker, Event::Take { segment })
+}
+
+/// Takes the class from each of the worker's pages that has no block.
+#[unsafe(no_mangle)]
+pub extern "C" fn hg_collect(alloc: Global, host: &mut HostCore, worker: u8) -> Reply
+    ensures { Serves host.old worker event.Collect result host.new }
+{
+    serve(alloc, host, worker, Event::Collect)
+}
+
+/// Gives up a segment that the worker holds.
+#[unsafe(no_mangle)]
+pub extern "C" fn hg_abandon(alloc: Global, host: &mut HostCore, worker: u8, segment: u8) -> Reply
+    ensures { Serves host.old worker (event.Abandon segment) result host.new }
+{
+    serve(alloc, host, worker, Event::Abandon { segment })
+}
+
+/// Takes a segment of an arena that nobody holds.
+#[unsafe(no_mangle)]
+pub extern "C" fn hg_refill(alloc: Global, host: &mut HostCore, worker: u8, arena: u8) -> Reply
+    ensures { Serves host.old worker (event.Refill arena) result host.new }
+{
+    serve(alloc, host, worker, Event::Refill { arena })
+}
+
+/// How many workers there are.
+#[unsafe(no_mangle)]
+pub extern "C" fn hg_workers(alloc: Global, host: &mut HostCore) -> Reply
+    ensures { Tells host.old (answer_to question.Workers) result host.new }
+{
+    ask(alloc, host, Question::Workers)
+}
+
+/// Whether the worker holds the segment, as 1 or 0.
+#[unsafe(no_mangle)]
+pub extern "C" fn hg_holds(alloc: Global, host: &mut HostCore, worker: u8, segment: u8) -> Reply
+    ensures { Tells host.old (answer_to (question.Holds worker segment)) result host.new }
+{
+    ask(alloc, host, Question::Holds { worker, segment })
+}
+
+/// The number of the tenant of this name.
+#[unsafe(no_mangle)]
+pub extern "C" fn hg_tenant(alloc: Global, host: &mut HostCore, name: &[u8]) -> Reply
+    ensures text { IsUtf8 name.now
+        → Tells host.old
+        (λ core. numbered (tenant_number core.state.policy name.now)) result host.new }
+    ensures no_text { ¬ (IsUtf8 name.now) → (result ≡ no_name) × IsSame host.old host.new }
+{
+    match str::from_utf8(name) {
+        Ok(name) => ask(alloc, host, Question::Tenant(name)),
+        Err(_) => Reply::plain(NO_NAME),
+    }
+}
+
+/// The number of the arena of this name.
+#[unsafe(no_mangle)]
+pub extern "C" fn hg_arena(alloc: Global, host: &mut HostCore, name: &[u8]) -> Reply
+    ensures text { IsUtf8 name.now
+        → Tells host.old
+        (λ core. numbered (arena_number core.state.policy name.now)) result host.new }
+    ensures no_text { ¬ (IsUtf8 name.now) → (result ≡ no_name) × IsSame host.old host.new }
+{
+    match str::from_utf8(name) {
+        Ok(name) => ask(alloc, host, Question::Arena(name)),
+        Err(_) => Reply::plain(NO_NAME),
+    }
+}
+
+/// The name of the tenant of this number: the value is how many bytes of it stand in `room`.
+#[unsafe(no_mangle)]
+pub extern "C" fn hg_tenant_name(
+    alloc: Global,
+    host: &mut HostCore,
+    tenant: u8,
+    room: &mut [u8],
+) -> Reply
+    ensures { TellsName host.old tenant room.old result host.new room.new }
+{
+    ask_name(alloc, host, tenant, room)
+}

@@ -1,0 +1,15 @@
+//! heapguard's core for hosts in C, C++ and Rust: each call that they make is an export of this
+//! static library. No export has a `requires`: what a host passes wrongly is answered, and nothing
+//! changes.
+#![tactic(auto)]
+
+mod answering;
+mod asking;
+mod box_pointer;
+mod exports;
+mod host_core;
+mod opening;
+mod reply;
+mod serving;
+mod telling;
+mod word;

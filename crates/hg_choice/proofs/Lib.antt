@@ -1,0 +1,12 @@
+pub mod MaskedLives
+pub mod MaskedFacts
+pub mod MaskedServes
+pub mod MaskedChanges
+pub mod MaskedLists
+pub mod Refusing
+pub mod ChoiceLemmas
+pub mod MaskedSteps
+pub mod WordLemmas
+pub mod SecondRuns
+pub mod ReaderLemmas
+pub mod ForgottenLemmas

@@ -1,0 +1,10 @@
+pub mod PageLists
+pub mod Choice
+pub mod ListsAfter
+pub mod QueuesAfter
+pub mod ChosenSteps
+pub mod Masks
+pub mod SameBut
+pub mod Readers
+pub mod ChoiceLaws
+pub mod WordLaws

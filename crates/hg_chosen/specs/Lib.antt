@@ -1,0 +1,12 @@
+pub mod Choice
+pub mod Chosen
+pub mod Given
+pub mod Same
+pub mod Parted
+pub mod Freed
+pub mod Taken
+pub mod Refused
+pub mod Delivered
+pub mod LetGo
+pub mod Refilled
+pub mod Collected

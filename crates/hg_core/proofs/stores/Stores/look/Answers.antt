@@ -1,0 +1,85 @@
+use Rattle.std.proofs.Common.{Some, sym, ap, ◌∙◌}
+use Rattle.std.specs.Box.{boxed_slice_with_item}
+use Rattle.hg_heap.specs.Answers.{refused_answer, list_denial}
+use Rattle.hg_machine.specs.declared.Event.TheVariants as event
+use Rattle.hg_machine.specs.declared.Answer.TheVariants as answer
+use Rattle.hg_events.specs.Elsewhere.{word_at, away_answer}
+use Rattle.hg_core.proofs.After.{IsAfter}
+use Rattle.hg_core.proofs.Away.{look_away, refused_by_heap}
+use Rattle.hg_core.proofs.OwnCalls.{here, after_look, after_unlisted}
+use Rattle.hg_core.proofs.stores.Stores.look.Goals as goal
+
+pub returns-then-not-holds-clause-step : goal.returns-then-not-holds-clause-step
+returns-then-not-holds-clause-step c =
+    look_away c.args.self.now c.args.worker c.holds.ensures.kept c.requires c.args.actor
+    c.args.place (refused_answer c.unlisted.result)
+    (sym c.holds.ensures.value ∙ c.if-not-holds.true)
+    (c.unlisted.ensures
+    ∙ ap (λ w. away_answer (list_denial c.self.inside.policy c.args.actor c.args.place w))
+    c.word-word.ensures
+    ∙ ap (λ x. away_answer (list_denial x.policy c.args.actor c.args.place
+    (word_at c.args.self.now c.args.place))) c.self.view_is)
+
+pub returns-then-not-holds-clause-chosen : goal.returns-then-not-holds-clause-chosen
+returns-then-not-holds-clause-chosen c =
+    refused_by_heap c.args.self.now c.args.worker (event.Look c.args.actor c.args.place)
+    c.unlisted.result (returns-then-not-holds-clause-step c)
+
+pub look-row-requires : goal.look-row-requires
+look-row-requires c = record {
+  held = here c.self.inside c.args.self.now c.from.result c.args.worker c.index_mut-heap.result.now
+      c.self.view_is c.self.invariant c.requires c.from.ensures c.index_mut-heap.ensures.value
+      c.args.place.segment (sym c.holds.ensures.value ∙ c.if-not-holds.false);
+}
+
+-- without a row, by the verdict on the word that was shown
+unlisted : (c : goal.After-unlisted-in_default) → IsAfter c.args.self.now
+    (record c.self.inside {
+      heaps = boxed_slice_with_item c.self.inside.heaps c.from.result c.look-row.new.self;
+    })
+    c.args.worker (event.Look c.args.actor c.args.place)
+    (refused_answer c.unlisted-in_default.result)
+unlisted c =
+    after_unlisted c.self.inside c.args.self.now c.from.result c.args.worker
+    c.index_mut-heap.result.now c.self.view_is c.self.invariant c.requires c.from.ensures
+    c.index_mut-heap.ensures.value c.look-row.new.self c.settled.ensures.each c.args.actor
+    c.args.place c.look-row.new.shown c.unlisted-in_default.result c.unlisted-in_default.ensures
+    c.in_default.ensures.step c.in_default.ensures.ties
+    (record { lists = c.look-row.ensures.lists; queues = c.look-row.ensures.queues })
+
+pub invariant_of-self : goal.invariant_of-self
+invariant_of-self c = (unlisted c).stored
+
+pub returns-in_default-clause-step : goal.returns-in_default-clause-step
+returns-in_default-clause-step c = (unlisted c).step
+
+pub returns-in_default-clause-chosen : goal.returns-in_default-clause-chosen
+returns-in_default-clause-chosen c = (unlisted c).chosen
+
+pub returns-in_default-clause-kept : goal.returns-in_default-clause-kept
+returns-in_default-clause-kept c = (unlisted c).stored.kept
+
+listed : (c : goal.In-Some) → IsAfter c.args.self.now
+    (record c.self.inside {
+      heaps = boxed_slice_with_item c.self.inside.heaps c.from.result c.look-row.new.self;
+    })
+    c.args.worker (event.Look c.args.actor c.args.place) (answer.Listed c.in-Some.row)
+listed c =
+    after_look c.self.inside c.args.self.now c.from.result c.args.worker
+    c.index_mut-heap.result.now c.self.view_is c.self.invariant c.requires c.from.ensures
+    c.index_mut-heap.ensures.value c.look-row.new.self c.settled.ensures.each c.args.actor
+    c.args.place c.look-row.new.shown (Some c.in-Some.row) c.in-Some.ensures.step
+    c.in-Some.ensures.ties
+    (record { lists = c.look-row.ensures.lists; queues = c.look-row.ensures.queues })
+
+pub invariant_of-self-2 : goal.invariant_of-self-2
+invariant_of-self-2 c = (listed c).stored
+
+pub returns-clause-step : goal.returns-clause-step
+returns-clause-step c = (listed c).step
+
+pub returns-clause-chosen : goal.returns-clause-chosen
+returns-clause-chosen c = (listed c).chosen
+
+pub returns-clause-kept : goal.returns-clause-kept
+returns-clause-kept c = (listed c).stored.kept

@@ -1,0 +1,45 @@
+-- What a worker is answered, by what its call answers.
+use Rattle.std.specs.Prelude.{ℕ, Result, Ok, Err}
+use Rattle.hg_place.specs.declared.Handle.{Handle}
+use Rattle.hg_machine.specs.declared.Answer.{Answer}
+use Rattle.hg_machine.specs.declared.Answer.TheVariants as answer
+use Rattle.hg_machine.specs.declared.Row.{Row}
+use Rattle.hg_heap.specs.Answers.{refused_answer}
+use Rattle.hg_heap.specs.declared.refused.Refused.{Refused}
+use Rattle.hg_core.specs.declared.refusals.NothingInHand.{NothingInHand}
+use Rattle.hg_core.specs.declared.refusals.NotHeld.{NotHeld}
+use Rattle.hg_core.specs.declared.refusals.NoSegment.{NoSegment}
+use Rattle.hg_core.specs.declared.refusals.Freed.{Freed}
+use Rattle.hg_core.specs.declared.refusals.Freed.TheVariants as freed
+use Rattle.hg_core.specs.declared.refusals.NotFreed.{NotFreed}
+use Rattle.hg_core.specs.declared.refusals.NotFreed.TheVariants as not_freed
+
+abbrev pub alloc_answer : Result Handle Refused → Answer
+alloc_answer (Ok handle) = answer.Block handle
+alloc_answer (Err refused) = refused_answer refused
+
+abbrev pub free_answer : Result Freed NotFreed → Answer
+free_answer (Ok freed.Here) = answer.Done
+free_answer (Ok freed.InHand) = answer.Parted
+free_answer (Err (not_freed.Denied rule)) = answer.Denied rule
+free_answer (Err not_freed.Busy) = answer.Busy
+
+abbrev pub deliver_answer : {X : Type 0} → Result X NothingInHand → Answer
+deliver_answer (Ok done) = answer.Done
+deliver_answer (Err nothing) = answer.NothingInHand
+
+abbrev pub take_answer : Result ℕ NotHeld → Answer
+take_answer (Ok count) = answer.Taken count
+take_answer (Err not_held) = answer.NotHeld
+
+abbrev pub look_answer : Result Row Refused → Answer
+look_answer (Ok row) = answer.Listed row
+look_answer (Err refused) = refused_answer refused
+
+abbrev pub abandon_answer : {X : Type 0} → Result X NotHeld → Answer
+abandon_answer (Ok done) = answer.Done
+abandon_answer (Err not_held) = answer.NotHeld
+
+abbrev pub refill_answer : Result ℕ NoSegment → Answer
+refill_answer (Ok segment) = answer.Refilled segment
+refill_answer (Err none) = answer.NoSegment

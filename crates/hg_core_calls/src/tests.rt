@@ -1,0 +1,10 @@
+mod allocating;
+mod cases;
+mod changing;
+mod draws;
+mod machine;
+mod reached;
+mod secrets;
+mod seeded;
+mod serving;
+mod sweeping;

@@ -1,0 +1,10 @@
+-- A worker that the policy has, it has after a step.
+use Rattle.std.proofs.Common.{◌≡◌, ℕ, ◌<◌, sym, subst}
+use Rattle.heapguard_core.specs.State.{State}
+use Rattle.heapguard_core.specs.Steps.{Step}
+use Rattle.heapguard_core.specs.StepLaws.{StepsKeepPolicy}
+use Rattle.heapguard_core.specs.declared.Event.{Event}
+use Rattle.heapguard_core.specs.declared.Answer.{Answer}
+
+pub served_after : StepsKeepPolicy → (old : State) (worker : ℕ) (event : Event) (answer : Answer) (new : State) → Step old worker event answer new → worker < old.policy.workers → worker < new.policy.workers
+served_after law old worker event answer new step served = subst (λ policy. worker < policy.workers) (sym (law old worker event answer new step)) served

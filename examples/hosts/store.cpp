@@ -1,0 +1,156 @@
+// A key-value store whose sessions are tenants. A key's value is a block of the session that set
+// it, so the core says who may read, replace or drop it; the store itself tests nothing.
+#include "heapguard.hpp"
+
+#include <iostream>
+#include <map>
+#include <string>
+#include <utility>
+
+using heapguard::Core;
+using heapguard::Handle;
+using heapguard::Reply;
+
+namespace {
+
+constexpr std::uint8_t WORKER = 0;
+constexpr std::uint8_t STRANGER = 255;
+
+constexpr char POLICY[] = R"(version = 1
+workers = 1
+tenant = [ {name = "ann", limit = 4096}, {name = "bob", limit = 256} ]
+arena = [ {name = "rows", segments = 2} ]
+grant = [ {owner = "ann", to = "bob", rights = ["read"]} ]
+)";
+
+std::string said(Reply reply) { return hg_status_text(reply.status); }
+
+class Store {
+public:
+    explicit Store(std::string_view policy) : core_(policy) {}
+
+    /// The session of a tenant, or of a stranger where no tenant has the name.
+    std::uint8_t session(std::string_view name) { return core_.tenant(name).value_or(STRANGER); }
+
+    /// The first word of a block is the value's length, the others have 8 of its bytes each.
+    std::string set(std::uint8_t session, const std::string &key, std::string_view value)
+    {
+        Reply made = room(session, 8 + (value.size() + 7) / 8 * 8);
+        if (made.status != HG_BLOCK) return said(made);
+        Handle block = made.value;
+        core_.write(WORKER, session, block, 0, value.size());
+        for (std::size_t at = 0; at < value.size(); at += 8)
+            core_.write(WORKER, session, block, index(at), packed(value.substr(at, 8)));
+        auto old = rows_.find(key);
+        if (old != rows_.end()) {
+            Reply freed = core_.free(WORKER, session, old->second);
+            if (freed.status != HG_DONE) {
+                core_.free(WORKER, session, block);
+                return said(freed);
+            }
+        }
+        rows_[key] = block;
+        return "set " + heapguard::to_string(block);
+    }
+
+    std::string get(std::uint8_t session, const std::string &key)
+    {
+        auto row = rows_.find(key);
+        if (row == rows_.end()) return "no such key";
+        Reply length = core_.read(WORKER, session, row->second, 0);
+        if (length.status != HG_VALUE) return said(length);
+        std::string value;
+        for (std::size_t at = 0; at < length.value; at += 8)
+            unpack(core_.read(WORKER, session, row->second, index(at)).value, value);
+        value.resize(length.value);
+        return "\"" + value + "\"";
+    }
+
+    std::string drop(std::uint8_t session, const std::string &key)
+    {
+        auto row = rows_.find(key);
+        if (row == rows_.end()) return "no such key";
+        Reply freed = core_.free(WORKER, session, row->second);
+        if (freed.status == HG_DONE) rows_.erase(row);
+        return said(freed);
+    }
+
+    /// What a caller of the store could do with a handle that it kept.
+    std::string peek(std::uint8_t session, Handle block)
+    {
+        return said(core_.read(WORKER, session, block, 0));
+    }
+
+    Handle handle(const std::string &key) const { return rows_.at(key); }
+
+private:
+    static std::uint32_t index(std::size_t at) { return static_cast<std::uint32_t>(1 + at / 8); }
+
+    static std::uint64_t packed(std::string_view bytes)
+    {
+        std::uint64_t word = 0;
+        for (std::size_t at = bytes.size(); at-- > 0;)
+            word = word << 8 | static_cast<unsigned char>(bytes[at]);
+        return word;
+    }
+
+    static void unpack(std::uint64_t word, std::string &bytes)
+    {
+        for (int at = 0; at < 8; at++) bytes += static_cast<char>(word >> 8 * at & 255);
+    }
+
+    /// A block; where there is no room, once more with another segment.
+    Reply room(std::uint8_t session, std::uint64_t bytes)
+    {
+        Reply made = core_.alloc(WORKER, session, 0, bytes);
+        if (made.status == HG_NO_ROOM && core_.refill(WORKER, 0).status == HG_REFILLED)
+            made = core_.alloc(WORKER, session, 0, bytes);
+        return made;
+    }
+
+    Core core_;
+    std::map<std::string, Handle> rows_;
+};
+
+} // namespace
+
+int main()
+{
+    try {
+        Store bad("version = 1\nworkers = 1\ncolour = 3\n");
+    } catch (const heapguard::PolicyFault &fault) {
+        std::cout << "a store of a faulty policy: " << fault.what() << "\n";
+    }
+
+    Store store(POLICY);
+    const auto ann = store.session("ann"), bob = store.session("bob"), eve = store.session("eve");
+    auto tell = [](const char *what, const std::string &answer) {
+        std::cout << what << ": " << answer << "\n";
+    };
+    tell("ann sets city", store.set(ann, "city", "Reykjavik, 64 degrees north"));
+    tell("ann gets city", store.get(ann, "city"));
+    tell("bob gets city, which ann grants", store.get(bob, "city"));
+    tell("bob replaces city", store.set(bob, "city", "Oslo"));
+    tell("bob drops city", store.drop(bob, "city"));
+    tell("bob sets note", store.set(bob, "note", "mine"));
+    tell("ann gets note", store.get(ann, "note"));
+    tell("eve, a stranger, gets city", store.get(eve, "city"));
+    tell("eve sets a key", store.set(eve, "key", "x"));
+    tell("bob sets a value over his limit", store.set(bob, "long", std::string(300, 'b')));
+    tell("ann sets a value too large for a block", store.set(ann, "huge", std::string(5000, 'a')));
+
+    const Handle kept = store.handle("city");
+    tell("ann replaces city", store.set(ann, "city", "Akureyri"));
+    tell("bob reads by a handle that he kept", store.peek(bob, kept));
+    tell("bob gets city", store.get(bob, "city"));
+    tell("ann drops city", store.drop(ann, "city"));
+    tell("bob gets city", store.get(bob, "city"));
+
+    Core first(POLICY);
+    Core second = std::move(first);
+    std::cout << "a core that was moved has " << unsigned(second.workers()) << " worker, and "
+              << unsigned(first.workers()) << " where it was\n";
+    std::cout << "tenant 1 is " << second.tenant_name(1).value_or("nobody") << ", tenant 2 is "
+              << second.tenant_name(2).value_or("nobody") << "\n";
+    return 0;
+}

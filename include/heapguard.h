@@ -1,0 +1,196 @@
+/* heapguard.h: heapguard's core in a program in C11 or C++17. docs/EMBEDDING.md has how to link it.
+ *
+ * A core hands out blocks of a memory of its own to tenants, under a written policy. A block is
+ * named by a handle and never by an address: one that was freed, forged, or is another tenant's is
+ * answered, and never followed.
+ *
+ * No call has a condition on what its numbers, texts and handles are. A core that is closed, or
+ * open already, a worker, tenant, arena, segment or place that isn't there, and a word that is no
+ * handle's are answered by a status, and nothing changes. No call but hg_open takes memory. What
+ * each call promises, and what of it is proved, is in crates/hg_c/README.md.
+ *
+ * What the caller owes, which nothing checks:
+ *  1. One call at a time on a core. A core may go to another thread; calls of several threads are
+ *     ordered by a mutex, by starting or joining a thread, or by sequentially consistent atomics.
+ *  2. A core is 16 bytes of the caller, aligned to 8, and begins as HG_CORE_INIT. Only the calls
+ *     write its fields. It may be moved: copied, and the old place not used again. Two copies are
+ *     one core: once one was closed, the other's memory is gone. A pointer to a core isn't null.
+ *  3. Lengths are true: a pointer and a length are memory that may be read (a policy, a name) or
+ *     written (room) during the call, and that overlaps neither the core nor each other. With
+ *     length 0 the pointer may be null.
+ *  4. One allocator: malloc, realloc and free are of one allocator, and what they give is aligned
+ *     to each power of two up to 16 that divides the size.
+ *  5. No call is made from a signal handler, nor in the child of a fork of a program with threads.
+ *  6. Header and library are of one release; no other function of the program has a name of these.
+ */
+#ifndef HEAPGUARD_H
+#define HEAPGUARD_H
+
+#include <stddef.h>
+#include <stdint.h>
+
+#ifdef __cplusplus
+extern "C" {
+#endif
+
+/* A core. Its fields are the library's. */
+typedef struct hg_core {
+    void *at;
+    uint64_t mark;
+} hg_core;
+
+/* A core that is closed. */
+#define HG_CORE_INIT {0, 0}
+
+/* A handle, never 0: the number of its place in bits 32 to 50, and its generation below. */
+typedef uint64_t hg_handle;
+
+/* What came of a call. The numbers stay as they are; later releases may add some. */
+enum hg_status {
+    /* served */
+    HG_BLOCK = 1,    /* value: the handle of a new block, whose words are 0 */
+    HG_DONE = 2,
+    HG_PARTED = 3,   /* freed by a worker that doesn't hold the segment, which has it in hand now */
+    HG_VALUE = 4,    /* value: the word, or the number */
+    HG_TAKEN = 5,    /* value: how many places came home */
+    HG_PAGES = 6,    /* value: how many pages lost their class */
+    HG_REFILLED = 7, /* value: the segment */
+    HG_LISTED = 8,   /* value: the handle; owner: the tenant; detail: the bytes of the block */
+    /* not served */
+    HG_TOO_LARGE = 16,
+    HG_NO_ROOM = 17,
+    HG_ELSEWHERE = 18,       /* the worker doesn't hold the segment */
+    HG_OUT_OF_BLOCK = 19,    /* no such word in the block */
+    HG_BUSY = 20,            /* the worker has another place in hand */
+    HG_NOTHING_IN_HAND = 21,
+    HG_NOT_HELD = 22,
+    HG_NO_SEGMENT = 23,
+    /* denied, by the first rule that refuses */
+    HG_STRANGER = 32,
+    HG_STALE = 33,           /* detail: the generation that is there, 0 where none is */
+    HG_ALREADY_FREED = 34,
+    HG_FOREIGN_ARENA = 35,
+    HG_NOT_GRANTED = 36,
+    HG_OVER_LIMIT = 37,
+    /* hg_open: the policy's first fault; value: how many bytes of its line stand in the room */
+    HG_NOT_TOML = 49,
+    HG_MISSING = 50,
+    HG_KIND = 51,
+    HG_UNKNOWN = 52,
+    HG_REPEATED = 53,
+    HG_NO_SUCH_NAME = 54,
+    HG_TOO_MANY = 55,
+    HG_VERSION = 56,
+    HG_NO_MEMORY = 57,       /* want of memory, and no fault of the policy */
+    /* misuse */
+    HG_CLOSED = 64,
+    HG_NO_WORKER = 65,
+    HG_NO_BLOCK = 66,        /* no handle's word, or no place's number */
+    HG_HELD = 67,            /* to be opened, and open already */
+    HG_NO_NAME = 68          /* nothing has the name, or no tenant the number */
+};
+
+/* An answer. What isn't said of a status is 0. */
+typedef struct hg_reply {
+    uint16_t status;
+    uint16_t owner;
+    uint32_t detail;
+    uint64_t value;
+} hg_reply;
+
+/* Opens a core by the text of its policy: HG_DONE, or the first fault, with as much of its line in
+ * the room as there is room for. The line has no newline and no zero behind it. */
+hg_reply hg_open(hg_core *core, const char *policy, size_t policy_length,
+                 char *room, size_t room_length);
+
+/* Closes a core, and frees its memory. */
+hg_reply hg_close(hg_core *core);
+
+/* The ten events. `worker` is who serves, a number below that of hg_workers. `actor` is who asks,
+ * by the number of a tenant; a number that no tenant has is a stranger's, and 255 always is. */
+hg_reply hg_alloc(hg_core *core, uint8_t worker, uint8_t actor, uint8_t arena, uint64_t bytes);
+hg_reply hg_free(hg_core *core, uint8_t worker, uint8_t actor, hg_handle block);
+hg_reply hg_deliver(hg_core *core, uint8_t worker);
+hg_reply hg_take(hg_core *core, uint8_t worker, uint8_t segment);
+hg_reply hg_collect(hg_core *core, uint8_t worker);
+hg_reply hg_read(hg_core *core, uint8_t worker, uint8_t actor, hg_handle block, uint32_t index);
+hg_reply hg_write(hg_core *core, uint8_t worker, uint8_t actor, hg_handle block, uint32_t index,
+                  uint64_t value);
+hg_reply hg_look(hg_core *core, uint8_t worker, uint8_t actor, uint32_t place);
+hg_reply hg_abandon(hg_core *core, uint8_t worker, uint8_t segment);
+hg_reply hg_refill(hg_core *core, uint8_t worker, uint8_t arena);
+
+/* Questions, which change nothing: HG_VALUE with the number, or HG_NO_NAME. */
+hg_reply hg_workers(hg_core *core);
+hg_reply hg_holds(hg_core *core, uint8_t worker, uint8_t segment); /* 1 or 0 */
+hg_reply hg_tenant(hg_core *core, const char *name, size_t name_length);
+hg_reply hg_arena(hg_core *core, const char *name, size_t name_length);
+
+/* The name of a tenant: HG_VALUE with how many bytes of it stand in the room. A name has 16 bytes
+ * at most, and no zero behind it. */
+hg_reply hg_tenant_name(hg_core *core, uint8_t tenant, char *room, size_t room_length);
+
+#ifdef __cplusplus
+}
+#endif
+
+/* The place of a block, which hg_look takes. */
+static inline uint32_t hg_place_of(hg_handle block) { return (uint32_t)(block >> 32); }
+
+/* The four numbers of a handle, which is written @segment.page.index.generation. */
+static inline uint32_t hg_segment_of(hg_handle block) { return hg_place_of(block) / 8192; }
+static inline uint32_t hg_page_of(hg_handle block) { return hg_place_of(block) / 512 % 16; }
+static inline uint32_t hg_index_of(hg_handle block) { return hg_place_of(block) % 512; }
+static inline uint32_t hg_generation_of(hg_handle block) { return (uint32_t)block; }
+
+/* A handle of its four numbers. */
+static inline hg_handle hg_handle_of(uint32_t segment, uint32_t page, uint32_t index,
+                                     uint32_t generation)
+{
+    return (hg_handle)(segment * 8192 + page * 512 + index) << 32 | generation;
+}
+
+/* A few words for a status. Those of an event are the ones that heapguard prints. */
+static inline const char *hg_status_text(unsigned status)
+{
+    switch (status) {
+    case HG_BLOCK: case HG_DONE: return "ok";
+    case HG_PARTED: return "parted";
+    case HG_VALUE: return "word";
+    case HG_TAKEN: return "taken";
+    case HG_PAGES: return "pages";
+    case HG_REFILLED: return "segment";
+    case HG_LISTED: return "listed";
+    case HG_TOO_LARGE: return "large";
+    case HG_NO_ROOM: return "noroom";
+    case HG_ELSEWHERE: return "elsewhere";
+    case HG_OUT_OF_BLOCK: return "range";
+    case HG_BUSY: return "busy";
+    case HG_NOTHING_IN_HAND: return "empty";
+    case HG_NOT_HELD: return "notheld";
+    case HG_NO_SEGMENT: return "nosegment";
+    case HG_STRANGER: return "denied stranger";
+    case HG_STALE: return "denied stale";
+    case HG_ALREADY_FREED: return "denied freed";
+    case HG_FOREIGN_ARENA: return "denied arena";
+    case HG_NOT_GRANTED: return "denied grant";
+    case HG_OVER_LIMIT: return "denied limit";
+    case HG_NOT_TOML: return "not toml";
+    case HG_MISSING: return "missing";
+    case HG_KIND: return "kind";
+    case HG_UNKNOWN: return "unknown";
+    case HG_REPEATED: return "repeated";
+    case HG_NO_SUCH_NAME: return "no such name";
+    case HG_TOO_MANY: return "too many";
+    case HG_VERSION: return "version";
+    case HG_NO_MEMORY: return "no memory";
+    case HG_CLOSED: return "closed";
+    case HG_NO_WORKER: return "no such worker";
+    case HG_NO_BLOCK: return "no handle";
+    case HG_HELD: return "open already";
+    case HG_NO_NAME: return "no such name or number";
+    default: return "unknown status";
+    }
+}
+
+#endif

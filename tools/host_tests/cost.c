@@ -1,0 +1,62 @@
+/* cost: the time of each call over the boundary, the best of many rounds, in ns. */
+#define _POSIX_C_SOURCE 199309L
+#include "heapguard.h"
+#include <stdio.h>
+#include <time.h>
+
+enum { CALLS = 2000, ROUNDS = 200 };
+
+static const char POLICY[] =
+    "version = 1\n"
+    "workers = 2\n"
+    "tenant = [ {name = \"ann\", limit = 4194304}, {name = \"bob\", limit = 64} ]\n"
+    "arena = [ {name = \"main\", segments = 1} ]\n";
+
+static hg_core core = HG_CORE_INIT, closed = HG_CORE_INIT;
+static volatile uint64_t sink;
+
+static double now(void)
+{
+    struct timespec time;
+    clock_gettime(CLOCK_PROCESS_CPUTIME_ID, &time);
+    return (double)time.tv_sec * 1e9 + (double)time.tv_nsec;
+}
+
+/* Tells the time of an expression that is a reply; `n` counts its calls. */
+#define COST(what, call)                                      \
+    do {                                                      \
+        double best = 1e18;                                   \
+        for (int round = 0; round < ROUNDS; round++) {        \
+            uint64_t sum = 0;                                 \
+            double began = now();                             \
+            for (uint64_t n = 0; n < CALLS; n++) {            \
+                hg_reply reply = call;                        \
+                sum += reply.status + reply.value;            \
+            }                                                 \
+            double each = (now() - began) / CALLS;            \
+            if (each < best) best = each;                     \
+            sink = sum;                                       \
+        }                                                     \
+        printf("%-34s %8.1f\n", what, best);                  \
+    } while (0)
+
+int main(void)
+{
+    if (hg_open(&core, POLICY, sizeof POLICY - 1, NULL, 0).status != HG_DONE) return 1;
+    hg_refill(&core, 0, 0);
+    hg_handle block = hg_alloc(&core, 0, 0, 0, 24).value;
+    COST("misuse: a word of no handle", hg_read(&core, 0, 0, n & 0, 0));
+    COST("misuse: a closed core", hg_collect(&closed, (uint8_t)n));
+    COST("misuse: no such worker", hg_deliver(&core, (uint8_t)(n | 128)));
+    COST("deliver, with nothing in hand", hg_deliver(&core, (uint8_t)(n & 1)));
+    COST("read, denied to a stranger", hg_read(&core, 0, 77, block, n & 1));
+    COST("read, not granted", hg_read(&core, 0, 1, block, n & 1));
+    COST("read, of a stale handle", hg_read(&core, 0, 0, block + 1, n & 1));
+    COST("read, served", hg_read(&core, 0, 0, block, n & 1));
+    COST("write, served", hg_write(&core, 0, 0, block, 1, n));
+    COST("look, served", hg_look(&core, 0, 0, hg_place_of(block)));
+    COST("alloc, denied to a stranger", hg_alloc(&core, 0, 77, 0, 24));
+    COST("alloc and free of the block", hg_free(&core, 0, 0, hg_alloc(&core, 0, 0, 0, 24).value));
+    hg_close(&core);
+    return 0;
+}
