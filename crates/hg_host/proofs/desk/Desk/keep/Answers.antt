@@ -17,3 +17,12 @@ invariant_of-self-2 c =
           (event.Write c.args.actor block 0 c.args.number) (done_answer c.write.result)
           c.write.new.self.state c.write.ensures.step served;
     }
+
+pub write-requires : goal.write-requires
+write-requires c =
+    let desk = c.args.self.now in
+    record {
+      worker = served_after c.steps_keep_policy.ensures desk.core.state desk.worker
+          (event.Alloc c.args.actor 0 8) (answer.Block c.in_ok-block.block) c.alloc.new.self.state
+          c.in_ok-block.ensures.step desk.served;
+    }
