@@ -1,5 +1,5 @@
 -- A worker that the policy has, it has after a step.
-use Rattle.std.proofs.Common.{◌≡◌, ℕ, ◌<◌, sym, subst}
+use Rattle.std.proofs.Common.{ℕ, ◌<◌, sym, subst}
 use Rattle.heapguard_core.specs.State.{State}
 use Rattle.heapguard_core.specs.Steps.{Step}
 use Rattle.heapguard_core.specs.StepLaws.{StepsKeepPolicy}
