@@ -1,6 +1,6 @@
 -- What a heap holds: its segments, in the order in which they came until one leaves, and the queues
 -- of their pages.
-use Rattle.std.specs.Prelude.{◌≡◌, ◌≢◌, ℕ, ◌%◌, ◌==◌, Bool, true, false, List, [], ◌∷◌, map}
+use Rattle.std.specs.Prelude.{◌≡◌, ◌≢◌, ℕ, ◌*◌, ◌%◌, ◌==◌, Bool, true, false, List, [], ◌∷◌, map}
 use Rattle.std.specs.Prelude.{Option, Some, None, find, is_some}
 use Rattle.std.specs.List.{range_with_len}
 use Rattle.hg_place.specs.declared.geometry.TheConstants.{SEGMENT_PAGES}
@@ -31,6 +31,10 @@ has_place lists = is_some_place (listed lists)
 -- all pages, over all segments that there may be
 unfoldable pub all_pages : List ℕ
 all_pages = range_with_len 0 PAGES
+
+-- the pages of a segment by their numbers, rising
+unfoldable pub pages_of : ℕ → List ℕ
+pages_of segment = range_with_len (segment * SEGMENT_PAGES) SEGMENT_PAGES
 
 module _ {S : Type 0} (number : S → ℕ) where
   abbrev pub is_of : ℕ → Kept S → Bool

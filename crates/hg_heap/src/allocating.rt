@@ -1,7 +1,8 @@
 //! Places are given out, in the order of choice.
 
 ghost use Rattle.std.specs.Prelude.{◌≡◌, ◌<◌, ℕ, Option, Some, None, Err, IfOk, IfErr, IfSome};
-ghost use Rattle.std.specs.Prelude.{IfNone, true, Contains};
+ghost use Rattle.std.specs.Prelude.{IfNone, true, Contains, find};
+ghost use Rattle.hg_place.specs.declared.geometry.TheConstants.{MAX_SEGMENTS};
 ghost use Rattle.hg_queue.specs.declared.page_queues.TheConstants.{PAGES, ARENAS};
 ghost use Rattle.hg_segment.specs.declared.charges.TheConstants.{TENANTS};
 ghost use Rattle.hg_place.specs.Lives.{live_word};
@@ -14,7 +15,8 @@ ghost use Rattle.hg_machine.specs.declared.Answer.TheVariants as Answer;
 ghost use Rattle.hg_agreement.specs.Views.{Shown};
 ghost use Rattle.hg_page.specs.PageLists.{fresh};
 ghost use Rattle.hg_queue.specs.Queues.{queue_of};
-ghost use Rattle.hg_heap.specs.Held.{lists_on, class_on, has_place, is_some_place, KeepsOtherLists};
+ghost use Rattle.hg_heap.specs.Held.{lists_on, class_on, has_place, is_some_place, pages_of};
+ghost use Rattle.hg_heap.specs.Held.{KeepsOtherLists};
 ghost use Rattle.hg_heap.specs.Begun.{Begun};
 ghost use Rattle.hg_heap.specs.Opened.{Opened};
 ghost use Rattle.hg_heap.specs.Requeued.{requeued};
@@ -30,9 +32,8 @@ ghost use Rattle.hg_heap.specs.declared.refused.Refused.TheVariants.{NoRoom};
 use crate::requeue::{block_bytes, requeue};
 use crate::{Heap, Refused};
 use hg_decision::{AllocVerdict, judge_alloc};
-use hg_place::{Actor, Handle, SEGMENT_PAGES, SlotWords};
+use hg_place::{Actor, Handle, MAX_SEGMENTS, SEGMENT_PAGES, SlotWords};
 use hg_policy::Policy;
-use hg_queue::PAGES;
 use hg_size::{Class, block_words, words_of};
 
 impl<S: SlotWords> Heap<S> {
@@ -141,9 +142,30 @@ impl<S: SlotWords> Heap<S> {
         ensures blank { IfSome result (λ page. is_some_place
             (blank_on S.number S.records self.now.segments arena class page) ≡ true) }
     {
-        for page in 0..PAGES {
-            if self.is_blank(page, arena, class) {
+        for segment in 0..MAX_SEGMENTS as u8 {
+            if let Some(page) = self.blank_in(segment, arena, class) {
                 return Some(page);
+            }
+        }
+        None
+    }
+
+    /// The first such page of one segment, if that is held.
+    fn blank_in(&self, segment: u8, arena: u8, class: Class) -> Option<u16>
+        requires { segment < MAX_SEGMENTS }
+        ensures first { result ≡ find (λ page. is_some_place
+            (blank_on S.number S.records self.now.segments arena class page)) (pages_of segment) }
+        ensures below { IfSome result (λ page. page < PAGES) }
+        ensures blank { IfSome result (λ page. is_some_place
+            (blank_on S.number S.records self.now.segments arena class page) ≡ true) }
+    {
+        if !self.holds(segment) {
+            return None;
+        }
+        let first = u16::from(segment) * SEGMENT_PAGES as u16;
+        for page in 0..SEGMENT_PAGES as u16 {
+            if self.is_blank(first + page, arena, class) {
+                return Some(first + page);
             }
         }
         None

@@ -1,0 +1,11 @@
+use Rattle.std.proofs.Common.{◌≡◌, ◌*◌, ℕ, None, find}
+use Rattle.std.specs.List.{range_with_len}
+use Rattle.hg_heap.specs.Held.{is_some_place}
+use Rattle.hg_heap.specs.Choice.{blank_on}
+use Rattle.hg_heap.proofs.heap.Heap.blank_in.Given as goal
+
+abbrev pub invariant-loop-page : goal.invariant-loop-page
+invariant-loop-page g l =
+    (find (λ (page : ℕ). is_some_place (blank_on g.S.SlotWords.number g.S.SlotWords.records
+    l.self.segments l.fn.arena l.fn.class page)) (range_with_len (l.fn.segment * 16) l.page) ≡ None)
+    × (l.first ≡ l.fn.segment * 16)
