@@ -2,26 +2,16 @@
 use Rattle.std.proofs.Common.{◌≡◌, ◌≢◌, ℕ, ◌-◌, ◌<◌, ◌≤◌, Bool, true, false, not, cond, eqb, List, []}
 use Rattle.std.proofs.Common.{Option, Some, None, is_some, length, get_or, set, length-set, get_or-set_other, get_or-set_same}
 use Rattle.std.proofs.Common.{bit_and, Contains, position, ⊎_elim, refl, sym, ap, subst, ◌∙◌, arith}
-use Rattle.std.specs.List.{position_or_len}
-use Rattle.std.proofs.lemmas.Bool.{ltb-false, eqb-true, eq-eqb, cases_eq, false≢true}
-use Rattle.std.proofs.lemmas.List.Sums.{prefix_len_passes}
+use Rattle.std.proofs.lemmas.Bool.{eqb-true, eqb-false, cases_eq}
 use Rattle.std.proofs.lemmas.List.Quantifiers.{position-Some}
+use Rattle.hg_labels.proofs.Positions.{position-None}
 use Rattle.hg_labels.specs.Slots.{IsFull}
 use Rattle.hg_labels.specs.Indexes.{home}
 use Rattle.hg_labels.specs.declared.slot.Slot.{Slot}
 
-none_is_false : {A : Type 0} (b : Bool) (x : A) → cond b (Some x) None ≡ None → b ≡ false
-none_is_false true x h = absurd (cc)
-none_is_false false x h = refl
-
 -- a bucket in which no empty slot is found is full
 pub IsFull-from_none : (bucket : List Slot) → position (λ slot. eqb slot.number 0) bucket ≡ None → IsFull bucket
-IsFull-from_none bucket none = λ k d lt empty.
-    let whole : length bucket ≤ position_or_len (λ (slot : Slot). eqb slot.number 0) bucket =
-    ltb-false _ _ (none_is_false _ _ none) in
-    let passes : not (eqb (get_or bucket k d).number 0) ≡ true =
-    prefix_len_passes (λ (slot : Slot). not (eqb slot.number 0)) bucket k d (omega arith) in
-    absurd (false≢true (sym (ap not (eq-eqb _ _ empty)) ∙ passes))
+IsFull-from_none bucket none = λ k d lt. eqb-false _ _ (position-None (λ (slot : Slot). eqb slot.number 0) bucket none k d lt)
 
 -- a slot written where one was empty leaves the others
 pub Contains-set_empty : (bucket : List Slot) (place : ℕ) (slot other : Slot) → position (λ slot. eqb slot.number 0) bucket ≡ Some place
