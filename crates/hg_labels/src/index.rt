@@ -1,12 +1,12 @@
 //! Where names are found.
 
-ghost use Rattle.std.specs.Prelude.{◌≡◌, ◌≢◌, ◌↔◌, ◌<◌, ◌-◌, ◌+◌, ℕ, List, [], map, length, not, true, false};
-ghost use Rattle.std.specs.Prelude.{IfSome, IsNone, IfOk, OnOk, IsTrue};
-ghost use Rattle.std.specs.Prelude.{Contains, slice_get, bit_and, position, ◌==◌};
+ghost use Rattle.std.specs.Prelude.{◌≡◌, ◌≢◌, ◌↔◌, ◌<◌, ◌-◌, ◌+◌, ◌==◌, ℕ, List, []};
+ghost use Rattle.std.specs.Prelude.{IfSome, IsNone, IfOk, OnOk, IsTrue, Contains, position, bit_and};
 ghost use Rattle.std.specs.Bool.{OnTrue, OnFalse};
-ghost use Rattle.hg_labels.specs.Hash.{hash_of, tag_of};
-ghost use Rattle.hg_labels.specs.Slots.{slot_of, IsFull};
-ghost use Rattle.hg_labels.specs.Indexes.{home, spilled_at, Finds, IsIndexOf, IsEachOnce};
+ghost use Rattle.hg_labels.specs.Hash.{hash_of};
+ghost use Rattle.hg_labels.specs.Slots.{IsFull};
+ghost use Rattle.hg_labels.specs.Indexes.{texts, StandsAt, home, spilled_at, Finds};
+ghost use Rattle.hg_labels.specs.Indexes.{IsIndexOf, IsEachOnce};
 
 use crate::hash::{hash_of, tag_of};
 use crate::slot::{SLOTS, Slot};
@@ -32,8 +32,7 @@ fn home_of(hash: u64, buckets: usize) -> usize
 
 /// Whether a name stands at that number.
 fn is_named(names: &[&str], number: usize, name: &str) -> bool
-    ensures { IsTrue result ↔
-        (slice_get (map (λ known. known.now) names.now) number ≡ Some name.now) }
+    ensures { IsTrue result ↔ StandsAt (texts names.now) number name.now }
 {
     match names.get(number) {
         Some(known) => *known == name,
@@ -51,21 +50,20 @@ fn room_in(bucket: &Bucket) -> Option<usize>
 
 /// The number in a slot, where the slot has the tag, and the name stands at that number.
 fn number_in(slot: Slot, tag: u32, names: &[&str], name: &str) -> Option<usize>
-    ensures some { IfSome result
-        (λ number. slice_get (map (λ known. known.now) names.now) number ≡ Some name.now) }
+    ensures some { IfSome result (λ number. StandsAt (texts names.now) number name.now) }
     ensures none { IsNone result → (number : ℕ)
-        → slice_get (map (λ known. known.now) names.now) number ≡ Some name.now
+        → StandsAt (texts names.now) number name.now
         → slot ≢ record { tag = tag; number = number + 1 } }
 {
     let number = slot.number_under(tag)?;
     is_named(names, number, name).then_some(number)
 }
 
+/// The number of a name in a bucket, as it stands among the names.
 fn find_in(bucket: &Bucket, tag: u32, names: &[&str], name: &str) -> Option<usize>
-    ensures some { IfSome result
-        (λ number. slice_get (map (λ known. known.now) names.now) number ≡ Some name.now) }
+    ensures some { IfSome result (λ number. StandsAt (texts names.now) number name.now) }
     ensures none { IsNone result → (number : ℕ)
-        → slice_get (map (λ known. known.now) names.now) number ≡ Some name.now
+        → StandsAt (texts names.now) number name.now
         → Contains bucket.now (record { tag = tag; number = number + 1 }) → ⊥ }
 {
     for slot in bucket {
@@ -78,6 +76,7 @@ fn find_in(bucket: &Bucket, tag: u32, names: &[&str], name: &str) -> Option<usiz
 }
 
 impl<'a> Index<'a> {
+    /// No name. Takes no memory.
     pub(crate) fn new(alloc: Global) -> Index<'a>
         ensures { IsIndexOf result [] }
     {
@@ -93,8 +92,8 @@ impl<'a> Index<'a> {
         names: &[&'a str],
         buckets: usize,
     ) -> Result<Index<'a>, AllocError>
-        requires { IsEachOnce (map (λ name. name.now) names.now) }
-        ensures { IfOk result (λ index. IsIndexOf index (map (λ name. name.now) names.now)) }
+        requires { IsEachOnce (texts names.now) }
+        ensures { IfOk result (λ index. IsIndexOf index (texts names.now)) }
     {
         let mut index = Index {
             buckets: vec![in alloc; [Slot::EMPTY; SLOTS]; buckets]?,
@@ -106,15 +105,16 @@ impl<'a> Index<'a> {
         Ok(index)
     }
 
+    /// How many buckets there are.
     pub(crate) fn bucket_count(&self) -> usize {
         self.buckets.len()
     }
 
+    /// The number of a name in the tree, as it stands among the names.
     fn find_spilled(&self, names: &[&str], name: &str) -> Option<usize>
-        ensures some { IfSome result
-            (λ number. slice_get (map (λ known. known.now) names.now) number ≡ Some name.now) }
+        ensures some { IfSome result (λ number. StandsAt (texts names.now) number name.now) }
         ensures none { IsNone result → (number : ℕ)
-            → slice_get (map (λ known. known.now) names.now) number ≡ Some name.now
+            → StandsAt (texts names.now) number name.now
             → spilled_at self.now name.now ≢ Some number }
     {
         let number = *self.spilled.get(name)?;
@@ -123,10 +123,9 @@ impl<'a> Index<'a> {
 
     /// The number of a name with this hash, as it stands among the names.
     pub(crate) fn find(&self, names: &[&str], name: &str, hash: u64) -> Option<usize>
-        ensures some { IfSome result
-            (λ number. slice_get (map (λ known. known.now) names.now) number ≡ Some name.now) }
+        ensures some { IfSome result (λ number. StandsAt (texts names.now) number name.now) }
         ensures none { IsNone result → (number : ℕ)
-            → slice_get (map (λ known. known.now) names.now) number ≡ Some name.now
+            → StandsAt (texts names.now) number name.now
             → Finds self.now hash name.now number → ⊥ }
     {
         if let Some(bucket) = self.buckets.get(home_of(hash, self.buckets.len())) {

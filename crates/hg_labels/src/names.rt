@@ -23,14 +23,14 @@ pub struct Names<'a> {
 }
 
 impl<'a> Model for Names<'a> {
-    ghost use Rattle.std.specs.Prelude.{ℕ, List, map};
-    ghost use Rattle.hg_labels.specs.Indexes.{IsKept};
+    ghost use Rattle.std.specs.Prelude.{ℕ, List};
+    ghost use Rattle.hg_labels.specs.Indexes.{texts, IsKept};
 
     ghost Value = { List (List ℕ) };
 
-    ghost view = { λ kept. map (λ name. name.now) kept.names.items };
+    ghost view = { λ kept. texts kept.names.items };
 
-    ghost invariant = { λ kept. IsKept kept.index (map (λ name. name.now) kept.names.items) };
+    ghost invariant = { λ kept. IsKept kept.index (texts kept.names.items) };
 }
 
 impl<'a> Names<'a> {
