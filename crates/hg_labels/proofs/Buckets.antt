@@ -1,7 +1,7 @@
 -- What a bucket keeps, and what a write to one leaves.
-use Rattle.std.proofs.Common.{◌≡◌, ◌≢◌, ℕ, ◌-◌, ◌<◌, ◌≤◌, Bool, true, false, not, cond, eqb, List, []}
+use Rattle.std.proofs.Common.{◌≡◌, ◌≢◌, ℕ, ◌-◌, ◌<◌, true, eqb, List, []}
 use Rattle.std.proofs.Common.{Option, Some, None, is_some, length, get_or, set, length-set, get_or-set_other, get_or-set_same}
-use Rattle.std.proofs.Common.{bit_and, Contains, position, ⊎_elim, refl, sym, ap, subst, ◌∙◌, arith}
+use Rattle.std.proofs.Common.{bit_and, Contains, position, ⊎_elim, refl, sym, ap, subst, ◌∙◌}
 use Rattle.std.proofs.lemmas.Bool.{eqb-true, eqb-false, cases_eq}
 use Rattle.std.proofs.lemmas.List.Quantifiers.{position-Some}
 use Rattle.hg_labels.proofs.Positions.{position-None}

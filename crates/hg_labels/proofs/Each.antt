@@ -1,6 +1,6 @@
 -- Lists of names, each once.
-use Rattle.std.proofs.Common.{◌≡◌, ◌⊎◌, ℕ, ◌+◌, ◌<◌, Bool, true, false, List, [], ◌∷◌, ◌++◌, Option, Some, None}
-use Rattle.std.proofs.Common.{length, zero, get_or, slice_get, position, ⊎_elim, inl, inr, refl, sym, ap, subst, ◌∙◌, arith, suc, IfSome, IsNone, is_some}
+use Rattle.std.proofs.Common.{◌≡◌, ◌⊎◌, ℕ, Bool, true, false, List, [], ◌∷◌, ◌++◌, Option, Some, None}
+use Rattle.std.proofs.Common.{length, zero, slice_get, position, ⊎_elim, inl, inr, refl, sym, ap, subst, ◌∙◌, suc, IfSome, IsNone, is_some}
 use Rattle.std.specs.List.{list_any}
 use Rattle.std.specs.Str.{bytes_eq}
 use Rattle.std.proofs.lemmas.Bool.{false≢true, or_from, false_from_ne_true}
@@ -9,7 +9,7 @@ use Rattle.std.proofs.lemmas.List.Quantifiers.{position-Some}
 use Rattle.std.proofs.lemmas.Option.{same_Some, none-some, slice_get_within, slice_get-get_or, get_or_from_slice_get}
 use Rattle.std.proofs.lemmas.Slice.Eq.{bytes_eq-Decides}
 use Rattle.hg_labels.specs.Hash.{hash_of}
-use Rattle.hg_labels.specs.Indexes.{Finds, IsIndexOf, IsEachOnce, IsKept}
+use Rattle.hg_labels.specs.Indexes.{Finds, IsEachOnce, IsKept}
 use Rattle.hg_labels.specs.declared.index.Index.{Index}
 use Rattle.hg_labels.proofs.Positions.{position-None}
 

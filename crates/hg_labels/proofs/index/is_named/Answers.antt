@@ -1,4 +1,4 @@
-use Rattle.std.proofs.Common.{◌≡◌, ℕ, Some, Bor, sym, ap, ◌∙◌, map, slice_get, List, false}
+use Rattle.std.proofs.Common.{◌≡◌, ℕ, Some, Bor, sym, ap, ◌∙◌, map, slice_get, List}
 use Rattle.std.proofs.lemmas.Option.{same_Some, none-some}
 use Rattle.std.proofs.lemmas.Slice.Eq.{bytes_eq-Decides}
 use Rattle.std.specs.Str.{bytes_eq}

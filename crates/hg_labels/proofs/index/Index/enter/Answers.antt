@@ -1,6 +1,4 @@
-use Rattle.std.proofs.Common.{◌≡◌, ◌≢◌, ◌∙◌, ap, sym, arith}
-use Rattle.std.proofs.lemmas.Option.{MatchOption-at_some}
-use Rattle.hg_labels.specs.Indexes.{spilled_at}
+use Rattle.std.proofs.Common.{◌≡◌, ◌≢◌, ap, arith}
 use Rattle.hg_labels.specs.Slots.{slot_of}
 use Rattle.hg_labels.specs.declared.slot.Slot.{Slot}
 use Rattle.hg_labels.proofs.Found.{Finds-through, spilled_through}

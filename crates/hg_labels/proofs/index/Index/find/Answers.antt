@@ -1,4 +1,4 @@
-use Rattle.std.proofs.Common.{◌≡◌, ◌+◌, ◌-◌, is_some, ◌∙◌, [], length, bit_and, Contains, slice_index_or, arith, ap, sym, refl, subst, ⊎_elim}
+use Rattle.std.proofs.Common.{◌≡◌, ◌+◌, ◌-◌, is_some, ◌∙◌, [], length, bit_and, Contains, slice_index_or, arith, ap, sym, subst, ⊎_elim}
 use Rattle.hg_labels.specs.Slots.{slot_of, IsFull}
 use Rattle.hg_labels.specs.Indexes.{home}
 use Rattle.hg_labels.proofs.Buckets.{not_full}

@@ -1,4 +1,4 @@
-use Rattle.std.proofs.Common.{◌≡◌, ◌∙◌, ◌<◌, ℕ, List, [], Bor, map, length, get_or, ap, subst, arith}
+use Rattle.std.proofs.Common.{◌∙◌, ◌<◌, ℕ, List, [], Bor, map, length, get_or, ap, subst, arith}
 use Rattle.std.proofs.lemmas.List.{length-map}
 use Rattle.std.proofs.lemmas.Option.{slice_get_within}
 use Rattle.hg_labels.specs.Hash.{hash_of}
