@@ -13,7 +13,6 @@ pub mod Decimals
 pub mod AroundMark
 pub mod Dots
 pub mod HandleParts
-pub mod LabelNames
 pub mod PlainOperands
 pub mod PlainPlaces
 pub mod PlainBlocks

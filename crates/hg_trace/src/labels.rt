@@ -6,23 +6,23 @@ ghost use Rattle.hg_trace.specs.Labels.{repeats, with_label};
 
 use crate::fault::TraceFault;
 use crate::line::Command;
-use indexmap::IndexSet;
+use hg_labels::Names;
 use std::alloc::Global;
 use std::marker::Model;
 
 /// The labels that lines gave, in order, where they stand in the bytes of a trace. A label is found
-/// by its hash: a trace may give a label in each of its lines.
+/// in a few steps, whatever the labels are: a trace may give a label in each of its lines.
 #[derive(Drop)]
 pub(crate) struct Labels<'a> {
-    names: IndexSet<&'a str>,
+    names: Names<'a>,
 }
 
 impl<'a> Model for Labels<'a> {
-    ghost use Rattle.std.specs.Prelude.{ℕ, List, map};
+    ghost use Rattle.std.specs.Prelude.{ℕ, List};
 
     ghost Value = { List (List ℕ) };
 
-    ghost view = { λ labels. map (λ name. name.now) labels.names.keys };
+    ghost view = { λ labels. labels.names };
 }
 
 impl<'a> Labels<'a> {
@@ -30,7 +30,7 @@ impl<'a> Labels<'a> {
         ensures { result ≡ [] }
     {
         Labels {
-            names: IndexSet::new(alloc),
+            names: Names::new(alloc),
         }
     }
 
@@ -38,7 +38,7 @@ impl<'a> Labels<'a> {
     pub(crate) fn position_of(&self, name: &str) -> Option<usize>
         ensures { result ≡ position (λ label. bytes_eq name.now label) self.now }
     {
-        self.names.get_index_of(name)
+        self.names.position_of(name)
     }
 
     /// A label goes behind the others, unless it is one of them. Tells whether it wasn't.
@@ -48,7 +48,7 @@ impl<'a> Labels<'a> {
             (λ added. added ≡ true → self.new ≡ self.old ++ name.now ∷ []) }
         ensures err { IfErr result (λ fault. fault ≡ TraceFault.Memory) }
     {
-        let added = self.names.insert(name)?;
+        let added = self.names.push(name)?;
         Ok(added)
     }
 

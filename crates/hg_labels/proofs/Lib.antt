@@ -1,0 +1,5 @@
+pub mod Positions
+pub mod Buckets
+pub mod Texts
+pub mod Found
+pub mod Each

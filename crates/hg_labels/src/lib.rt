@@ -1,0 +1,12 @@
+//! Names in the order in which they came, each once. A look-up takes a few steps, whatever the
+//! names are.
+#![tactic(auto)]
+
+mod hash;
+mod index;
+mod names;
+mod slot;
+#[cfg(test)]
+mod tests;
+
+pub use names::Names;
