@@ -1,14 +1,16 @@
 //! What a worker's event is answered, by what the core's call for it tells.
 
 ghost use Rattle.std.specs.Prelude.{◌≡◌, ◌<◌};
-ghost use Rattle.hg_heap.specs.Answers.{refused_answer};
-ghost use Rattle.hg_core.specs.Answers.{free_answer};
+ghost use Rattle.hg_heap.specs.Answers.{refused_answer, read_answer, done_answer};
+ghost use Rattle.hg_core.specs.Answers.{free_answer, look_answer};
 ghost use Rattle.hg_machine.specs.Lists.{IsPartition};
 ghost use Rattle.hg_machine.specs.Soundness.{IsSound};
 ghost use Rattle.hg_machine.specs.Steps.{Step};
+ghost use Rattle.hg_c.specs.Replies.{reply_of};
 
+use crate::reply::{Reply, reply_of};
 use hg_core::{Core, Freed, NotFreed, Refused};
-use hg_machine::{Answer, Event};
+use hg_machine::{Answer, Event, Row};
 
 #[inline(always)]
 fn refused_answer(refused: Refused) -> Answer
@@ -32,6 +34,39 @@ fn free_answer(told: Result<Freed, NotFreed>) -> Answer
         Ok(Freed::InHand) => Answer::Parted,
         Err(NotFreed::Denied(rule)) => Answer::Denied(rule),
         Err(NotFreed::Busy) => Answer::Busy,
+    }
+}
+
+/// The reply that stands for what a read tells.
+#[inline(always)]
+pub fn read_reply(told: Result<u64, Refused>) -> Reply
+    ensures { result ≡ reply_of (read_answer told) }
+{
+    match told {
+        Ok(word) => Reply::valued(4, word),
+        Err(refused) => reply_of(refused_answer(refused)),
+    }
+}
+
+/// The reply that stands for what a write tells.
+#[inline(always)]
+pub fn write_reply(told: Result<(), Refused>) -> Reply
+    ensures { result ≡ reply_of (done_answer told) }
+{
+    match told {
+        Ok(()) => Reply::plain(2),
+        Err(refused) => reply_of(refused_answer(refused)),
+    }
+}
+
+/// The reply that stands for what a look tells.
+#[inline(always)]
+pub fn look_reply(told: Result<Row, Refused>) -> Reply
+    ensures { result ≡ reply_of (look_answer told) }
+{
+    match told {
+        Ok(row) => Reply::listed(row),
+        Err(refused) => reply_of(refused_answer(refused)),
     }
 }
 

@@ -14,7 +14,7 @@ use crate::asking::{NO_NAME, Question, ask, ask_name};
 use crate::host_core::HostCore;
 use crate::opening::{DONE, open};
 use crate::reply::Reply;
-use crate::serving::{CLOSED, NO_BLOCK, serve};
+use crate::serving::{CLOSED, NO_BLOCK, serve, serve_look, serve_read, serve_write};
 use crate::word::place_of;
 use hg_machine::Event;
 use hg_place::{Actor, Handle};
@@ -112,16 +112,7 @@ pub extern "C" fn hg_read(
 {
     let actor = Actor(actor);
     match Handle::from_u64(word) {
-        Some(handle) => serve(
-            alloc,
-            host,
-            worker,
-            Event::Read {
-                actor,
-                handle,
-                index,
-            },
-        ),
+        Some(handle) => serve_read(alloc, host, worker, actor, handle, index),
         None => Reply::plain(NO_BLOCK),
     }
 }
@@ -142,17 +133,7 @@ pub extern "C" fn hg_write(
 {
     let actor = Actor(actor);
     match Handle::from_u64(word) {
-        Some(handle) => serve(
-            alloc,
-            host,
-            worker,
-            Event::Write {
-                actor,
-                handle,
-                index,
-                value,
-            },
-        ),
+        Some(handle) => serve_write(alloc, host, worker, actor, handle, index, value),
         None => Reply::plain(NO_BLOCK),
     }
 }
@@ -171,7 +152,7 @@ pub extern "C" fn hg_look(
 {
     let actor = Actor(actor);
     match place_of(number) {
-        Some(place) => serve(alloc, host, worker, Event::Look { actor, place }),
+        Some(place) => serve_look(alloc, host, worker, actor, place),
         None => Reply::plain(NO_BLOCK),
     }
 }

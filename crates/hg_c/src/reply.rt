@@ -1,9 +1,10 @@
 //! What a host is answered.
 
 ghost use Rattle.std.specs.Prelude.{◌≡◌};
+ghost use Rattle.hg_machine.specs.declared.Answer.TheVariants as Answer;
 ghost use Rattle.hg_c.specs.Replies.{plain, valued, denial, reply_of};
 
-use hg_machine::{Answer, Rule};
+use hg_machine::{Answer, Row, Rule};
 
 /// An answer in 16 bytes: what came of a call, and what comes with it.
 #[repr(C)]
@@ -34,6 +35,18 @@ impl Reply {
             owner: 0,
             detail: 0,
             value,
+        }
+    }
+
+    /// The row of a block.
+    pub fn listed(row: Row) -> Reply
+        ensures { result ≡ reply_of (Answer.Listed row) }
+    {
+        Reply {
+            status: 8,
+            owner: u16::from(row.owner),
+            detail: row.bytes,
+            value: row.handle.to_u64(),
         }
     }
 }
@@ -68,12 +81,7 @@ pub fn reply_of(answer: Answer) -> Reply
         Answer::Taken(places) => Reply::valued(5, u64::from(places)),
         Answer::Pages(pages) => Reply::valued(6, u64::from(pages)),
         Answer::Refilled(segment) => Reply::valued(7, u64::from(segment)),
-        Answer::Listed(row) => Reply {
-            status: 8,
-            owner: u16::from(row.owner),
-            detail: row.bytes,
-            value: row.handle.to_u64(),
-        },
+        Answer::Listed(row) => Reply::listed(row),
         Answer::Denied(rule) => denial(rule),
         Answer::TooLarge => Reply::plain(16),
         Answer::NoRoom => Reply::plain(17),
