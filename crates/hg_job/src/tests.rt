@@ -1,16 +1,46 @@
 use crate::{Job, JobFault, job_of};
 use std::alloc::{AllocError, Global};
+use std::process::Abort;
 
-/// What a command line comes to: its job with its operands, or which refusal.
-fn told(alloc: Global, words: &[&str]) -> Result<String, AllocError> {
-    match job_of(alloc, words) {
-        Ok(Job::Joined) => String::from_str(alloc, "joined"),
-        Ok(Job::Check(policy)) => format!(in alloc; "check {policy}"),
-        Ok(Job::Replay(policy, trace)) => format!(in alloc; "replay {policy} {trace}"),
-        Err(JobFault::Print(_)) => String::from_str(alloc, "print"),
-        Err(JobFault::Line(_)) => String::from_str(alloc, "line"),
-        Err(JobFault::Memory) => String::from_str(alloc, "memory"),
+/// A job by the name of its command, with its operands.
+fn job_told<'a>(job: Job<'a>) -> (&'a str, &'a str, &'a str) {
+    match job {
+        Job::Joined => ("joined", "", ""),
+        Job::Check(policy) => ("check", policy, ""),
+        Job::Replay(policy, trace) => ("replay", policy, trace),
     }
+}
+
+/// Which refusal it is.
+fn fault_told(fault: &JobFault) -> &'static str {
+    match fault {
+        JobFault::Print(_) => "print",
+        JobFault::Line(_) => "line",
+        JobFault::Memory => "memory",
+    }
+}
+
+/// A job is this one, with these operands.
+fn is_job(rt: &impl Abort, job: Job<'_>, name: &str, policy: &str, trace: &str) {
+    let (told_name, told_policy, told_trace) = job_told(job);
+    assert_eq!(rt; told_name, name);
+    assert_eq!(rt; told_policy, policy);
+    assert_eq!(rt; told_trace, trace);
+}
+
+/// A command line must come to this job with these operands, or to the refusal of this name.
+fn comes_to(rt: &impl Abort, alloc: Global, words: &[&str], name: &str, policy: &str, trace: &str) {
+    match job_of(alloc, words) {
+        Ok(job) => is_job(rt, job, name, policy, trace),
+        Err(fault) => assert_eq!(rt; fault_told(&fault), name),
+    }
+}
+
+/// A command line, its words with blanks between them, must come to the refusal of this name.
+fn is_refused(rt: &impl Abort, alloc: Global, line: &str, name: &str) -> Result<(), AllocError> {
+    let words: Vec<&str> = line.split_whitespace().collect(alloc)?;
+    comes_to(rt, alloc, words.as_slice(), name, "", "");
+    Ok(())
 }
 
 /// The text of a refusal, behind the stream that it is for.
@@ -26,34 +56,46 @@ fn has_all(text: &str, parts: &[&str]) -> bool {
     parts.iter().all(|part| text.contains(*part))
 }
 
+/// Command lines that are refused by a line.
+static NO_JOBS: [&str; 11] = [
+    "check",
+    "check p q",
+    "check -p",
+    "replay p",
+    "replay p t u",
+    "jump",
+    "Check p",
+    "--jump",
+    "help",
+    "check --version",
+    "a b c d e f g h i",
+];
+
+/// Command lines that ask for help.
+static HELPS: [&str; 4] = ["-h", "--help", "check --help", "replay p --help"];
+
 #[test]
 fn job_words(rt: HostRuntime) -> Result<(), AllocError> {
     let alloc = rt.alloc();
-    assert_eq!(rt; told(alloc, &[])?.as_str(), "joined");
-    assert_eq!(rt; told(alloc, &["check", "p"])?.as_str(), "check p");
-    assert_eq!(rt; told(alloc, &["check", "--", "-p"])?.as_str(), "check -p");
-    assert_eq!(rt; told(alloc, &["replay", "p", "t"])?.as_str(), "replay p t");
-    assert_eq!(rt;
-        told(alloc, &["replay", "check", "replay"])?.as_str(),
-        "replay check replay"
+    comes_to(&rt, alloc, &[], "joined", "", "");
+    comes_to(&rt, alloc, &["check", "p"], "check", "p", "");
+    comes_to(&rt, alloc, &["check", "--", "-p"], "check", "-p", "");
+    comes_to(&rt, alloc, &["replay", "p", "t"], "replay", "p", "t");
+    comes_to(
+        &rt,
+        alloc,
+        &["replay", "check", "replay"],
+        "replay",
+        "check",
+        "replay",
     );
-    assert_eq!(rt; told(alloc, &["check"])?.as_str(), "line");
-    assert_eq!(rt; told(alloc, &["check", "p", "q"])?.as_str(), "line");
-    assert_eq!(rt; told(alloc, &["check", "-p"])?.as_str(), "line");
-    assert_eq!(rt; told(alloc, &["replay", "p"])?.as_str(), "line");
-    assert_eq!(rt; told(alloc, &["replay", "p", "t", "u"])?.as_str(), "line");
-    assert_eq!(rt; told(alloc, &["jump"])?.as_str(), "line");
-    assert_eq!(rt; told(alloc, &["Check", "p"])?.as_str(), "line");
-    assert_eq!(rt; told(alloc, &[""])?.as_str(), "line");
-    assert_eq!(rt; told(alloc, &["--jump"])?.as_str(), "line");
-    assert_eq!(rt; told(alloc, &["help"])?.as_str(), "line");
-    assert_eq!(rt; told(alloc, &["check", "--version"])?.as_str(), "line");
-    let nine = ["a", "b", "c", "d", "e", "f", "g", "h", "i"];
-    assert_eq!(rt; told(alloc, &nine)?.as_str(), "line");
-    assert_eq!(rt; told(alloc, &["-h"])?.as_str(), "print");
-    assert_eq!(rt; told(alloc, &["--help"])?.as_str(), "print");
-    assert_eq!(rt; told(alloc, &["check", "--help"])?.as_str(), "print");
-    assert_eq!(rt; told(alloc, &["replay", "p", "--help"])?.as_str(), "print");
+    comes_to(&rt, alloc, &[""], "line", "", "");
+    for line in NO_JOBS {
+        is_refused(&rt, alloc, line, "line")?;
+    }
+    for line in HELPS {
+        is_refused(&rt, alloc, line, "print")?;
+    }
     Ok(())
 }
 
@@ -129,12 +171,10 @@ fn help_of_each_command(rt: HostRuntime) -> Result<(), AllocError> {
 
 #[test]
 fn version_of_the_program(rt: HostRuntime) -> Result<(), AllocError> {
-    let alloc = rt.alloc();
-    assert_eq!(rt;
-        text(alloc, &["--version"])?.as_str(),
-        "out\nheapguard 0.1.0\n"
-    );
-    assert_eq!(rt; text(alloc, &["-V"])?.as_str(), "out\nheapguard 0.1.0\n");
+    for flag in ["--version", "-V"] {
+        let version = text(rt.alloc(), &[flag])?;
+        assert_eq!(rt; version.as_str(), "out\nheapguard 0.1.0\n", "{flag}");
+    }
     Ok(())
 }
 
@@ -169,30 +209,60 @@ fn lines_name_the_program(rt: HostRuntime) -> Result<(), AllocError> {
     Ok(())
 }
 
+/// A command line must come to this job with these operands, or meet want of memory.
+fn may_come_to(
+    rt: &impl Abort,
+    alloc: Global,
+    words: &[&str],
+    name: &str,
+    policy: &str,
+    trace: &str,
+) {
+    match job_of(alloc, words) {
+        Ok(job) => is_job(rt, job, name, policy, trace),
+        Err(fault) => assert_eq!(rt; fault_told(&fault), "memory"),
+    }
+}
+
+/// The text of the refusal that words must meet, to be printed or a line; none where memory was
+/// refused.
+fn refused_with(
+    rt: &impl Abort,
+    alloc: Global,
+    words: &[&str],
+    is_printed: bool,
+) -> Option<String> {
+    match job_of(alloc, words) {
+        Err(JobFault::Print(text)) if is_printed => Some(text),
+        Err(JobFault::Line(text)) if !is_printed => Some(text),
+        Err(JobFault::Memory) => None,
+        _ => {
+            assert!(rt; false, "neither the text nor want of memory");
+            None
+        }
+    }
+}
+
+/// Two texts are one, or one of them met want of memory.
+fn are_alike(rt: &impl Abort, one: &Option<String>, other: &Option<String>) {
+    match (one, other) {
+        (Some(one), Some(other)) => assert_eq!(rt; one.as_str(), other.as_str()),
+        (None, None) => assert!(rt; false, "want of memory twice"),
+        _ => (),
+    }
+}
+
 /// The right answer, or want of memory: for a run in which each allocation is refused in turn. Of
 /// two texts for the same words only one can meet the refusal, and would differ if it cut it short.
 #[test]
 fn refused_in_turn(rt: HostRuntime) {
     let alloc = rt.alloc();
-    assert!(rt; matches!(job_of(alloc, &[]), Ok(Job::Joined) | Err(JobFault::Memory)));
-    match job_of(alloc, &["replay", "p", "t"]) {
-        Ok(Job::Replay(policy, trace)) => assert!(rt; policy == "p" && trace == "t"),
-        Err(JobFault::Memory) => (),
-        _ => assert!(rt; false, "neither the job nor want of memory"),
-    }
-    match (
-        job_of(alloc, &["check", "-h"]),
-        job_of(alloc, &["check", "--help"]),
-    ) {
-        (Err(JobFault::Print(short)), Err(JobFault::Print(long))) => assert_eq!(rt; short, long),
-        (Err(JobFault::Memory), Err(JobFault::Print(_))) => (),
-        (Err(JobFault::Print(_)), Err(JobFault::Memory)) => (),
-        _ => assert!(rt; false, "neither help nor want of memory"),
-    }
-    match (job_of(alloc, &["jump"]), job_of(alloc, &["jump"])) {
-        (Err(JobFault::Line(one)), Err(JobFault::Line(other))) => assert_eq!(rt; one, other),
-        (Err(JobFault::Memory), Err(JobFault::Line(_))) => (),
-        (Err(JobFault::Line(_)), Err(JobFault::Memory)) => (),
-        _ => assert!(rt; false, "neither a line nor want of memory"),
-    }
+    may_come_to(&rt, alloc, &[], "joined", "", "");
+    may_come_to(&rt, alloc, &["replay", "p", "t"], "replay", "p", "t");
+    let short = refused_with(&rt, alloc, &["check", "-h"], true);
+    let long = refused_with(&rt, alloc, &["check", "--help"], true);
+    are_alike(&rt, &short, &long);
+    let one = refused_with(&rt, alloc, &["jump"], false);
+    let other = refused_with(&rt, alloc, &["jump"], false);
+    are_alike(&rt, &one, &other);
 }

@@ -3,7 +3,7 @@
 ghost use Rattle.hg_place.specs.Lives.{IsLiveWord};
 
 use hg_heap::{Heap, Refused};
-use hg_machine::Rule;
+use hg_machine::{Row, Rule};
 use hg_place::{Actor, Handle, MAX_SEGMENTS, PAGE_PLACES, Place, PlainWords, SEGMENT_PAGES, pack};
 use hg_policy::{Policy, read_policy};
 use hg_queue::ARENAS;
@@ -31,7 +31,8 @@ arena = [ {name = \"main\", segments = 2},
 grant = [ {owner = \"alice\", to = \"bob\", rights = [\"read\", \"free\"]} ]
 ";
 
-/// A heap and the policy of its segments.
+/// A heap and the policy of its segments. A function that has one ends with `drop`: at the end of a
+/// scope each of its many parts would be let go in the function's own proof.
 #[derive(Drop)]
 pub struct Tried {
     pub policy: Policy,
@@ -101,6 +102,84 @@ impl Tried {
     ) -> Result<(), Refused> {
         self.heap.write(&self.policy, actor, handle, index, value)
     }
+
+    /// Looks at a place of a held segment; and the word that was shown.
+    pub fn look(&mut self, rt: &impl Abort, actor: Actor, place: Place) -> (Option<Row>, u64) {
+        assert!(rt; self.heap.holds(place.segment));
+        let mut shown = 0;
+        let row = self.heap.look(&self.policy, actor, place, &mut shown);
+        (row, shown)
+    }
+
+    /// A heap with segment 0, of which no place was ever given out.
+    pub fn with_segment(rt: &impl Abort, alloc: Global, text: &str) -> Tried {
+        let mut tried = Tried::new(rt, alloc, text);
+        tried.adopt_fresh(rt, alloc, 0);
+        tried
+    }
+
+    /// What a request for a block must be answered.
+    pub fn allocs(
+        &mut self,
+        rt: &impl Abort,
+        actor: Actor,
+        arena: u8,
+        bytes: u64,
+        expected: Result<Handle, Refused>,
+    ) {
+        assert_eq!(rt; self.alloc(rt, actor, arena, bytes), expected);
+    }
+
+    /// What freeing a block must be answered.
+    pub fn frees(
+        &mut self,
+        rt: &impl Abort,
+        actor: Actor,
+        handle: Handle,
+        expected: Result<(), Refused>,
+    ) {
+        assert_eq!(rt; self.free(actor, handle), expected);
+    }
+
+    /// What reading a word must be answered.
+    pub fn reads(
+        &mut self,
+        rt: &impl Abort,
+        actor: Actor,
+        handle: Handle,
+        index: u32,
+        expected: Result<u64, Refused>,
+    ) {
+        assert_eq!(rt; self.read(actor, handle, index), expected);
+    }
+
+    /// What writing a word must be answered.
+    pub fn writes(
+        &mut self,
+        rt: &impl Abort,
+        actor: Actor,
+        handle: Handle,
+        index: u32,
+        value: u64,
+        expected: Result<(), Refused>,
+    ) {
+        assert_eq!(rt; self.write(actor, handle, index, value), expected);
+    }
+
+    /// What a tenant must be charged.
+    pub fn charges(&self, rt: &impl Abort, owner: u8, bytes: u64) {
+        assert_eq!(rt; self.heap.charge(owner), bytes);
+    }
+
+    /// A segment must not be held.
+    pub fn lacks(&self, rt: &impl Abort, number: u8) {
+        assert!(rt; !self.heap.holds(number));
+    }
+
+    /// So many pages must lose their classes.
+    pub fn collects(&mut self, rt: &impl Abort, pages: u32) {
+        assert_eq!(rt; self.heap.collect(), pages);
+    }
 }
 
 /// A handle, by its numbers.
@@ -130,6 +209,19 @@ pub fn live(rt: &impl Abort, generation: u32, owner: u8) -> u64
     pack(generation, owner, true)
 }
 
+/// Parts a place of a segment whose word must be this.
+fn part(rt: &impl Abort, segment: &mut Segment<PlainWords>, place: Place, word: u64)
+    requires { IsLiveWord word }
+{
+    assert!(rt; segment.number() == place.segment);
+    assert_eq!(rt; segment.part(place, word), Ok(()));
+}
+
+/// Sends a place that isn't on its way yet.
+pub fn send(rt: &impl Abort, remote: &mut RemoteList, place: Place) {
+    assert_eq!(rt; remote.push(place.page, place.index), Ok(()));
+}
+
 /// A worker that doesn't hold the segment frees a block of an owner, and the place is sent.
 pub fn free_far(
     rt: &impl Abort,
@@ -138,9 +230,7 @@ pub fn free_far(
     handle: Handle,
     owner: u8,
 ) {
-    let place = handle.place;
     let word = live(rt, handle.generation, owner);
-    assert!(rt; segment.number() == place.segment);
-    assert_eq!(rt; segment.part(place, word), Ok(()));
-    assert_eq!(rt; remote.push(place.page, place.index), Ok(()));
+    part(rt, segment, handle.place, word);
+    send(rt, remote, handle.place);
 }

@@ -207,16 +207,24 @@ impl Machine {
         Err(Refused::NoRoom)
     }
 
+    /// A segment must be held, of this arena.
+    fn is_in(&self, rt: &impl Abort, arena: u8, segment: u8) {
+        assert_eq!(rt; self.arena_of(rt, segment as usize), Some(arena));
+    }
+
+    /// The life of a handle must be the next of its place.
+    fn is_next(&self, rt: &impl Abort, handle: Handle) {
+        let generation = self.generation(rt, handle.place).wrapping_add(1);
+        assert_eq!(rt; handle.generation, generation);
+    }
+
     /// The place of a handle may be given out as a block of so many words.
     pub fn check_room(&self, rt: &impl Abort, arena: u8, words: u16, handle: Handle) {
         let place = handle.place;
         let page = page_of(place);
-        assert_eq!(rt; self.arena_of(rt, place.segment as usize), Some(arena));
+        self.is_in(rt, arena, place.segment);
         assert!(rt; place.index < places(words) && self.is_vacant(rt, page, place.index));
-        assert_eq!(rt;
-            handle.generation,
-            self.generation(rt, place).wrapping_add(1)
-        );
+        self.is_next(rt, handle);
         let class = self.class(rt, page);
         let is_begun = class == 0 && !self.has_room_in(rt, arena, words, words);
         assert!(rt; class == words || is_begun);

@@ -7,32 +7,32 @@ use hg_machine::Rule;
 use hg_place::Place;
 use std::process::Abort;
 
-/// Parts a place.
-fn part(rt: &impl Abort, tried: &mut Tried, place: Place, expected: u64) -> Result<(), u64>
+/// What parting a place must be answered.
+fn parts(rt: &impl Abort, tried: &mut Tried, place: Place, expected: u64, answer: Result<(), u64>)
     requires { IsLiveWord expected }
 {
     assert!(rt; tried.heap.holds(place.segment));
-    tried.heap.part(place, expected)
+    assert_eq!(rt; tried.heap.part(place, expected), answer);
 }
 
-/// The word of a place.
-fn word(rt: &impl Abort, tried: &Tried, place: Place) -> u64 {
+/// The word of a place must be this.
+fn is_word(rt: &impl Abort, tried: &Tried, place: Place, word: u64) {
     assert!(rt; tried.heap.holds(place.segment));
-    tried.heap.word(place)
+    assert_eq!(rt; tried.heap.word(place), word);
 }
 
 // A block is parted once; nobody reaches it then, and its owner is charged for it.
 #[test]
 fn parted_once(rt: HostRuntime) {
-    let mut tried = Tried::new(&rt, rt.alloc(), POLICY);
-    tried.adopt_fresh(&rt, rt.alloc(), 0);
+    let mut tried = Tried::with_segment(&rt, rt.alloc(), POLICY);
     let block = tried.alloc(&rt, ALICE, MAIN, 24).expect(&rt, "a block");
     let whole = live(&rt, 1, 0);
-    assert_eq!(&rt; word(&rt, &tried, block.place), whole);
-    assert_eq!(&rt; part(&rt, &mut tried, block.place, whole), Ok(()));
-    assert_eq!(&rt; word(&rt, &tried, block.place), whole - 1);
-    assert_eq!(&rt; part(&rt, &mut tried, block.place, whole), Err(whole - 1));
-    assert_eq!(&rt; tried.read(ALICE, block, 0), denied(Rule::AlreadyFreed));
-    assert_eq!(&rt; tried.free(ALICE, block), denied(Rule::AlreadyFreed));
-    assert_eq!(&rt; tried.heap.charge(0), 24);
+    is_word(&rt, &tried, block.place, whole);
+    parts(&rt, &mut tried, block.place, whole, Ok(()));
+    is_word(&rt, &tried, block.place, whole - 1);
+    parts(&rt, &mut tried, block.place, whole, Err(whole - 1));
+    tried.reads(&rt, ALICE, block, 0, denied(Rule::AlreadyFreed));
+    tried.frees(&rt, ALICE, block, denied(Rule::AlreadyFreed));
+    tried.charges(&rt, 0, 24);
+    drop(tried);
 }

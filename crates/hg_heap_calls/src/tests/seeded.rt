@@ -3,10 +3,10 @@
 
 ghost use Rattle.std.specs.Prelude.{◌<◌};
 
-use crate::tests::heaps::{MAIN, Tried, VAULT, free_far, fresh, live};
+use crate::tests::heaps::{MAIN, Tried, VAULT, free_far, fresh, live, send};
 use crate::tests::machine::{Machine, page_of};
 use crate::tests::order::{Order, places};
-use hg_heap::Refused;
+use hg_heap::{Heap, Refused};
 use hg_machine::Row;
 use hg_place::{
     Actor, Handle, PAGE_PLACES, Place, PlainWords, Right, SEGMENT_PAGES, SEGMENT_PLACES,
@@ -109,25 +109,32 @@ impl Run {
         let actor = actor_of(number);
         let arena = arena_of(number);
         let bytes = BYTES[pick(number, 24, BYTES.len())];
-        let answer = self.tried.alloc(rt, actor, arena, bytes);
-        let words = match self.machine.room_for(rt, actor, arena, bytes) {
-            Err(refused) => {
-                assert_eq!(rt; answer, Err(refused));
-                return;
+        match self.machine.room_for(rt, actor, arena, bytes) {
+            Err(refused) => self.tried.allocs(rt, actor, arena, bytes, Err(refused)),
+            Ok(words) => {
+                let answer = self.tried.alloc(rt, actor, arena, bytes);
+                let handle = answer.expect(rt, "a block");
+                self.machine.check_room(rt, arena, words, handle);
+                self.check_next(rt, alloc, arena, words, handle);
+                self.give(rt, alloc, handle, actor.0, words);
             }
-            Ok(words) => words,
-        };
-        assert!(rt; answer.is_ok());
-        let Ok(handle) = answer else {
-            return;
-        };
-        self.machine.check_room(rt, arena, words, handle);
+        }
+    }
+
+    /// A handle must be of the place that is next.
+    fn check_next(
+        &mut self,
+        rt: &impl Abort,
+        alloc: Global,
+        arena: u8,
+        words: u16,
+        handle: Handle,
+    ) {
         let next = self.order.choose(rt, alloc, arena, words);
         let next = next.expect(rt, "a place");
         assert_eq!(rt; page_of(handle.place), next.page);
         assert_eq!(rt; handle.place.index, next.index);
         assert_eq!(rt; handle.generation, next.generation);
-        self.give(rt, alloc, handle, actor.0, words);
     }
 
     /// A handle: of a block that is out, or one that was given out at some time.
@@ -254,45 +261,50 @@ impl Run {
         }
     }
 
-    /// Looks at a place of a held segment.
-    fn look(&mut self, rt: &impl Abort, number: u64) {
-        let place = match self.handle(rt, number) {
+    /// A place to look at.
+    fn looked_at(&mut self, rt: &impl Abort, number: u64) -> Place {
+        match self.handle(rt, number) {
             Some(handle) if pick(number, 44, 4) > 0 => handle.place,
             _ => Place {
                 segment: pick(number, 32, 3) as u8,
                 page: pick(number, 36, SEGMENT_PAGES) as u8,
                 index: pick(number, 40, PAGE_PLACES) as u16,
             },
-        };
+        }
+    }
+
+    /// What a look at the block of a handle must answer.
+    fn row(&mut self, rt: &impl Abort, actor: Actor, handle: Handle) -> Option<Row> {
+        if self.refusal(rt, actor, Right::List, handle).is_some() {
+            return None;
+        }
+        let at = self.machine.block_at(handle.place).expect(rt, "a block");
+        let block = self.machine.block(rt, at);
+        let bytes = 8 * block.words.len().min(512) as u32;
+        let owner = block.owner;
+        Some(Row {
+            handle,
+            owner,
+            bytes,
+        })
+    }
+
+    /// Looks at a place of a held segment.
+    fn look(&mut self, rt: &impl Abort, number: u64) {
+        let place = self.looked_at(rt, number);
         if !self.tried.heap.holds(place.segment) {
             return;
         }
         let actor = actor_of(number);
-        let mut shown = 0;
-        let row = self
-            .tried
-            .heap
-            .look(&self.tried.policy, actor, place, &mut shown);
+        let (row, shown) = self.tried.look(rt, actor, place);
         let generation = self.machine.generation(rt, place);
         assert_eq!(rt; word_generation(shown), generation);
         let handle = Handle {
             place,
             generation: generation.max(1),
         };
-        if self.refusal(rt, actor, Right::List, handle).is_some() {
-            assert_eq!(rt; row, None);
-            return;
-        }
-        let at = self.machine.block_at(place).expect(rt, "a block");
-        let block = self.machine.block(rt, at);
-        let bytes = 8 * block.words.len().min(512) as u32;
-        let owner = block.owner;
-        let expected = Row {
-            handle,
-            owner,
-            bytes,
-        };
-        assert_eq!(rt; row, Some(expected));
+        let expected = self.row(rt, actor, handle);
+        assert_eq!(rt; row, expected);
     }
 
     /// Pages without blocks lose their classes.
@@ -339,6 +351,19 @@ impl Run {
         segment
     }
 
+    /// A segment comes of which no place was ever given out.
+    fn adopt_fresh(&mut self, rt: &impl Abort, alloc: Global, number: u8) {
+        let segment = fresh(rt, alloc, &self.tried.policy, number);
+        self.adopt(rt, alloc, segment);
+    }
+
+    /// Segment 1 comes as another heap left it, and of it so many places come home.
+    fn adopt_used(&mut self, rt: &impl Abort, alloc: Global, count: u32) {
+        let segment = self.used(rt, alloc);
+        self.adopt(rt, alloc, segment);
+        assert_eq!(rt; self.take(rt, alloc), count);
+    }
+
     /// Gives a page of a segment a class, and gives some places out; of three one comes home, and
     /// one is freed by a worker that doesn't hold the segment.
     fn use_page(
@@ -365,7 +390,8 @@ impl Run {
                 1 if many < 512 => self.end_life(rt, segment, handle),
                 2 => {
                     free_far(rt, segment, &mut self.remote, handle, 1);
-                    assert_eq!(rt; self.sent.push(page, handle.place.index), Ok(()));
+                    assert!(rt; handle.place.page == page);
+                    send(rt, &mut self.sent, handle.place);
                 }
                 _ => {}
             }
@@ -385,25 +411,26 @@ impl Run {
     }
 }
 
-/// A run from a seed, during which segments come.
-fn run_from(rt: &impl Abort, alloc: Global, seed: u64) {
-    let mut run = Run::new(rt, alloc);
-    let seed = run.steps(rt, alloc, seed, 20);
-    let segment = fresh(rt, alloc, &run.tried.policy, 0);
-    run.adopt(rt, alloc, segment);
-    let seed = run.steps(rt, alloc, seed, 800);
-    let segment = run.used(rt, alloc);
-    run.adopt(rt, alloc, segment);
-    assert_eq!(rt; run.take(rt, alloc), 25);
-    let seed = run.steps(rt, alloc, seed, 800);
-    let segment = fresh(rt, alloc, &run.tried.policy, 2);
-    run.adopt(rt, alloc, segment);
-    run.steps(rt, alloc, seed, 2400);
-    let heap = &run.tried.heap;
+/// The heap must hold three segments, as they came.
+fn check_held(rt: &impl Abort, heap: &Heap<PlainWords>) {
     assert!(rt; heap.holds(0) && heap.holds(1) && heap.holds(2));
     assert_eq!(rt; heap.arena(0), MAIN);
     assert_eq!(rt; heap.arena(2), VAULT);
     assert_eq!(rt; heap.greatest(1), GREATEST);
+}
+
+/// A run from a seed, during which segments come.
+fn run_from(rt: &impl Abort, alloc: Global, seed: u64) {
+    let mut run = Run::new(rt, alloc);
+    let seed = run.steps(rt, alloc, seed, 20);
+    run.adopt_fresh(rt, alloc, 0);
+    let seed = run.steps(rt, alloc, seed, 800);
+    run.adopt_used(rt, alloc, 25);
+    let seed = run.steps(rt, alloc, seed, 800);
+    run.adopt_fresh(rt, alloc, 2);
+    run.steps(rt, alloc, seed, 2400);
+    check_held(rt, &run.tried.heap);
+    drop(run);
 }
 
 // A heap does as its models do.

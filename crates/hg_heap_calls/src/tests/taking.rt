@@ -1,6 +1,6 @@
 //! What was sent to a segment is taken in.
 
-use crate::tests::heaps::{ALICE, MAIN, Tried, free_far, fresh, handle};
+use crate::tests::heaps::{ALICE, MAIN, Tried, free_far, fresh, handle, send};
 use hg_heap::Refused;
 use hg_place::{Handle, PlainWords, SEGMENT_PAGES, Standing};
 use hg_remote::RemoteList;
@@ -73,6 +73,7 @@ impl Sent {
         let count = tried.heap.take(0, &mut remote);
         assert_eq!(rt; count, expected);
         assert!(rt; remote.is_empty());
+        drop(remote);
         tried
     }
 }
@@ -85,7 +86,14 @@ fn first(rt: &impl Abort, page: u8, index: u16) -> Handle {
 /// The next block of so many bytes must be the second of this place.
 fn second(rt: &impl Abort, tried: &mut Tried, bytes: u64, page: u8, index: u16) {
     let expected = handle(rt, 0, page, index, 2);
-    assert_eq!(rt; tried.alloc(rt, ALICE, MAIN, bytes), Ok(expected));
+    tried.allocs(rt, ALICE, MAIN, bytes, Ok(expected));
+}
+
+/// The place of a block of a held segment must be home, after this life.
+fn is_home(rt: &impl Abort, tried: &Tried, handle: Handle) {
+    assert!(rt; tried.heap.holds(handle.place.segment));
+    let standing = tried.heap.standing(handle.place);
+    assert_eq!(rt; standing, Standing::Home(handle.generation));
 }
 
 // Each place goes in front of those that came home before it: of places 1, 3 and 0, which were
@@ -98,11 +106,12 @@ fn places_in_order(rt: HostRuntime) {
     sent.free_far(&rt, 0, 3);
     sent.free_far(&rt, 0, 0);
     let mut tried = sent.take(&rt, 3);
-    assert_eq!(&rt; tried.heap.charge(0), 5 * 512);
+    tried.charges(&rt, 0, 5 * 512);
     second(&rt, &mut tried, 512, 0, 1);
     second(&rt, &mut tried, 512, 0, 3);
     second(&rt, &mut tried, 512, 0, 0);
-    assert_eq!(&rt; tried.alloc(&rt, ALICE, MAIN, 512), Ok(first(&rt, 1, 0)));
+    tried.allocs(&rt, ALICE, MAIN, 512, Ok(first(&rt, 1, 0)));
+    drop(tried);
 }
 
 // A full page that regains a place goes to the front of its queue, in the order in which places are
@@ -124,7 +133,8 @@ fn pages_in_order(rt: HostRuntime) {
     second(&rt, &mut tried, 4096, 0, 0);
     second(&rt, &mut tried, 4096, 1, 0);
     second(&rt, &mut tried, 4096, 2, 0);
-    assert_eq!(&rt; tried.alloc(&rt, ALICE, MAIN, 512), Ok(first(&rt, 5, 2)));
+    tried.allocs(&rt, ALICE, MAIN, 512, Ok(first(&rt, 5, 2)));
+    drop(tried);
 }
 
 // A worn place comes home, and on no list: it is charged no more, and its page has no room.
@@ -136,12 +146,11 @@ fn worn_places(rt: HostRuntime) {
     sent.free_far(&rt, 0, 0);
     sent.free_far(&rt, 1, 7);
     let mut tried = sent.take(&rt, 2);
-    assert_eq!(&rt; tried.heap.charge(0), 7 * 512);
-    let place = first(&rt, 1, 7).place;
-    assert!(&rt; tried.heap.holds(place.segment));
-    assert_eq!(&rt; tried.heap.standing(place), Standing::Home(1));
-    assert_eq!(&rt; tried.alloc(&rt, ALICE, MAIN, 512), Ok(first(&rt, 2, 0)));
-    assert_eq!(&rt; tried.alloc(&rt, ALICE, MAIN, 4096), Ok(first(&rt, 3, 0)));
+    tried.charges(&rt, 0, 7 * 512);
+    is_home(&rt, &tried, first(&rt, 1, 7));
+    tried.allocs(&rt, ALICE, MAIN, 512, Ok(first(&rt, 2, 0)));
+    tried.allocs(&rt, ALICE, MAIN, 4096, Ok(first(&rt, 3, 0)));
+    drop(tried);
 }
 
 // A place that lives and one that is home are passed over, and leave the list all the same.
@@ -150,15 +159,16 @@ fn passed_over(rt: HostRuntime) {
     let mut sent = Sent::new(&rt, rt.alloc(), ONE_TENANT);
     sent.open(&rt, 0, 512, 1);
     sent.open(&rt, 1, 512, 1);
-    assert_eq!(&rt; sent.remote.push(0, 0), Ok(()));
+    send(&rt, &mut sent.remote, first(&rt, 0, 0).place);
     sent.free_far(&rt, 1, 0);
-    assert_eq!(&rt; sent.remote.push(2, 9), Ok(()));
+    send(&rt, &mut sent.remote, first(&rt, 2, 9).place);
     let mut tried = sent.take(&rt, 1);
-    assert_eq!(&rt; tried.heap.charge(0), 4096);
-    assert_eq!(&rt; tried.read(ALICE, first(&rt, 0, 0), 511), Ok(0));
-    assert_eq!(&rt; tried.free(ALICE, first(&rt, 0, 0)), Ok(()));
+    tried.charges(&rt, 0, 4096);
+    tried.reads(&rt, ALICE, first(&rt, 0, 0), 511, Ok(0));
+    tried.frees(&rt, ALICE, first(&rt, 0, 0), Ok(()));
     second(&rt, &mut tried, 4096, 0, 0);
     second(&rt, &mut tried, 4096, 1, 0);
+    drop(tried);
 }
 
 // Of nothing nothing comes home.
@@ -167,6 +177,7 @@ fn nothing_was_sent(rt: HostRuntime) {
     let mut sent = Sent::new(&rt, rt.alloc(), ONE_TENANT);
     sent.open(&rt, 0, 512, 1);
     let mut tried = sent.take(&rt, 0);
-    assert_eq!(&rt; tried.heap.charge(0), 4096);
-    assert_eq!(&rt; tried.alloc(&rt, ALICE, MAIN, 5000), Err(Refused::TooLarge));
+    tried.charges(&rt, 0, 4096);
+    tried.allocs(&rt, ALICE, MAIN, 5000, Err(Refused::TooLarge));
+    drop(tried);
 }
