@@ -5,16 +5,16 @@
 //     limit labels BYTES      65,536 labels given, and then read by turns
 //     limit names BYTES       65,536 names of tenants that the policy lacks, by turns
 //     limit slots BYTES       the same, where all names begin and end alike and are as long
-//     limit colliding BYTES   labels as above, whose hashes share their low 13 bits
+//     limit colliding BYTES   labels as above, whose hashes share their low 16 bits
 //
-// A label's hash is that of the set that heapguard keeps labels in: its seed is fixed, so whoever
-// writes a trace can choose them so.
+// A label's hash is that of the set that heapguard keeps labels in, which has no secret: whoever
+// writes a trace can choose them so. By these bits all of them fall into one bucket.
 #include <stdint.h>
 #include <stdio.h>
 #include <stdlib.h>
 #include <string.h>
 
-enum { COUNT = 65536, SEGMENTS = 64, SHARED = 8191 };
+enum { COUNT = 65536, SEGMENTS = 64, DIGITS = 36, LOW = 0x5a5 };
 
 static char names[COUNT][17];
 static long left;
@@ -36,38 +36,43 @@ static void fill(const char *text) {
     while (left > 0) line(text, "", "");
 }
 
-static uint64_t folded(uint64_t a, uint64_t b) {
-    unsigned __int128 product = (unsigned __int128)a * b;
-    return (uint64_t)product ^ (uint64_t)(product >> 64);
+// The low 16 bits of an FNV-1a hash after a byte more, which those before it determine.
+static uint16_t hashed(uint16_t low, char byte) {
+    return (uint16_t)((low ^ (unsigned char)byte) * 0x1b3u);
 }
 
-// The hash of a name of 4 to 8 bytes.
-static uint32_t hash(const char *name) {
-    const uint64_t times = 0x9e3779b97f4a7c15u;
-    size_t length = strlen(name);
-    uint32_t front, back;
-    memcpy(&front, name, 4);
-    memcpy(&back, name + length - 4, 4);
-    uint64_t state = folded(0x243f6a8885a308d3u ^ front ^ (uint64_t)back << 32, times ^ 2 * length);
-    // 255 stands behind each text, as a byte alone: its first, middle and last
-    state = folded(state ^ 0xffffffu, times ^ 2u);
-    return (uint32_t)(state ^ state >> 32);
-}
+static const char digits[] = "abcdefghijklmnopqrstuvwxyz0123456789";
 
 // A name of eight bytes for each number, of letters and digits between two letters.
 static void spell(char *name, uint64_t number) {
-    static const char digits[] = "abcdefghijklmnopqrstuvwxyz0123456789";
     name[0] = 'n';
-    for (int at = 6; at > 0; at--, number /= 36) name[at] = digits[number % 36];
+    for (int at = 6; at > 0; at--, number /= DIGITS) name[at] = digits[number % DIGITS];
     name[7] = 'z';
     name[8] = 0;
 }
 
+// For each state of a hash's low bits two bytes that lead from it to the same, if there are such.
+static short ends[1 << 16];
+
+static void find_ends(void) {
+    for (int low = 0; low < 1 << 16; low++) ends[low] = -1;
+    for (int low = 0; low < 1 << 16; low++)
+        for (int pair = 0; pair < DIGITS * DIGITS; pair++)
+            if (hashed(hashed((uint16_t)low, digits[pair / DIGITS]), digits[pair % DIGITS]) == LOW)
+                ends[low] = (short)pair;
+}
+
 static void colliding(void) {
     uint64_t number = 0;
-    for (int at = 0; at < COUNT; at++) {
-        do spell(names[at], number++);
-        while ((hash(names[at]) & SHARED) != 0x5a5);
+    find_ends();
+    for (int at = 0; at < COUNT;) {
+        spell(names[at], number++ * DIGITS);
+        uint16_t low = 0x2325;
+        for (int byte = 0; byte < 6; byte++) low = hashed(low, names[at][byte]);
+        if (ends[low] < 0) continue;
+        names[at][6] = digits[ends[low] / DIGITS];
+        names[at][7] = digits[ends[low] % DIGITS];
+        at++;
     }
 }
 
