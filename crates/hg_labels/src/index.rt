@@ -31,7 +31,7 @@ fn home_of(hash: u64, buckets: usize) -> usize
 }
 
 /// Whether a name stands at that number.
-fn is_named(names: &[&str], number: usize, name: &str) -> bool
+pub(crate) fn is_named(names: &[&str], number: usize, name: &str) -> bool
     ensures { IsTrue result ↔ StandsAt (texts names.now) number name.now }
 {
     match names.get(number) {

@@ -1,11 +1,12 @@
 //! Names, each once.
 
 ghost use Rattle.std.specs.Prelude.{◌≡◌, ◌∷◌, ◌++◌, [], true, false, not, position, bytes_eq};
-ghost use Rattle.std.specs.Prelude.{IfOk, OnErr};
+ghost use Rattle.std.specs.Prelude.{◌↔◌, IsTrue, IfOk, OnErr};
 ghost use Rattle.std.specs.List.{list_any};
+ghost use Rattle.hg_labels.specs.Indexes.{texts, StandsAt};
 
 use crate::hash::hash_of;
-use crate::index::Index;
+use crate::index::{Index, is_named};
 use std::alloc::{AllocError, Global};
 use std::marker::Model;
 
@@ -42,6 +43,20 @@ impl<'a> Names<'a> {
             names: Vec::new(alloc),
             index: Index::new(alloc),
         }
+    }
+
+    /// The names, each at its number.
+    pub fn names(&self) -> &[&'a str]
+        ensures { texts result.now ≡ self.now }
+    {
+        &self.names
+    }
+
+    /// Whether a name stands at that number.
+    pub fn is_at(&self, number: usize, name: &str) -> bool
+        ensures { IsTrue result ↔ StandsAt self.now number name.now }
+    {
+        is_named(&self.names, number, name)
     }
 
     /// The number of a name, from 0.

@@ -55,7 +55,11 @@ fn keeps_2000_names(rt: HostRuntime) {
     for number in 0usize..2_000 {
         let name = number_at(&rt, text.as_str(), number);
         assert_eq!(&rt; names.position_of(name), Some(number));
+        assert!(&rt; names.is_at(number, name));
+        assert!(&rt; !names.is_at(number + 1, name));
     }
+    assert_eq!(&rt; names.names().len(), 2_000);
+    assert_eq!(&rt; names.names().get(1_999), Some(&"101999"));
     assert_eq!(&rt; names.position_of(""), None);
     assert_eq!(&rt; names.position_of("10000"), None);
 }

@@ -23,3 +23,5 @@ pub mod PlainLines
 pub mod PlainBytes
 pub mod PlainTraces
 pub mod ReadLines
+pub mod StoredNumbers
+pub mod StoreSteps

@@ -8,6 +8,8 @@ pub mod Handles
 pub mod Blocks
 pub mod Labels
 pub mod Commands
+pub mod Workers
+pub mod Stored
 pub mod Trace
 pub mod Reads
 pub mod Joined

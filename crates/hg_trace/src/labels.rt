@@ -1,6 +1,8 @@
 //! The labels that lines gave.
 
-ghost use Rattle.std.specs.Prelude.{◌≡◌, ◌∷◌, ◌++◌, [], true, not, position, bytes_eq, IfOk, IfErr};
+ghost use Rattle.std.specs.Prelude.{◌≡◌, ◌∷◌, ◌++◌, [], true, false, not, position, length};
+ghost use Rattle.std.specs.Prelude.{bytes_eq, IfOk, IfErr, OnErr};
+ghost use Rattle.hg_labels.specs.Indexes.{texts};
 ghost use Rattle.hg_policy.specs.NameForm.{is_among};
 ghost use Rattle.hg_trace.specs.Labels.{repeats, with_label};
 
@@ -34,6 +36,20 @@ impl<'a> Labels<'a> {
         }
     }
 
+    /// How many there are.
+    pub(crate) fn count(&self) -> usize
+        ensures { result ≡ length self.now }
+    {
+        self.names.names().len()
+    }
+
+    /// The labels, each at its number.
+    pub(crate) fn names(&self) -> &[&'a str]
+        ensures { texts result.now ≡ self.now }
+    {
+        self.names.names()
+    }
+
     /// The number of a label, from 0.
     pub(crate) fn position_of(&self, name: &str) -> Option<usize>
         ensures { result ≡ position (λ label. bytes_eq name.now label) self.now }
@@ -46,7 +62,9 @@ impl<'a> Labels<'a> {
         ensures added { IfOk result (λ added. added ≡ not (is_among name.now self.old)) }
         ensures ok { IfOk result
             (λ added. added ≡ true → self.new ≡ self.old ++ name.now ∷ []) }
+        ensures known { IfOk result (λ added. added ≡ false → self.new ≡ self.old) }
         ensures err { IfErr result (λ fault. fault ≡ TraceFault.Memory) }
+        ensures kept { OnErr result (self.new ≡ self.old) }
     {
         let added = self.names.push(name)?;
         Ok(added)
@@ -58,7 +76,9 @@ impl<'a> Labels<'a> {
         ensures added { IfOk result (λ added. added ≡ not (repeats self.old command.now)) }
         ensures ok { IfOk result
             (λ added. added ≡ true → self.new ≡ with_label self.old command.now) }
+        ensures known { IfOk result (λ added. added ≡ false → self.new ≡ self.old) }
         ensures err { IfErr result (λ fault. fault ≡ TraceFault.Memory) }
+        ensures kept { OnErr result (self.new ≡ self.old) }
     {
         match command {
             Command::Alloc {

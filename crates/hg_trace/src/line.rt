@@ -1,13 +1,10 @@
 //! What a trace says, line by line.
 
-ghost use Rattle.std.specs.Prelude.{◌≡◌, ◌++◌, ◌∷◌, [], OnOk, IfErr};
+ghost use Rattle.std.specs.Prelude.{◌≡◌};
 ghost use Rattle.hg_trace.specs.Labels.{gives_label};
 
-use crate::fault::TraceFault;
 use crate::name::Name;
 use hg_place::{Handle, Place};
-use std::alloc::Global;
-use std::marker::Model;
 
 /// A block, as an operand names it.
 #[derive(Clone, Copy, Debug, PartialEq, Eq)]
@@ -78,44 +75,4 @@ pub struct Line<'a> {
     pub number: u64,
     pub worker: u8,
     pub command: Command<'a>,
-}
-
-/// The lines that have a command, in order.
-#[derive(Drop)]
-pub struct Trace<'a> {
-    lines: Vec<Line<'a>>,
-}
-
-impl<'a> Model for Trace<'a> {
-    ghost use Rattle.std.specs.Prelude.{List};
-    ghost use Rattle.hg_trace.specs.declared.line.Line.{Line};
-
-    ghost Value = { List Line };
-
-    ghost view = { λ trace. trace.lines.items };
-}
-
-impl<'a> Trace<'a> {
-    pub(crate) fn new(alloc: Global) -> Trace<'a>
-        ensures { result ≡ [] }
-    {
-        Trace {
-            lines: Vec::new(alloc),
-        }
-    }
-
-    /// The line goes behind the others.
-    pub(crate) fn push(&mut self, line: Line<'a>) -> Result<(), TraceFault>
-        ensures ok { OnOk result (self.new ≡ self.old ++ line.entry ∷ []) }
-        ensures err { IfErr result (λ fault. fault ≡ TraceFault.Memory) }
-    {
-        self.lines.push(line)?;
-        Ok(())
-    }
-
-    pub fn lines(&self) -> &[Line<'a>]
-        ensures { result.now ≡ self.now }
-    {
-        &self.lines
-    }
 }

@@ -36,6 +36,13 @@ impl<'a> Name<'a> {
         Name { text }
     }
 
+    /// A name that was taken before.
+    pub(crate) fn known(text: &'a str) -> Name<'a>
+        ensures { result ≡ text.now }
+    {
+        Name { text }
+    }
+
     /// The name that a word is.
     pub(crate) fn of(word: &'a [u8]) -> Option<Name<'a>>
         ensures some { IfSome result (λ name. name ≡ word.now) }

@@ -1,21 +1,21 @@
 //! Reading a trace.
 
-ghost use Rattle.std.specs.Prelude.{◌≡◌, ◌≢◌, ◌^◌, ◌++◌, ◌∷◌, [], IfOk, IfErr, OnOk};
+ghost use Rattle.std.specs.Prelude.{◌≡◌, ◌≢◌, ◌^◌, IfOk, IfErr};
 ghost use Rattle.std.specs.Prelude.{MatchResult, Ok, Err, ok_or, bytes_eq, true, false};
 ghost use Rattle.std.specs.List.{list_all};
 ghost use Rattle.hg_trace.specs.Lines.{is_plain};
 ghost use Rattle.hg_trace.specs.Numbers.{number_below};
 ghost use Rattle.hg_trace.specs.Commands.{worker_of, command_at, words_at};
-ghost use Rattle.hg_trace.specs.Labels.{repeats, with_label};
 ghost use Rattle.hg_trace.specs.Trace.{line_at, numbered, trace_of};
+ghost use Rattle.hg_trace.specs.Stored.{lines_in};
 ghost use Rattle.hg_trace.specs.Reads.{Reads};
 
 use crate::commands::command_of;
 use crate::fault::{LineFault, TraceFault};
-use crate::labels::Labels;
-use crate::line::{Line, Trace};
+use crate::line::Line;
 use crate::lines::{Cut, Lines, are_plain};
 use crate::numbers::parse_number;
+use crate::trace::Trace;
 use crate::words::Words;
 use std::alloc::Global;
 
@@ -34,34 +34,14 @@ fn worker_of(word: &[u8]) -> Result<u8, LineFault>
     }
 }
 
-/// A line that has a command goes behind the trace, and a label that it gives behind the labels.
-fn keep<'a>(
-    trace: &mut Trace<'a>,
-    labels: &mut Labels<'a>,
-    line: Line<'a>,
-) -> Result<(), TraceFault>
-    ensures fresh { OnOk result (repeats labels.old line.entry.command ≡ false) }
-    ensures trace { OnOk result (trace.new ≡ trace.old ++ line.entry ∷ []) }
-    ensures labels { OnOk result (labels.new ≡ with_label labels.old line.entry.command) }
-    ensures err { IfErr result (λ fault. fault ≢ TraceFault.Memory
-        → (repeats labels.old line.entry.command ≡ true)
-        × (fault ≡ TraceFault.Line line.entry.number LineFault.RepeatedLabel)) }
-{
-    if !labels.add(&line.command)? {
-        return Err(LineFault::RepeatedLabel.at(line.number));
-    }
-    trace.push(line)
-}
-
 /// Reads the words of the line with this number.
 fn read_words<'a>(
     trace: &mut Trace<'a>,
-    labels: &mut Labels<'a>,
     number: u64,
     words: &mut Words<'a>,
 ) -> Result<(), TraceFault>
-    ensures { Reads (numbered number (words_at labels.old words.old))
-        trace.old trace.new labels.old labels.new result }
+    ensures { Reads (numbered number (words_at trace.old.labels words.old))
+        (lines_in trace.old) (lines_in trace.new) trace.old.labels trace.new.labels result }
 {
     let Some(word) = words.next_word() else {
         return Ok(());
@@ -70,16 +50,12 @@ fn read_words<'a>(
         Ok(worker) => worker,
         Err(fault) => return Err(fault.at(number)),
     };
-    match command_of(labels, words) {
-        Ok(command) => keep(
-            trace,
-            labels,
-            Line {
-                number,
-                worker,
-                command,
-            },
-        ),
+    match command_of(trace.labels(), words) {
+        Ok(command) => trace.push(&Line {
+            number,
+            worker,
+            command,
+        }),
         Err(fault) => Err(fault.at(number)),
     }
 }
@@ -87,35 +63,33 @@ fn read_words<'a>(
 /// Reads the line with this number, which may be known to have plain bytes alone.
 fn read_line<'a>(
     trace: &mut Trace<'a>,
-    labels: &mut Labels<'a>,
     number: u64,
     line: Cut<'a>,
     plain: bool,
 ) -> Result<(), TraceFault>
     requires { plain ≡ true → list_all is_plain line ≡ true }
-    ensures { Reads (numbered number (line_at labels.old line.entry))
-        trace.old trace.new labels.old labels.new result }
+    ensures { Reads (numbered number (line_at trace.old.labels line.entry))
+        (lines_in trace.old) (lines_in trace.new) trace.old.labels trace.new.labels result }
 {
     match line.text(plain) {
-        Some(text) => read_words(trace, labels, number, &mut Words::new(text)),
+        Some(text) => read_words(trace, number, &mut Words::new(text)),
         None => Err(LineFault::Byte.at(number)),
     }
 }
 
 /// The trace that the bytes mean, or the fault of their first faulty line.
 pub fn read_trace<'a>(alloc: Global, bytes: &'a [u8]) -> Result<Trace<'a>, TraceFault>
-    ensures ok { IfOk result (λ trace. trace_of bytes.now ≡ Ok trace) }
+    ensures ok { IfOk result (λ trace. trace_of bytes.now ≡ Ok (lines_in trace)) }
     ensures err { IfErr result
         (λ fault. fault ≢ TraceFault.Memory → trace_of bytes.now ≡ Err fault) }
 {
     let mut trace = Trace::new(alloc);
-    let mut labels = Labels::new(alloc);
     let mut lines = Lines::new(bytes);
     let plain = are_plain(bytes);
     let mut number = 0;
     while let Some(line) = lines.next_cut() {
         number += 1;
-        read_line(&mut trace, &mut labels, number, line, plain)?;
+        read_line(&mut trace, number, line, plain)?;
     }
     Ok(trace)
 }

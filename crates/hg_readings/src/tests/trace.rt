@@ -3,6 +3,7 @@ mod joined;
 mod label_faults;
 mod labels;
 mod many;
+mod names;
 mod reading;
 mod refusals;
 mod shown;

@@ -66,8 +66,13 @@ fn labels_are_given(rt: HostRuntime) -> Result<(), Fail> {
     let mut given = Vec::new(a);
     match read_trace(a, text) {
         Ok(trace) => {
-            for line in trace.lines() {
-                given.push(line.command.gives_label())?;
+            assert_eq!(&rt; trace.label_count(), 1);
+            for at in 0..trace.stored().len() {
+                given.push(
+                    trace
+                        .line(at)
+                        .is_some_and(|line| line.command.gives_label()),
+                )?;
             }
         }
         Err(fault) => assert!(&rt; false, "{fault}"),

@@ -1,6 +1,6 @@
 //! A trace of 200,000 lines.
 
-use hg_trace::{BlockName, Command, read_trace};
+use hg_trace::{StoredBlock, StoredCommand, read_trace};
 use std::alloc::{AllocError, Global};
 use std::test::Fail;
 
@@ -22,11 +22,15 @@ fn many_lines_are_read(rt: HostRuntime) -> Result<(), Fail> {
     let text = rounds(a)?;
     match read_trace(a, text.as_bytes()) {
         Ok(trace) => {
-            assert_eq!(&rt; trace.lines().len(), 200_000);
-            let frees_its_own = trace.lines().iter().enumerate().all(|(at, line)| {
-                line.number == at as u64 + 1
-                    && match &line.command {
-                        Command::Free { block, .. } => *block == BlockName::Label(at / 2),
+            assert_eq!(&rt; trace.stored().len(), 200_000);
+            assert_eq!(&rt; trace.label_count(), 100_000);
+            assert_eq!(&rt; trace.names(), ["alice", "main"].as_slice());
+            let frees_its_own = trace.stored().iter().enumerate().all(|(at, line)| {
+                line.number as usize == at + 1
+                    && match line.command {
+                        StoredCommand::Free { block, .. } => {
+                            block == StoredBlock::Label((at / 2) as u32)
+                        }
                         _ => at % 2 == 0,
                     }
             });

@@ -15,7 +15,7 @@ w0 free a p\nw0 free a x\n";
 #[test]
 fn read_trace_refused_in_turn(rt: HostRuntime) {
     match read_trace(rt.alloc(), TRACE.as_bytes()) {
-        Ok(trace) => assert_eq!(&rt; trace.lines().len(), 3),
+        Ok(trace) => assert_eq!(&rt; trace.stored().len(), 3),
         Err(TraceFault::Memory) => {}
         Err(_) => assert!(&rt; false, "another fault"),
     }
@@ -24,7 +24,7 @@ fn read_trace_refused_in_turn(rt: HostRuntime) {
 #[test]
 fn labels_refused_in_turn(rt: HostRuntime) {
     match read_trace(rt.alloc(), LABELS.as_bytes()) {
-        Ok(trace) => assert_eq!(&rt; trace.lines().len(), 11),
+        Ok(trace) => assert_eq!(&rt; trace.stored().len(), 11),
         Err(TraceFault::Memory) => {}
         Err(_) => assert!(&rt; false, "another fault"),
     }

@@ -99,9 +99,16 @@ pub(crate) fn reads(rt: &impl Abort, alloc: Global, text: &[u8], want: &str) -> 
     let mut told = String::new(alloc);
     match read_trace(alloc, text) {
         Ok(trace) => {
-            for line in trace.lines() {
-                told.push_str(shown(alloc, line)?.as_str())?;
+            for at in 0..trace.stored().len() {
+                match trace.line(at) {
+                    Some(line) => told.push_str(shown(alloc, &line)?.as_str())?,
+                    None => assert!(rt; false, "line {at} is missing"),
+                }
             }
+            assert!(rt;
+                trace.line(trace.stored().len()).is_none(),
+                "a line too many"
+            );
         }
         Err(fault) => assert!(rt; false, "{fault} in place of {want}"),
     }
