@@ -89,6 +89,16 @@ fn take_all(page: &mut Page, words: &Vec<u64>) -> u64 {
     taken
 }
 
+fn used(page: &Page) -> u64 {
+    let mut used = 0u64;
+    for index in 0..PLACES {
+        if page.is_used(index) {
+            used += 1;
+        }
+    }
+    used
+}
+
 fn put_all(page: &mut Page, words: &mut Vec<u64>) -> u64 {
     let mut put = 0u64;
     for index in 0..PLACES {
@@ -128,13 +138,15 @@ fn main() {
         used: [false; PAGE_PLACES],
     };
     page.format(&mut words, BLOCK);
-    let (mut taking, mut putting) = (Duration::ZERO, Duration::ZERO);
+    let (mut taking, mut asking, mut putting) = (Duration::ZERO, Duration::ZERO, Duration::ZERO);
     let (mut turning, mut reading) = (Duration::ZERO, Duration::ZERO);
-    let (mut taken, mut put, mut pairs) = (0u64, 0u64, 0u64);
+    let (mut taken, mut asked, mut put, mut pairs) = (0u64, 0u64, 0u64, 0u64);
     for _ in 0..ROUNDS {
         page.splice(&mut words);
         let start = Instant::now();
         taken += take_all(&mut page, &words);
+        let ask = Instant::now();
+        asked += used(&page);
         let middle = Instant::now();
         put += put_all(&mut page, &mut words);
         let end = Instant::now();
@@ -143,12 +155,14 @@ fn main() {
         pairs += by_turns(&mut page, &mut words);
         let last = Instant::now();
         let again = Instant::now();
-        taking += middle.duration_since(start);
+        taking += ask.duration_since(start);
+        asking += middle.duration_since(ask);
         putting += end.duration_since(middle);
         turning += last.duration_since(turn);
         reading += again.duration_since(last);
     }
     println!("take {taken} {}", taking.as_nanos());
+    println!("ask {asked} {}", asking.as_nanos());
     println!("put {put} {}", putting.as_nanos());
     println!("turns {pairs} {}", turning.as_nanos());
     println!("clock {ROUNDS} {}", reading.as_nanos());

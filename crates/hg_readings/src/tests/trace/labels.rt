@@ -68,11 +68,10 @@ fn labels_are_given(rt: HostRuntime) -> Result<(), Fail> {
         Ok(trace) => {
             assert_eq!(&rt; trace.label_count(), 1);
             for at in 0..trace.stored().len() {
-                given.push(
-                    trace
-                        .line(at)
-                        .is_some_and(|line| line.command.gives_label()),
-                )?;
+                match trace.line(at) {
+                    Some(line) => given.push(line.command.gives_label())?,
+                    None => assert!(&rt; false, "line {at} is missing"),
+                }
             }
         }
         Err(fault) => assert!(&rt; false, "{fault}"),
