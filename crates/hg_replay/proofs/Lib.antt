@@ -2,6 +2,7 @@ pub mod Writes
 pub mod Endings
 pub mod RowLines
 pub mod Looking
+pub mod Meanings
 pub mod Answering
 pub mod Listed
 pub mod ReplayRuns

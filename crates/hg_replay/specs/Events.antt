@@ -1,6 +1,6 @@
 -- What a line means under a policy, where a replay stands.
-use Rattle.std.specs.Prelude.{ℕ, List, [], ◌∷◌, Option, Some, None, unwrap_or, option_map, find}
-use Rattle.std.specs.Prelude.{nat_le, slice_index_or}
+use Rattle.std.specs.Prelude.{ℕ, List, [], ◌∷◌, Option, Some, None, unwrap_or}
+use Rattle.std.specs.Prelude.{slice_index_or}
 use Rattle.hg_place.specs.declared.Actor.{Actor}
 use Rattle.hg_place.specs.declared.Handle.{Handle}
 use Rattle.hg_machine.specs.Policy.{Policy}
@@ -13,6 +13,7 @@ use Rattle.hg_trace.specs.declared.line.BlockName.TheVariants as block_name
 use Rattle.hg_trace.specs.declared.line.Command.{Command}
 use Rattle.hg_trace.specs.declared.line.Command.TheVariants as command
 use Rattle.hg_trace.specs.declared.line.Line.{Line}
+use Rattle.hg_trace.specs.Workers.{first_from}
 use Rattle.hg_replay.specs.declared.replaying.events.Meaning.{Meaning}
 use Rattle.hg_replay.specs.declared.replaying.events.Meaning.TheVariants as meaning
 use Rattle.hg_replay.specs.Listings.{looks}
@@ -67,5 +68,4 @@ events_of s worker meaning.Unbound = []
 
 -- the number of the first line whose worker isn't below the count
 abbrev pub unknown_worker : ℕ → List Line → Option ℕ
-unknown_worker workers lines =
-    option_map (λ line. line.number) (find (λ line. nat_le workers line.worker) lines)
+unknown_worker workers lines = first_from workers lines

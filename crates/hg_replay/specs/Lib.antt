@@ -1,5 +1,6 @@
 pub mod Events
 pub mod KnownNames
+pub mod StoredLabels
 pub mod Listings
 pub mod Rows
 pub mod Text

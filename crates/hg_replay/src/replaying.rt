@@ -9,8 +9,10 @@ ghost use Rattle.hg_replay.specs.Text.{answer_line};
 ghost use Rattle.hg_replay.specs.Writes.{Emits, IsGiven, Wrote};
 ghost use Rattle.hg_replay.specs.Replays.{Progress, handle_in, handles_after, starting};
 ghost use Rattle.hg_replay.specs.Replays.{Answered, Replays, StopsWithin, EndsReplay};
-ghost use Rattle.hg_replay.specs.KnownNames.{AreMeant};
-ghost use Rattle.hg_trace.specs.Labels.{gives_label, label_count};
+ghost use Rattle.hg_replay.specs.KnownNames.{meanings};
+ghost use Rattle.hg_replay.specs.StoredLabels.{binds};
+ghost use Rattle.hg_trace.specs.Labels.{label_count};
+ghost use Rattle.hg_trace.specs.Stored.{command_in, line_in, lines_in, IsNumbered};
 
 mod events;
 pub(crate) mod fault;
@@ -21,14 +23,14 @@ pub(crate) mod put;
 pub(crate) mod sink;
 pub(crate) mod text;
 
-use events::{Meaning, meaning_of, prescan};
+use events::{Meaning, meaning_of};
 use fault::ReplayFault;
 use hg_core::Core;
 use hg_machine::{Answer, Event};
 use hg_place::Handle;
 use hg_policy::Policy;
-use hg_trace::{Command, Line, Trace};
-use known::Known;
+use hg_trace::{StoredCommand, StoredLine, Trace};
+use known::{Meant, look_up};
 use listing::list;
 use output::Output;
 use put::WriteStopped;
@@ -64,45 +66,47 @@ fn handle_in(answer: Answer) -> Option<Handle>
 }
 
 /// Notes what a command was answered, where its line gives a label.
-fn note(handles: &mut Vec<Option<Handle>>, command: &Command, answer: Answer)
-    requires { gives_label command.now ≡ true → vec_len handles.old < vec_capacity handles.old }
-    ensures handles { handles.new.items
-        ≡ handles_after handles.old.items command.now (answer ∷ []) }
+fn note(handles: &mut Vec<Option<Handle>>, command: StoredCommand, answer: Answer)
+    requires { binds command ≡ true → vec_len handles.old < vec_capacity handles.old }
+    ensures handles { (names labels : List (List ℕ)) → handles.new.items
+        ≡ handles_after handles.old.items (command_in names labels command) (answer ∷ []) }
     ensures count { vec_len handles.new
-        ≡ vec_len handles.old + (if gives_label command.now then 1 else 0) }
+        ≡ vec_len handles.old + (if binds command then 1 else 0) }
     ensures room { vec_capacity handles.new ≡ vec_capacity handles.old }
 {
-    if command.gives_label() {
+    if matches!(command, StoredCommand::Alloc { label: Some(_), .. }) {
         handles.push_reserved(handle_in(answer));
     }
 }
 
-/// Answers a line.
-fn replay_line<'t, W: Sink>(
+/// Answers a line, where this is what the names mean.
+fn replay_line<W: Sink>(
     core: &mut Core,
-    known: &mut Known<'t>,
+    meant: &[Meant],
     handles: &mut Vec<Option<Handle>>,
-    line: &Line<'t>,
+    line: &StoredLine,
     output: &mut Output,
     out: &mut W,
 )
     requires worker { line.now.worker < core.old.state.policy.workers }
-    requires known { AreMeant core.old.state.policy known.old.slots }
-    requires room { gives_label line.now.command ≡ true
+    requires room { binds line.now.command ≡ true
         → vec_len handles.old < vec_capacity handles.old }
-    ensures answered { (text : List ℕ)
-        × Answered (record { kept = core.old; handles = handles.old.items }) line.now
+    ensures answered { (names labels : List (List ℕ))
+        → meant.now ≡ meanings core.old.state.policy names
+        → IsNumbered names labels line.now.command
+        → (text : List ℕ)
+        × Answered (record { kept = core.old; handles = handles.old.items })
+        (line_in names labels line.now)
         (record { kept = core.new; handles = handles.new.items }) text
         × Emits (W.seen out.old) output.old (W.seen out.new) output.new text }
     ensures count { vec_len handles.new
-        ≡ vec_len handles.old + (if gives_label line.now.command then 1 else 0) }
+        ≡ vec_len handles.old + (if binds line.now.command then 1 else 0) }
     ensures room { vec_capacity handles.new ≡ vec_capacity handles.old }
-    ensures known { AreMeant core.old.state.policy known.new.slots }
 {
-    match meaning_of(core.policy(), known, handles, &line.command) {
+    match meaning_of(meant, handles, line.command) {
         Meaning::One(event) => {
             let answer = serve(core, line.worker, event, output, out);
-            note(handles, &line.command, answer);
+            note(handles, line.command, answer);
         }
         Meaning::Listing(actor) => list(core, line.worker, actor, output, out),
         Meaning::Unbound => output.put(out, b"unbound\n"),
@@ -110,31 +114,32 @@ fn replay_line<'t, W: Sink>(
 }
 
 /// Answers the lines, until a write stops. It asks for no memory.
-fn replay_lines<'t, W: Sink>(
+fn replay_lines<W: Sink>(
     core: &mut Core,
-    known: &mut Known<'t>,
+    meant: &[Meant],
     handles: &mut Vec<Option<Handle>>,
-    lines: &[Line<'t>],
+    trace: &Trace,
     output: &mut Output,
     out: &mut W,
 ) -> Result<(), WriteStopped>
-    requires workers { All (λ line. line.worker < core.old.state.policy.workers) lines.now }
-    requires known { AreMeant core.old.state.policy known.old.slots }
+    requires workers { All (λ line. line.worker < core.old.state.policy.workers)
+        (lines_in trace.now) }
+    requires meant { meant.now ≡ meanings core.old.state.policy trace.now.names }
     requires none { handles.old.items ≡ [] }
     requires count { vec_len handles.old ≡ 0 }
-    requires room { label_count lines.now ≤ vec_capacity handles.old }
+    requires room { label_count (lines_in trace.now) ≤ vec_capacity handles.old }
     requires empty { IsGiven (W.seen out.old) (W.seen out.old) output.old [] }
     requires going { output.old.stopped ≡ false }
     ensures ok { OnOk result ((text : List ℕ)
-        × Replays (starting core.old) lines.now
+        × Replays (starting core.old) (lines_in trace.now)
         (record { kept = core.new; handles = handles.new.items }) text
         × IsGiven (W.seen out.old) (W.seen out.new) output.new text
         × (output.new.stopped ≡ false)) }
-    ensures stopped { OnErr result (StopsWithin core.old lines.now
+    ensures stopped { OnErr result (StopsWithin core.old (lines_in trace.now)
         (W.seen out.old) (W.seen out.new)) }
 {
-    for line in lines {
-        replay_line(core, known, handles, line, output, out);
+    for line in trace.stored() {
+        replay_line(core, meant, handles, line, output, out);
         if output.has_stopped() {
             return Err(WriteStopped);
         }
@@ -145,42 +150,56 @@ fn replay_lines<'t, W: Sink>(
 /// Answers the lines on a core whose labels have room, and writes all that they are answered.
 fn replay_on<W: Sink>(
     core: &mut Core,
+    meant: &[Meant],
     mut handles: Vec<Option<Handle>>,
-    lines: &[Line],
+    trace: &Trace,
     out: &mut W,
 ) -> Result<(), WriteStopped>
-    requires workers { All (λ line. line.worker < core.old.state.policy.workers) lines.now }
+    requires workers { All (λ line. line.worker < core.old.state.policy.workers)
+        (lines_in trace.now) }
+    requires meant { meant.now ≡ meanings core.old.state.policy trace.now.names }
     requires none { handles.items ≡ [] }
     requires count { vec_len handles ≡ 0 }
-    requires room { label_count lines.now ≤ vec_capacity handles }
+    requires room { label_count (lines_in trace.now) ≤ vec_capacity handles }
     ensures ok { OnOk result ((end : Progress) × (text : List ℕ)
-        × Replays (starting core.old) lines.now end text
+        × Replays (starting core.old) (lines_in trace.now) end text
         × Wrote (W.seen out.old) (W.seen out.new) text) }
-    ensures stopped { OnErr result (StopsWithin core.old lines.now
+    ensures stopped { OnErr result (StopsWithin core.old (lines_in trace.now)
         (W.seen out.old) (W.seen out.new)) }
 {
     let mut output = Output::new();
-    let mut known = Known::new();
-    match replay_lines(core, &mut known, &mut handles, lines, &mut output, out) {
+    match replay_lines(core, meant, &mut handles, trace, &mut output, out) {
         Ok(()) => output.finish(out),
         Err(stopped) => Err(stopped),
     }
 }
 
-/// A core for a policy, and room for the handles of so many labels.
-fn start(
-    alloc: Global,
-    policy: Policy,
-    labels: usize,
-) -> Result<(Core, Vec<Option<Handle>>), AllocError>
-    ensures opened { IfOk result (λ started. started.0 ≡ opened policy) }
-    ensures none { IfOk result (λ started. started.1.items ≡ []) }
-    ensures count { IfOk result (λ started. vec_len started.1 ≡ 0) }
-    ensures room { IfOk result (λ started. labels ≤ vec_capacity started.1) }
+/// What a replay has before its first event: a core for a policy, what the names of the trace mean
+/// under it, and room for the handles of its labels.
+#[derive(Drop)]
+struct Ready {
+    core: Core,
+    meant: Vec<Meant>,
+    handles: Vec<Option<Handle>>,
+}
+
+/// All memory that a replay needs.
+fn start(alloc: Global, policy: Policy, trace: &Trace) -> Result<Ready, AllocError>
+    ensures opened { IfOk result (λ ready. ready.core ≡ opened policy) }
+    ensures meant { IfOk result (λ ready. ready.meant.items ≡ meanings policy trace.now.names) }
+    ensures none { IfOk result (λ ready. ready.handles.items ≡ []) }
+    ensures count { IfOk result (λ ready. vec_len ready.handles ≡ 0) }
+    ensures room { IfOk result
+        (λ ready. label_count (lines_in trace.now) ≤ vec_capacity ready.handles) }
 {
+    let meant = look_up(alloc, &policy, trace.names())?;
     let core = Core::open(alloc, policy)?;
-    let handles = Vec::with_capacity(alloc, labels)?;
-    Ok((core, handles))
+    let handles = Vec::with_capacity(alloc, trace.label_count())?;
+    Ok(Ready {
+        core,
+        meant,
+        handles,
+    })
 }
 
 /// Writes the answers to a trace, from a core of its own that the policy opens. All memory is asked
@@ -191,17 +210,23 @@ pub fn replay<W: Sink>(
     trace: &Trace,
     out: &mut W,
 ) -> Result<(), ReplayFault>
-    ensures { EndsReplay policy trace.now (W.seen out.old) (W.seen out.new) result }
+    ensures { EndsReplay policy (lines_in trace.now) (W.seen out.old) (W.seen out.new) result }
 {
-    let labels = match prescan(policy.workers(), trace.lines()) {
-        Ok(labels) => labels,
-        Err(line) => return Err(ReplayFault::Worker(line)),
-    };
-    match start(alloc, policy, labels) {
-        Ok((mut core, handles)) => match replay_on(&mut core, handles, trace.lines(), out) {
-            Ok(()) => Ok(()),
-            Err(WriteStopped) => Err(ReplayFault::Write),
+    if let Some(line) = trace.first_from(policy.workers()) {
+        return Err(ReplayFault::Worker(line));
+    }
+    let Ok(
+        Ready {
+            mut core,
+            meant,
+            handles,
         },
-        Err(_) => Err(ReplayFault::Memory),
+    ) = start(alloc, policy, trace)
+    else {
+        return Err(ReplayFault::Memory);
+    };
+    match replay_on(&mut core, &meant, handles, trace, out) {
+        Ok(()) => Ok(()),
+        Err(WriteStopped) => Err(ReplayFault::Write),
     }
 }

@@ -1,5 +1,5 @@
 -- What a trace keeps, where a line comes behind its lines.
-use Rattle.std.proofs.Common.{◌≡◌, ◌≢◌, ℕ, ◌+◌, ◌-◌, ◌≤◌, ◌<◌, suc, zero, leb, cond, Bool, true, false, List, [], ◌∷◌, ◌++◌, Option, Some, None}
+use Rattle.std.proofs.Common.{◌≡◌, ℕ, ◌+◌, ◌-◌, ◌≤◌, ◌<◌, suc, zero, leb, cond, Bool, true, false, List, [], ◌∷◌, ◌++◌, Option, Some, None}
 use Rattle.std.proofs.Common.{length, get_or, slice_get, is_some, option_map, map, find, replicate, All, refl, sym, ap, subst, ◌∙◌, inl, inr, arith}
 use Rattle.std.specs.Option.{option_or}
 use Rattle.std.proofs.lemmas.Bool.Decides.{leb_tells}
@@ -15,7 +15,7 @@ use Rattle.hg_trace.specs.declared.stored.StoredCommand.{StoredCommand}
 use Rattle.hg_trace.specs.declared.stored.StoredLine.{StoredLine}
 use Rattle.hg_trace.specs.Labels.{gives_label, label_count, with_label}
 use Rattle.hg_trace.specs.Workers.{first_from}
-use Rattle.hg_trace.specs.Stored.{command_in, line_in, lines_in, IsNumbered, IsGivenAt, Says, IsStore}
+use Rattle.hg_trace.specs.Stored.{command_in, line_in, IsNumbered, IsGivenAt, Says, IsStore}
 use Rattle.hg_trace.proofs.StoredNumbers.{Keeps, keeps_more, command_kept, numbered_kept, stands_behind, still}
 
 -- the first line that comes behind others, where these had one or none

@@ -1,6 +1,6 @@
 -- What numbers stand for, where names come behind others.
 use Rattle.std.proofs.Common.{◌≡◌, ℕ, suc, zero, not, true, List, [], ◌∷◌, ◌++◌, Some, None, length, get_or, slice_get, position}
-use Rattle.std.proofs.Common.{Result, Ok, Err, IfOk, is_some, refl, sym, ap, ◌∙◌, arith}
+use Rattle.std.proofs.Common.{Result, Ok, Err, IfOk, is_some, refl, sym, ap, ◌∙◌}
 use Rattle.std.proofs.lemmas.Option.{slice_get-get_or}
 use Rattle.std.proofs.lemmas.List.Folds.{list_any_none}
 use Rattle.std.proofs.lemmas.List.Quantifiers.{position-Some}
@@ -8,12 +8,9 @@ use Rattle.std.proofs.lemmas.Slice.Eq.{bytes_eq-Decides}
 use Rattle.std.specs.List.{list_any}
 use Rattle.std.specs.Str.{bytes_eq}
 use Rattle.hg_labels.proofs.Positions.{position-None}
-use Rattle.hg_trace.specs.declared.line.Command.{Command}
-use Rattle.hg_trace.specs.declared.line.Command.TheVariants as command
-use Rattle.hg_trace.specs.declared.stored.StoredBlock.{StoredBlock}
 use Rattle.hg_trace.specs.declared.stored.StoredCommand.{StoredCommand}
 use Rattle.hg_trace.specs.declared.stored.StoredCommand.TheVariants as stored
-use Rattle.hg_trace.specs.Stored.{IsNumber, IsLabelNumber, IsNumbered, command_in}
+use Rattle.hg_trace.specs.Stored.{IsNumber, IsNumbered, command_in}
 
 -- a name stands where it was found
 pub stands : (names : List (List ℕ)) (name : List ℕ) (n : ℕ) → position (λ known. bytes_eq name known) names ≡ Some n → slice_get names n ≡ Some name

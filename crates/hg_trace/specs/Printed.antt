@@ -1,8 +1,6 @@
 -- How places, handles, blocks and lines are written in their plain form.
 use Rattle.std.specs.Prelude.{ℕ, ◌++◌, List, [], ◌∷◌, Option, Some, None, codes, decimal, get_or}
 use Rattle.std.specs.List.{join_with_byte}
-use Rattle.hg_place.specs.declared.Place.{Place}
-use Rattle.hg_place.specs.declared.Handle.{Handle}
 use Rattle.hg_trace.specs.declared.line.BlockName.{BlockName}
 use Rattle.hg_trace.specs.declared.line.BlockName.TheVariants as block_name
 use Rattle.hg_trace.specs.declared.line.Command.{Command}

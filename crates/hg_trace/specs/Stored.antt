@@ -1,5 +1,5 @@
 -- Lines as a trace keeps them: names and labels by their numbers, and what a number stands for.
-use Rattle.std.specs.Prelude.{◌≡◌, ℕ, Bool, true, List, [], map, Option, Some, None}
+use Rattle.std.specs.Prelude.{◌≡◌, ℕ, true, List, [], map, Option, Some, None}
 use Rattle.std.specs.Prelude.{length, option_map, unwrap_or, slice_get, is_some, All}
 use Rattle.hg_trace.specs.declared.line.BlockName.{BlockName}
 use Rattle.hg_trace.specs.declared.line.BlockName.TheVariants as block_name

@@ -1,34 +1,16 @@
 //! The events that lines mean.
 
-ghost use Rattle.std.specs.Prelude.{◌≡◌, Some, None, MatchResult};
-ghost use Rattle.hg_policy.specs.Names.{arena_number};
-ghost use Rattle.hg_replay.specs.Events.{or_nobody, actor_of, handle_named, meaning_of};
-ghost use Rattle.hg_replay.specs.Events.{of_block, unknown_worker};
-ghost use Rattle.hg_replay.specs.KnownNames.{AreMeant};
-ghost use Rattle.hg_trace.specs.Labels.{label_count};
+ghost use Rattle.std.specs.Prelude.{◌≡◌, ℕ, List, true};
+ghost use Rattle.hg_machine.specs.Policy.{Policy};
+ghost use Rattle.hg_replay.specs.Events.{actor_of, handle_named, meaning_of, of_block};
+ghost use Rattle.hg_replay.specs.KnownNames.{meant_of, meanings};
+ghost use Rattle.hg_replay.specs.StoredLabels.{binds};
+ghost use Rattle.hg_trace.specs.Stored.{block_in, command_in, named, IsNumber, IsNumbered};
 
-use crate::replaying::known::Known;
+use crate::replaying::known::{Meant, NOBODY};
 use hg_machine::Event;
 use hg_place::{Actor, Handle};
-use hg_policy::Policy;
-use hg_trace::{BlockName, Command, Line, Name};
-
-/// Who has a name under a policy.
-fn actor_of<'t>(policy: &Policy, known: &mut Known<'t>, name: &Name<'t>) -> Actor
-    requires { AreMeant policy.now known.old.slots }
-    ensures actor { result ≡ actor_of policy.now name.now }
-    ensures known { AreMeant policy.now known.new.slots }
-{
-    Actor(known.of(policy, name.as_str()).tenant)
-}
-
-fn arena_of<'t>(policy: &Policy, known: &mut Known<'t>, name: &Name<'t>) -> u8
-    requires { AreMeant policy.now known.old.slots }
-    ensures arena { result ≡ or_nobody (arena_number policy.now name.now) }
-    ensures known { AreMeant policy.now known.new.slots }
-{
-    known.of(policy, name.as_str()).arena
-}
+use hg_trace::{StoredBlock, StoredCommand};
 
 /// What a command means where a replay stands.
 #[derive(Clone, Copy, Debug, PartialEq, Eq)]
@@ -40,37 +22,39 @@ pub(crate) enum Meaning {
     Unbound,
 }
 
-/// The handle of a block, where these are the handles that the labels stand for.
-fn handle_named(handles: &[Option<Handle>], block: BlockName) -> Option<Handle>
-    ensures { result ≡ handle_named handles.now block }
+/// What the name at a number means, where this is what the names mean.
+fn meant_at(meant: &[Meant], number: u32) -> Meant
+    ensures { (policy : Policy) (names : List (List ℕ)) → meant.now ≡ meanings policy names
+        → IsNumber names number → result ≡ meant_of policy (named names number) }
 {
-    match block {
-        BlockName::Handle(handle) => Some(handle),
-        BlockName::Label(label) => match handles.get(label) {
-            Some(handle) => *handle,
-            None => None,
+    match meant.get(number as usize) {
+        Some(meant) => *meant,
+        None => Meant {
+            tenant: NOBODY,
+            arena: NOBODY,
         },
     }
 }
 
-/// An allocation.
-fn alloc_meant<'t>(
-    policy: &Policy,
-    known: &mut Known<'t>,
-    actor: &Name<'t>,
-    arena: &Name<'t>,
-    bytes: u64,
-) -> Meaning
-    requires { AreMeant policy.now known.old.slots }
-    ensures meaning { result ≡ Meaning.One (Event.Alloc (actor_of policy.now actor.now)
-        (or_nobody (arena_number policy.now arena.now)) bytes) }
-    ensures known { AreMeant policy.now known.new.slots }
+/// Who has the name at a number.
+fn actor_at(meant: &[Meant], number: u32) -> Actor
+    ensures { (policy : Policy) (names : List (List ℕ)) → meant.now ≡ meanings policy names
+        → IsNumber names number → result ≡ actor_of policy (named names number) }
 {
-    Meaning::One(Event::Alloc {
-        actor: actor_of(policy, known, actor),
-        arena: arena_of(policy, known, arena),
-        bytes,
-    })
+    Actor(meant_at(meant, number).tenant)
+}
+
+/// The handle of a block, where these are the handles that the labels stand for.
+fn handle_named(handles: &[Option<Handle>], block: StoredBlock) -> Option<Handle>
+    ensures { result ≡ handle_named handles.now (block_in block) }
+{
+    match block {
+        StoredBlock::Handle(handle) => Some(handle),
+        StoredBlock::Label(label) => match handles.get(label as usize) {
+            Some(handle) => *handle,
+            None => None,
+        },
+    }
 }
 
 /// A free of a block, if there is one.
@@ -112,80 +96,59 @@ fn write_meant(actor: Actor, block: Option<Handle>, index: u32, value: u64) -> M
     }
 }
 
-/// What a command means under a policy, where these are the handles that the labels stand for.
-pub(crate) fn meaning_of<'t>(
-    policy: &Policy,
-    known: &mut Known<'t>,
+/// What a command means under a policy, where this is what the names mean under it, and these are
+/// the handles that the labels stand for.
+pub(crate) fn meaning_of(
+    meant: &[Meant],
     handles: &[Option<Handle>],
-    command: &Command<'t>,
+    command: StoredCommand,
 ) -> Meaning
-    requires { AreMeant policy.now known.old.slots }
-    ensures meaning { result ≡ meaning_of policy.now handles.now command.now }
-    ensures known { AreMeant policy.now known.new.slots }
+    ensures meaning { (policy : Policy) (names labels : List (List ℕ))
+        → meant.now ≡ meanings policy names → IsNumbered names labels command
+        → result ≡ meaning_of policy handles.now (command_in names labels command) }
+    ensures labelled { binds command ≡ true → (event : Event) × (result ≡ Meaning.One event) }
 {
     match command {
-        Command::Alloc {
+        StoredCommand::Alloc {
             actor,
             arena,
             bytes,
             label: _,
-        } => alloc_meant(policy, known, actor, arena, *bytes),
-        Command::Free { actor, block } => {
-            free_meant(
-                actor_of(policy, known, actor),
-                handle_named(handles, *block),
-            )
+        } => Meaning::One(Event::Alloc {
+            actor: actor_at(meant, actor),
+            arena: meant_at(meant, arena).arena,
+            bytes,
+        }),
+        StoredCommand::Free { actor, block } => {
+            free_meant(actor_at(meant, actor), handle_named(handles, block))
         }
-        Command::Deliver => Meaning::One(Event::Deliver),
-        Command::Take { segment } => Meaning::One(Event::Take { segment: *segment }),
-        Command::Collect => Meaning::One(Event::Collect),
-        Command::Read {
+        StoredCommand::Deliver => Meaning::One(Event::Deliver),
+        StoredCommand::Take { segment } => Meaning::One(Event::Take { segment }),
+        StoredCommand::Collect => Meaning::One(Event::Collect),
+        StoredCommand::Read {
             actor,
             block,
             index,
-        } => read_meant(
-            actor_of(policy, known, actor),
-            handle_named(handles, *block),
-            *index,
-        ),
-        Command::Write {
+        } => read_meant(actor_at(meant, actor), handle_named(handles, block), index),
+        StoredCommand::Write {
             actor,
             block,
             index,
             value,
         } => write_meant(
-            actor_of(policy, known, actor),
-            handle_named(handles, *block),
-            *index,
-            *value,
+            actor_at(meant, actor),
+            handle_named(handles, block),
+            index,
+            value,
         ),
-        Command::Look { actor, place } => Meaning::One(Event::Look {
-            actor: actor_of(policy, known, actor),
-            place: *place,
+        StoredCommand::Look { actor, place } => Meaning::One(Event::Look {
+            actor: actor_at(meant, actor),
+            place,
         }),
-        Command::List { actor } => Meaning::Listing(actor_of(policy, known, actor)),
-        Command::Abandon { segment } => Meaning::One(Event::Abandon { segment: *segment }),
-        Command::Refill { arena } => Meaning::One(Event::Refill {
-            arena: arena_of(policy, known, arena),
+        StoredCommand::List { actor } => Meaning::Listing(actor_at(meant, actor)),
+        StoredCommand::Abandon { segment } => Meaning::One(Event::Abandon { segment }),
+        StoredCommand::Refill { arena } => Meaning::One(Event::Refill {
+            arena: meant_at(meant, arena).arena,
         }),
     }
-}
-
-/// How many labels the lines give, or the number of the first line whose worker isn't below the
-/// count. One pass tells both, since a long trace fits in no cache.
-pub(crate) fn prescan(workers: u8, lines: &[Line]) -> Result<usize, u64>
-    ensures { MatchResult result
-        (λ labels. (unknown_worker workers lines.now ≡ None) × (labels ≡ label_count lines.now))
-        (λ number. unknown_worker workers lines.now ≡ Some number) }
-{
-    let mut labels = 0;
-    for line in lines {
-        if line.worker >= workers {
-            return Err(line.number);
-        }
-        if line.command.gives_label() {
-            labels += 1;
-        }
-    }
-    Ok(labels)
 }

@@ -1,93 +1,43 @@
-//! What names are under a policy, kept from one look-up to the next.
+//! What names mean under a policy, looked up once each.
 
-ghost use Rattle.std.specs.Prelude.{◌≡◌, ◌<◌, Some, IfSome};
-ghost use Rattle.hg_machine.specs.Policy.{Policy};
-ghost use Rattle.hg_policy.specs.Names.{tenant_number, arena_number};
-ghost use Rattle.hg_replay.specs.Events.{or_nobody};
-ghost use Rattle.hg_replay.specs.KnownNames.{IsMeant, AreMeant};
+ghost use Rattle.std.specs.Prelude.{◌≡◌, IfOk};
+ghost use Rattle.hg_labels.specs.Indexes.{texts};
+ghost use Rattle.hg_replay.specs.KnownNames.{meant_of, meanings};
 
 use hg_policy::Policy;
+use std::alloc::{AllocError, Global};
 
 /// The number of a name that the policy lacks.
-const NOBODY: u8 = 255;
+pub(crate) const NOBODY: u8 = 255;
 
-/// How many names are kept at most.
-const SLOTS: usize = 256;
-
-/// A name, and its number among a policy's tenants and among its arenas.
+/// The numbers of a name among a policy's tenants and among its arenas.
 #[derive(Clone, Copy)]
-pub(crate) struct Meant<'t> {
-    name: &'t str,
+pub(crate) struct Meant {
     pub(crate) tenant: u8,
     pub(crate) arena: u8,
 }
 
-/// The names that were looked up last. A name has one slot, which it may share with others: then
-/// it is looked up again. A policy's own look-up hashes the name.
-#[derive(Drop)]
-pub(crate) struct Known<'t> {
-    slots: [Option<Meant<'t>>; SLOTS],
-}
-
-/// What a name is under a policy. It isn't built into its caller, which seldom comes here.
-#[inline(never)]
-fn look_up<'t>(policy: &Policy, name: &'t str) -> Meant<'t>
-    ensures name { result.name.now ≡ name.now }
-    ensures meant { IsMeant policy.now result }
+fn meant_of(policy: &Policy, name: &str) -> Meant
+    ensures { result ≡ meant_of policy.now name.now }
 {
     Meant {
-        name,
         tenant: policy.tenant(name).unwrap_or(NOBODY),
         arena: policy.arena(name).unwrap_or(NOBODY),
     }
 }
 
-/// What a slot keeps of a name.
-fn kept<'t>(slot: Option<Meant<'t>>, name: &str) -> Option<Meant<'t>>
-    ensures { IfSome result (λ meant. (slot.entry ≡ Some meant) × (meant.name.now ≡ name.now)) }
+/// What names mean under a policy, each at its number. The policy's own look-up hashes a name, so
+/// lines that name it again don't ask for it.
+pub(crate) fn look_up(
+    alloc: Global,
+    policy: &Policy,
+    names: &[&str],
+) -> Result<Vec<Meant>, AllocError>
+    ensures { IfOk result (λ meant. meant.items ≡ meanings policy.now (texts names.now)) }
 {
-    match slot {
-        Some(meant) if meant.name == name => Some(meant),
-        _ => None,
+    let mut meant = Vec::with_capacity(alloc, names.len())?;
+    for name in names {
+        meant.push_reserved(meant_of(policy, name));
     }
-}
-
-/// Where a name is kept. Names that differ mostly do so in their ends or their lengths.
-fn slot_of(name: &str) -> usize
-    ensures { result < 256 }
-{
-    let ends = match name.as_bytes() {
-        [] => 0,
-        [only] => usize::from(*only),
-        [first, .., last] => usize::from(*first) + 5 * usize::from(*last),
-    };
-    (ends + 31 * (name.len() % SLOTS)) % SLOTS
-}
-
-impl<'t> Known<'t> {
-    pub(crate) fn new() -> Known<'t>
-        ensures { (policy : Policy) → AreMeant policy result.slots }
-    {
-        Known {
-            slots: [None; SLOTS],
-        }
-    }
-
-    /// What a name is under the policy under which all names were looked up.
-    pub(crate) fn of(&mut self, policy: &Policy, name: &'t str) -> Meant<'t>
-        requires { AreMeant policy.now self.old.slots }
-        ensures tenant { result.tenant ≡ or_nobody (tenant_number policy.now name.now) }
-        ensures arena { result.arena ≡ or_nobody (arena_number policy.now name.now) }
-        ensures known { AreMeant policy.now self.new.slots }
-    {
-        let slot = slot_of(name);
-        match kept(self.slots[slot], name) {
-            Some(meant) => meant,
-            None => {
-                let meant = look_up(policy, name);
-                self.slots[slot] = Some(meant);
-                meant
-            }
-        }
-    }
+    Ok(meant)
 }

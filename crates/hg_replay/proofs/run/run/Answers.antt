@@ -1,4 +1,5 @@
 use Rattle.std.proofs.lemmas.Result.{err_from_is_err_and}
+use Rattle.hg_trace.specs.Stored.{lines_in}
 use Rattle.hg_replay.proofs.Endings.{replay_ends, trace_ends}
 use Rattle.hg_replay.proofs.run.run.Goals as goal
 
@@ -14,4 +15,4 @@ returns-in_err-replay g c =
     let p = err_from_is_err_and c.from_residual-in_err-replay.result c.from_residual-in_err-replay.ensures.1 in
     rw (p.1, p.2)
     (replay_ends c.args.policy.now c.args.trace.now (g.W.Sink.seen c.args.out.now) (g.W.Sink.seen c.replay.new.out)
-    c.in_ok-policy.policy c.in_ok-trace.trace c.in_ok-policy.ensures c.in_ok-trace.ensures.ok c.in_err-replay.field-0.0 c.in_err-replay.ensures)
+    c.in_ok-policy.policy (lines_in c.in_ok-trace.trace) c.in_ok-policy.ensures c.in_ok-trace.ensures.ok c.in_err-replay.field-0.0 c.in_err-replay.ensures)

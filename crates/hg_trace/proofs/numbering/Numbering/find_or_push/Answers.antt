@@ -1,4 +1,4 @@
-use Rattle.std.proofs.Common.{◌≡◌, ◌∙◌, ◌++◌, ◌∷◌, [], ℕ, Some, List, slice_get, length, ap, sym, subst}
+use Rattle.std.proofs.Common.{◌∙◌, slice_get, length, ap, sym}
 use Rattle.std.proofs.lemmas.List.{length-map}
 use Rattle.hg_trace.proofs.StoredNumbers.{stands, is_new, stands_behind, if_ok}
 use Rattle.hg_trace.proofs.numbering.Numbering.find_or_push.Goals as goal

@@ -1,7 +1,6 @@
-use Rattle.std.proofs.Common.{◌≡◌, ◌∙◌, ℕ, List, ◌++◌, ◌∷◌, [], map, refl, sym, ap, subst, length}
+use Rattle.std.proofs.Common.{◌≡◌, ◌∙◌, ◌++◌, ◌∷◌, [], map, refl, sym, ap, subst}
 use Rattle.hg_trace.specs.Stored.{IsStore, Says, line_in, lines_in}
 use Rattle.hg_trace.specs.Labels.{with_label}
-use Rattle.hg_trace.proofs.StoredNumbers.{Keeps, keeps_more}
 use Rattle.hg_trace.proofs.StoreSteps.{given_behind, label_keeps, label_gain, store_grows, store_gains, lines_gain, grown}
 use Rattle.hg_trace.proofs.trace.Trace.push.Goals as goal
 
