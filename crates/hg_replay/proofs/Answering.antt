@@ -1,5 +1,5 @@
 -- A line is answered, and a replay goes on by it.
-use Rattle.std.proofs.Common.{◌≡◌, ℕ, ◌+◌, ◌<◌, suc, zero, leb, Bool, cond, true, false, List, [], ◌∷◌, ◌++◌, length, get_or, take, drop, Option, None, Some, refl, sym, ap, subst, ◌∙◌, inl, inr, arith, append-nil, append_assoc, take-append-drop, filter}
+use Rattle.std.proofs.Common.{◌≡◌, ℕ, ◌+◌, ◌<◌, suc, zero, leb, Bool, cond, true, false, List, [], ◌∷◌, ◌++◌, length, get_or, take, drop, Option, None, Some, is_some, option_map, refl, sym, ap, subst, ◌∙◌, inl, inr, arith, append-nil, append_assoc, take-append-drop, filter}
 use Rattle.std.proofs.lemmas.Bool.{cases_Bool, leb-false}
 use Rattle.std.proofs.lemmas.List.{take_more, get_or-map, length-map}
 use Rattle.std.proofs.lemmas.List.Sums.{count_by_more_yes, count_by_more_no, sum_by-take-le}
@@ -13,6 +13,9 @@ use Rattle.hg_machine.specs.Lists.{Kept}
 use Rattle.hg_machine.specs.declared.Event.{Event}
 use Rattle.hg_machine.specs.declared.Answer.{Answer}
 use Rattle.hg_machine.proofs.Preserves.{steps_keep_policy}
+use Rattle.hg_heap.specs.Answers.{refused_answer}
+use Rattle.hg_heap.specs.declared.refused.Refused.{Refused}
+use Rattle.hg_heap.specs.declared.refused.Refused.TheVariants as refused
 use Rattle.hg_choice.specs.ChosenSteps.{ChosenStep, Chosen}
 use Rattle.hg_choice.proofs.ChoiceLemmas.{chosen_runs_are_runs}
 use Rattle.hg_trace.specs.declared.line.Command.{Command}
@@ -93,6 +96,14 @@ unbound_labels policy handles c e =
       | inr none ↦ none
     ]
 
+-- a call that is refused gives out no handle
+pub no_handle : (refused : Refused) → None ≡ handle_in (refused_answer refused ∷ [])
+no_handle (refused.Denied rule) = refl
+no_handle refused.TooLarge = refl
+no_handle refused.NoRoom = refl
+no_handle refused.Elsewhere = refl
+no_handle refused.OutOfBlock = refl
+
 -- a line is answered by its meaning
 module _ (from : Progress) (line : Line) where
   pub one_answered : (event : Event) (answer : Answer) (end : Kept) (handles : List (Option Handle))
@@ -126,6 +137,17 @@ module _ (from : Progress) (line : Line) where
     handles = sym (no_label from.handles line.command [] (unbound_labels from.kept.state.policy from.handles line.command meant));
     told = sym (ap (λ m. reply_text from.kept.state.policy m []) meant);
   }
+
+-- an allocation's line binds the label that it gives, if it gives one
+pub alloc_binds : (handles : List (Option Handle)) (actor arena : List ℕ) (bytes : ℕ) (f : ℕ → List ℕ) (label : Option ℕ) (answers : List Answer)
+    → is_some label ≡ true → handles ++ handle_in answers ∷ [] ≡ handles_after handles (command.Alloc actor arena bytes (option_map f label)) answers
+alloc_binds handles actor arena bytes f None answers e = absurd (cc)
+alloc_binds handles actor arena bytes f (Some label) answers e = refl
+
+pub alloc_binds_none : (handles : List (Option Handle)) (actor arena : List ℕ) (bytes : ℕ) (f : ℕ → List ℕ) (label : Option ℕ) (answers : List Answer)
+    → is_some label ≡ false → handles ≡ handles_after handles (command.Alloc actor arena bytes (option_map f label)) answers
+alloc_binds_none handles actor arena bytes f None answers e = refl
+alloc_binds_none handles actor arena bytes f (Some label) answers e = absurd (cc)
 
 -- a replay goes on by a line
 pub replays_more : (lines : List Line) (line : Line) (from mid end : Progress) (text here : List ℕ)

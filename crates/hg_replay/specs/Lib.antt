@@ -6,6 +6,7 @@ pub mod Rows
 pub mod Text
 pub mod Sinks
 pub mod Writes
+pub mod Served
 pub mod Looked
 pub mod Replays
 pub mod ReplayLaws

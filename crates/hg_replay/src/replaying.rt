@@ -20,10 +20,11 @@ mod known;
 mod listing;
 pub(crate) mod output;
 pub(crate) mod put;
+mod serving;
 pub(crate) mod sink;
 pub(crate) mod text;
 
-use events::{Meaning, meaning_of};
+use events::{Meaning, actor_at, handle_named, meaning_of, meant_at};
 use fault::ReplayFault;
 use hg_core::Core;
 use hg_machine::{Answer, Event};
@@ -34,6 +35,7 @@ use known::{Meant, look_up};
 use listing::list;
 use output::Output;
 use put::WriteStopped;
+use serving::{serve_alloc, serve_free, serve_read, serve_write};
 use sink::Sink;
 use std::alloc::{AllocError, Global};
 
@@ -79,8 +81,8 @@ fn note(handles: &mut Vec<Option<Handle>>, command: StoredCommand, answer: Answe
     }
 }
 
-/// Answers a line, where this is what the names mean.
-fn replay_line<W: Sink>(
+/// Answers a line, whatever it says: its meaning here is made first.
+fn replay_other<W: Sink>(
     core: &mut Core,
     meant: &[Meant],
     handles: &mut Vec<Option<Handle>>,
@@ -110,6 +112,79 @@ fn replay_line<W: Sink>(
         }
         Meaning::Listing(actor) => list(core, line.worker, actor, output, out),
         Meaning::Unbound => output.put(out, b"unbound\n"),
+    }
+}
+
+/// Answers a line, where this is what the names mean. What most lines ask for is served by the
+/// core's call for it.
+fn replay_line<W: Sink>(
+    core: &mut Core,
+    meant: &[Meant],
+    handles: &mut Vec<Option<Handle>>,
+    line: &StoredLine,
+    output: &mut Output,
+    out: &mut W,
+)
+    requires worker { line.now.worker < core.old.state.policy.workers }
+    requires room { binds line.now.command ≡ true
+        → vec_len handles.old < vec_capacity handles.old }
+    ensures answered { (names labels : List (List ℕ))
+        → meant.now ≡ meanings core.old.state.policy names
+        → IsNumbered names labels line.now.command
+        → (text : List ℕ)
+        × Answered (record { kept = core.old; handles = handles.old.items })
+        (line_in names labels line.now)
+        (record { kept = core.new; handles = handles.new.items }) text
+        × Emits (W.seen out.old) output.old (W.seen out.new) output.new text }
+    ensures count { vec_len handles.new
+        ≡ vec_len handles.old + (if binds line.now.command then 1 else 0) }
+    ensures room { vec_capacity handles.new ≡ vec_capacity handles.old }
+{
+    match line.command {
+        StoredCommand::Alloc {
+            actor,
+            arena,
+            bytes,
+            label,
+        } => {
+            let actor = actor_at(meant, actor);
+            let arena = meant_at(meant, arena).arena;
+            let given = serve_alloc(core, line.worker, actor, arena, bytes, output, out);
+            if label.is_some() {
+                handles.push_reserved(given);
+            }
+        }
+        StoredCommand::Free { actor, block } => match handle_named(handles, block) {
+            Some(handle) => {
+                let actor = actor_at(meant, actor);
+                serve_free(core, line.worker, actor, handle, output, out);
+            }
+            None => output.put(out, b"unbound\n"),
+        },
+        StoredCommand::Read {
+            actor,
+            block,
+            index,
+        } => match handle_named(handles, block) {
+            Some(handle) => {
+                let actor = actor_at(meant, actor);
+                serve_read(core, line.worker, actor, handle, index, output, out);
+            }
+            None => output.put(out, b"unbound\n"),
+        },
+        StoredCommand::Write {
+            actor,
+            block,
+            index,
+            value,
+        } => match handle_named(handles, block) {
+            Some(handle) => {
+                let actor = actor_at(meant, actor);
+                serve_write(core, line.worker, actor, handle, index, value, output, out);
+            }
+            None => output.put(out, b"unbound\n"),
+        },
+        _ => replay_other(core, meant, handles, line, output, out),
     }
 }
 

@@ -23,7 +23,7 @@ pub(crate) enum Meaning {
 }
 
 /// What the name at a number means, where this is what the names mean.
-fn meant_at(meant: &[Meant], number: u32) -> Meant
+pub(crate) fn meant_at(meant: &[Meant], number: u32) -> Meant
     ensures { (policy : Policy) (names : List (List ℕ)) → meant.now ≡ meanings policy names
         → IsNumber names number → result ≡ meant_of policy (named names number) }
 {
@@ -37,7 +37,7 @@ fn meant_at(meant: &[Meant], number: u32) -> Meant
 }
 
 /// Who has the name at a number.
-fn actor_at(meant: &[Meant], number: u32) -> Actor
+pub(crate) fn actor_at(meant: &[Meant], number: u32) -> Actor
     ensures { (policy : Policy) (names : List (List ℕ)) → meant.now ≡ meanings policy names
         → IsNumber names number → result ≡ actor_of policy (named names number) }
 {
@@ -45,7 +45,7 @@ fn actor_at(meant: &[Meant], number: u32) -> Actor
 }
 
 /// The handle of a block, where these are the handles that the labels stand for.
-fn handle_named(handles: &[Option<Handle>], block: StoredBlock) -> Option<Handle>
+pub(crate) fn handle_named(handles: &[Option<Handle>], block: StoredBlock) -> Option<Handle>
     ensures { result ≡ handle_named handles.now (block_in block) }
 {
     match block {

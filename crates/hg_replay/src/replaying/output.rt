@@ -1,6 +1,8 @@
 //! What is to be written: gathered in a buffer, and written where that is full.
 
-ghost use Rattle.std.specs.Prelude.{◌≡◌, ℕ, List, [], true, false, unwrap_or, OnOk, OnErr};
+ghost use Rattle.std.specs.Prelude.{◌≡◌, ℕ, List, [], ◌∷◌, ◌++◌, true, false, unwrap_or, OnOk};
+ghost use Rattle.std.specs.Prelude.{OnErr, codes, decimal};
+ghost use Rattle.hg_trace.specs.Printed.{handle_text};
 ghost use Rattle.hg_policy.specs.Names.{tenant_name};
 ghost use Rattle.hg_machine.specs.declared.Answer.TheVariants as answer;
 ghost use Rattle.hg_replay.specs.Text.{answer_line, listing_end};
@@ -9,9 +11,12 @@ ghost use Rattle.hg_replay.specs.Writes.{Wrote, StopsIn, IsGiven, Emits};
 
 use crate::replaying::put::{WriteStopped, put};
 use crate::replaying::sink::Sink;
-use crate::replaying::text::{Text, listing_end, push_line, ready_line, row_back, row_front};
+use crate::replaying::text::{
+    Text, block_line, listing_end, push_line, ready_line, row_back, row_front, value_line,
+};
 use arrayvec::ArrayVec;
 use hg_machine::{Answer, Row};
+use hg_place::Handle;
 use hg_policy::Policy;
 
 /// How many bytes wait at most.
@@ -111,6 +116,22 @@ impl Output {
         self.put(out, row_front(row.handle).as_str().as_bytes());
         self.put(out, name.as_bytes());
         self.put(out, row_back(name.len(), row.bytes).as_str().as_bytes());
+    }
+
+    /// Emits the line of a block that was given out.
+    pub(crate) fn put_block<W: Sink>(&mut self, out: &mut W, handle: Handle)
+        ensures { Emits (W.seen out.old) self.old (W.seen out.new) self.new
+            ((codes "ok " ++ handle_text handle) ++ 10 ∷ []) }
+    {
+        self.put(out, block_line(handle).as_str().as_bytes());
+    }
+
+    /// Emits the line of a word that was read.
+    pub(crate) fn put_value<W: Sink>(&mut self, out: &mut W, value: u64)
+        ensures { Emits (W.seen out.old) self.old (W.seen out.new) self.new
+            ((codes "word " ++ decimal value) ++ 10 ∷ []) }
+    {
+        self.put(out, value_line(value).as_str().as_bytes());
     }
 
     /// Emits the line of an answer to be written.

@@ -5,11 +5,14 @@ ghost use Rattle.std.specs.Prelude.{length, replicate, decimal, codes, MatchOpti
 ghost use Rattle.arrayvec.specs.ArrayString.{array_string_len};
 ghost use Rattle.hg_machine.specs.Policy.{Policy};
 ghost use Rattle.hg_trace.specs.Printed.{handle_text};
+ghost use Rattle.hg_core.specs.Answers.{free_answer};
+ghost use Rattle.hg_heap.specs.Answers.{refused_answer, done_answer};
 ghost use Rattle.hg_replay.specs.Text.{rule_text, answer_line, at_left, at_right};
 ghost use Rattle.hg_replay.specs.Text.{listing_end};
 ghost use Rattle.hg_replay.specs.Rows.{is_row, has_number};
 
 use arrayvec::ArrayString;
+use hg_core::{Freed, NotFreed, Refused};
 use hg_machine::{Answer, Rule};
 use hg_place::Handle;
 
@@ -74,6 +77,41 @@ fn denied_line(rule: Rule) -> &'static str
     }
 }
 
+/// The line of a call that is refused.
+pub(crate) fn refused_line(refused: Refused) -> &'static str
+    ensures { (policy : Policy) → result.now ≡ answer_line policy (refused_answer refused) }
+{
+    match refused {
+        Refused::Denied(rule) => denied_line(rule),
+        Refused::TooLarge => "large\n",
+        Refused::NoRoom => "noroom\n",
+        Refused::Elsewhere => "elsewhere\n",
+        Refused::OutOfBlock => "range\n",
+    }
+}
+
+/// The line of what a free is told.
+pub(crate) fn freed_line(told: Result<Freed, NotFreed>) -> &'static str
+    ensures { (policy : Policy) → result.now ≡ answer_line policy (free_answer told) }
+{
+    match told {
+        Ok(Freed::Here) => "ok\n",
+        Ok(Freed::InHand) => "parted\n",
+        Err(NotFreed::Denied(rule)) => denied_line(rule),
+        Err(NotFreed::Busy) => "busy\n",
+    }
+}
+
+/// The line of what a write is told.
+pub(crate) fn written_line(told: Result<(), Refused>) -> &'static str
+    ensures { (policy : Policy) → result.now ≡ answer_line policy (done_answer told) }
+{
+    match told {
+        Ok(()) => "ok\n",
+        Err(refused) => refused_line(refused),
+    }
+}
+
 /// The line of an answer with no number in it. Most answers are such, and nothing is built for
 /// them.
 pub(crate) fn ready_line(answer: Answer) -> Option<&'static str>
@@ -104,6 +142,26 @@ fn push_block(text: &mut Text, handle: Handle)
 {
     text.push_str("ok ");
     push_handle(text, handle);
+}
+
+/// The line of a block that was given out.
+pub(crate) fn block_line(handle: Handle) -> Text
+    ensures { result.bytes ≡ (codes "ok " ++ handle_text handle) ++ 10 ∷ [] }
+{
+    let mut text = Text::new();
+    push_block(&mut text, handle);
+    text.push_str("\n");
+    text
+}
+
+/// The line of a word that was read.
+pub(crate) fn value_line(value: u64) -> Text
+    ensures { result.bytes ≡ (codes "word " ++ decimal value) ++ 10 ∷ [] }
+{
+    let mut text = Text::new();
+    push_tagged(&mut text, "word ", value);
+    text.push_str("\n");
+    text
 }
 
 fn push_blanks(text: &mut Text, n: usize)

@@ -1,0 +1,16 @@
+use Rattle.std.proofs.Common.{◌∙◌, subst}
+use Rattle.hg_heap.specs.Answers.{done_answer}
+use Rattle.hg_replay.specs.Writes.{Emits}
+use Rattle.hg_replay.proofs.replaying.serving.serve_write.Goals as goal
+
+pub returns : goal.returns
+returns g c =
+    let seen = g.W.Sink.seen in (
+      done_answer c.write-told.result,
+      record {
+        chosen = c.write-told.ensures.chosen;
+        given =
+            subst (λ line. Emits (seen c.args.out.now) c.args.output.now (seen c.put.new.out) c.put.new.self line)
+            (c.as_bytes.ensures.value ∙ c.written_line.ensures c.args.core.now.state.policy) c.put.ensures;
+      },
+    )
