@@ -8,6 +8,3 @@ pub mod laws;
 mod matches;
 
 pub use job::{Job, JobFault, job_of};
-
-#[cfg(test)]
-mod tests;

@@ -6,7 +6,5 @@ mod hash;
 mod index;
 mod names;
 mod slot;
-#[cfg(test)]
-mod tests;
 
 pub use names::Names;

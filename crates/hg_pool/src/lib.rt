@@ -7,8 +7,3 @@ mod parting;
 mod pool;
 
 pub use pool::Pool;
-
-#[cfg(test)]
-mod seeded;
-#[cfg(test)]
-mod tests;

@@ -9,6 +9,3 @@ mod refusal;
 
 pub use entry::{program, start};
 pub use host::Host;
-
-#[cfg(test)]
-mod tests;

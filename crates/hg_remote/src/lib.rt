@@ -5,8 +5,3 @@ pub mod laws;
 mod remote_list;
 
 pub use remote_list::{RemoteList, Twice};
-
-#[cfg(test)]
-mod seeded;
-#[cfg(test)]
-mod tests;

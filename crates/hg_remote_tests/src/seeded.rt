@@ -1,6 +1,6 @@
 //! Thousands of calls on a remote list beside vectors.
 
-use crate::{RemoteList, Twice};
+use hg_remote::{RemoteList, Twice};
 use std::alloc::Global;
 use std::process::Abort;
 

@@ -1,4 +1,4 @@
-use crate::{RemoteList, Twice};
+use hg_remote::{RemoteList, Twice};
 
 // Places in the order in which they are drained, and a place that is sent twice.
 #[test]

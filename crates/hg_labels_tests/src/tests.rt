@@ -1,8 +1,7 @@
 //! Tests of what no clause says: that names are kept with ample memory, also those that fall into
 //! one bucket, and what an error leaves.
 
-use crate::Names;
-use crate::hash::hash_of;
+use hg_labels::Names;
 use std::alloc::Global;
 use std::process::Abort;
 
@@ -36,9 +35,14 @@ fn front(rt: &impl Abort, length: usize) -> &'static str {
     TEXT.get(0..length).expect(rt, "a front")
 }
 
-/// Whether a name falls into the first of 16 buckets.
+/// Whether a name falls into the first of 16 buckets, by the hash that hg_labels keeps to itself:
+/// FNV-1a, of which the lowest byte tells it.
 fn is_in_first(name: &str) -> bool {
-    hash_of(name.as_bytes()).is_multiple_of(16)
+    let hash = name
+        .as_bytes()
+        .iter()
+        .fold(0x25u8, |hash, byte| { (hash ^ *byte).wrapping_mul(0xb3) });
+    hash.is_multiple_of(16)
 }
 
 #[test]

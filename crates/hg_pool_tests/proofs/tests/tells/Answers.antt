@@ -1,4 +1,4 @@
-use Rattle.hg_pool.proofs.tests.tells.Goals as goal
+use Rattle.hg_pool_tests.proofs.tests.tells.Goals as goal
 
 pub arena-requires : goal.arena-requires
 arena-requires g c = c.has.ensures.there.0 c.if-not-has.false

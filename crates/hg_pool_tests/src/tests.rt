@@ -1,7 +1,7 @@
 ghost use Rattle.hg_place.specs.Lives.{IsLiveWord};
 
-use crate::Pool;
 use hg_place::{MAX_SEGMENTS, Place, PlainWords, Standing, pack};
+use hg_pool::Pool;
 use hg_segment::Segment;
 use hg_size::class_of;
 use std::alloc::Global;

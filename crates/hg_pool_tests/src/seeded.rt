@@ -1,8 +1,8 @@
 //! Thousands of calls on a pool beside vectors.
 
-use crate::Pool;
 use crate::tests::{put, segment};
 use hg_place::PlainWords;
+use hg_pool::Pool;
 use hg_segment::Segment;
 use std::alloc::Global;
 use std::process::Abort;

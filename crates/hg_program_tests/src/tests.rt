@@ -2,8 +2,7 @@
 
 ghost use Rattle.std.specs.Prelude.{None, true, false};
 
-use crate::entry::{program, start};
-use crate::host::Host;
+use hg_program::{Host, program, start};
 use hg_replay::{ReadFault, Status, read_limited};
 use std::alloc::Global;
 use std::io;

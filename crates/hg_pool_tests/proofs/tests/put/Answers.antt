@@ -1,5 +1,5 @@
 use Rattle.std.proofs.Common.{◌≡◌, true, false}
-use Rattle.hg_pool.proofs.tests.put.Goals as goal
+use Rattle.hg_pool_tests.proofs.tests.put.Goals as goal
 
 pub put_orphan-requires : goal.put_orphan-requires
 put_orphan-requires g c p =

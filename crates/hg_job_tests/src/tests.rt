@@ -1,4 +1,4 @@
-use crate::{Job, JobFault, job_of};
+use hg_job::{Job, JobFault, job_of};
 use std::alloc::{AllocError, Global};
 use std::process::Abort;
 

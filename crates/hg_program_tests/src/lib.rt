@@ -1,0 +1,5 @@
+//! The program on files in memory, and on outputs that fail.
+#![tactic(auto)]
+
+#[cfg(test)]
+mod tests;
