@@ -45,7 +45,9 @@ typedef struct hg_core {
 /* A handle, never 0: the number of its place in bits 32 to 50, and its generation below. */
 typedef uint64_t hg_handle;
 
-/* What came of a call. The numbers stay as they are; later releases may add some. */
+/* What came of a call. No number is changed, or used again for something else: later releases only
+ * add some, so a program takes one that it doesn't know as not served. A rule's number says nothing
+ * of when it is judged. */
 enum hg_status {
     /* served */
     HG_BLOCK = 1,    /* value: the handle of a new block, whose words are 0 */
@@ -72,6 +74,7 @@ enum hg_status {
     HG_FOREIGN_ARENA = 35,
     HG_NOT_GRANTED = 36,
     HG_OVER_LIMIT = 37,
+    HG_FORBIDDEN = 38,       /* by a deny line, which is judged before any grant */
     /* hg_open: the policy's first fault; value: how many bytes of its line stand in the room */
     HG_NOT_TOML = 49,
     HG_MISSING = 50,
@@ -175,6 +178,7 @@ static inline const char *hg_status_text(unsigned status)
     case HG_FOREIGN_ARENA: return "denied arena";
     case HG_NOT_GRANTED: return "denied grant";
     case HG_OVER_LIMIT: return "denied limit";
+    case HG_FORBIDDEN: return "denied forbidden";
     case HG_NOT_TOML: return "not toml";
     case HG_MISSING: return "missing";
     case HG_KIND: return "kind";

@@ -16,11 +16,13 @@ namespace {
 constexpr std::uint8_t WORKER = 0;
 constexpr std::uint8_t STRANGER = 255;
 
-constexpr char POLICY[] = R"(version = 1
+constexpr char POLICY[] = R"(version = 2
 workers = 1
-tenant = [ {name = "ann", limit = 4096}, {name = "bob", limit = 256} ]
+tenant = [ {name = "ann", limit = 4096}, {name = "bob", limit = 256}, {name = "cy", limit = 256} ]
 arena = [ {name = "rows", segments = 2} ]
-grant = [ {owner = "ann", to = "bob", rights = ["read"]} ]
+group = [ {name = "readers", members = ["bob", "cy"]} ]
+grant = [ {owner = "ann", to = "readers", rights = ["read"]} ]
+deny = [ {owner = "ann", to = "cy", rights = ["read"]} ]
 )";
 
 std::string said(Reply reply) { return hg_status_text(reply.status); }
@@ -123,13 +125,15 @@ int main()
     }
 
     Store store(POLICY);
-    const auto ann = store.session("ann"), bob = store.session("bob"), eve = store.session("eve");
+    const auto ann = store.session("ann"), bob = store.session("bob"), cy = store.session("cy");
+    const auto eve = store.session("eve");
     auto tell = [](const char *what, const std::string &answer) {
         std::cout << what << ": " << answer << "\n";
     };
     tell("ann sets city", store.set(ann, "city", "Reykjavik, 64 degrees north"));
     tell("ann gets city", store.get(ann, "city"));
-    tell("bob gets city, which ann grants", store.get(bob, "city"));
+    tell("bob gets city, which readers may", store.get(bob, "city"));
+    tell("cy gets city, which is denied to that reader", store.get(cy, "city"));
     tell("bob replaces city", store.set(bob, "city", "Oslo"));
     tell("bob drops city", store.drop(bob, "city"));
     tell("bob sets note", store.set(bob, "note", "mine"));
@@ -150,7 +154,7 @@ int main()
     Core second = std::move(first);
     std::cout << "a core that was moved has " << unsigned(second.workers()) << " worker, and "
               << unsigned(first.workers()) << " where it was\n";
-    std::cout << "tenant 1 is " << second.tenant_name(1).value_or("nobody") << ", tenant 2 is "
-              << second.tenant_name(2).value_or("nobody") << "\n";
+    std::cout << "tenant 1 is " << second.tenant_name(1).value_or("nobody") << ", tenant 3 is "
+              << second.tenant_name(3).value_or("nobody") << "\n";
     return 0;
 }

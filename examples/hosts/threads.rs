@@ -94,7 +94,7 @@ impl Worker {
 }
 
 fn main() -> Result<(), Box<dyn std::error::Error>> {
-    println!("version 2: {}", Core::open("version = 2").err().unwrap());
+    println!("version 3: {}", Core::open("version = 3").err().unwrap());
     let mut core = Core::open(POLICY)?;
     for worker in 0..core.workers() {
         core.refill(worker, 0)?;

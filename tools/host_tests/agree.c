@@ -13,15 +13,18 @@
 enum { WORKERS = 4, TENANTS = 3, ARENAS = 2, SEGMENTS = 6, KEPT = 256, STATUSES = 80 };
 
 static const char POLICY[] =
-    "version = 1\n"
+    "version = 2\n"
     "workers = 4\n"
     "max_generation = 12\n"
     "tenant = [ {name = \"ann\", limit = 20000}, {name = \"bob\", limit = 60000},\n"
     "           {name = \"cy\", limit = 600} ]\n"
     "arena = [ {name = \"main\", segments = 5},\n"
     "          {name = \"vault\", segments = 1, exclusive = [\"ann\"]} ]\n"
+    "group = [ {name = \"staff\", members = [\"bob\", \"cy\"]} ]\n"
     "grant = [ {owner = \"ann\", to = \"bob\", rights = [\"read\", \"free\"]},\n"
-    "          {owner = \"bob\", to = \"cy\", rights = [\"write\", \"list\"]} ]\n";
+    "          {owner = \"bob\", to = \"cy\", rights = [\"write\", \"list\"]} ]\n"
+    "deny = [ {owner = \"ann\", to = \"bob\", rights = [\"free\"]},\n"
+    "         {owner = \"staff\", to = \"staff\", rights = [\"read\", \"list\"]} ]\n";
 
 /* The last of each is nobody's name, which the trace reads as the number 255. */
 static const char *const ACTORS[] = {"ann", "bob", "cy", "eve"};
@@ -179,7 +182,7 @@ int main(int words, char **word)
     if (fclose(policy) | fclose(trace) | fclose(answers)) return 1;
 
     int missed = 0;
-    for (unsigned status = HG_BLOCK; status <= HG_OVER_LIMIT; status++) {
+    for (unsigned status = HG_BLOCK; status <= HG_FORBIDDEN; status++) {
         const char *text = hg_status_text(status);
         if (strcmp(text, "unknown status") == 0) continue;
         if (!answered[status]) printf("never answered: %s (%u)\n", text, status);

@@ -6,6 +6,7 @@ pub enum Rule {
     Stale(u32),
     AlreadyFreed,
     ForeignArena,
+    Forbidden,
     NotGranted,
     OverLimit,
 }
@@ -25,6 +26,8 @@ pub struct Policy {
     pub segments: Vec<u8>,
     /// By owner and actor a bit for each right.
     pub granted: Vec<[u8; 64]>,
+    /// The same of what is forbidden; empty where nothing is.
+    pub forbidden: Vec<[u8; 64]>,
     pub max_generation: u32,
 }
 
@@ -51,6 +54,7 @@ impl Policy {
             admitted: vec![u64::MAX],
             segments: vec![0; segments],
             granted: vec![rights],
+            forbidden: Vec::new(),
             max_generation: u32::MAX,
         }
     }
@@ -70,14 +74,23 @@ impl Policy {
         }
     }
 
-    pub fn grants(&self, owner: u8, actor: u8, right: Right) -> bool {
-        match self.granted.get(usize::from(owner)) {
+    /// Whether a table of rights has this one.
+    fn has(&self, table: &[[u8; 64]], owner: u8, actor: u8, right: Right) -> bool {
+        match table.get(usize::from(owner)) {
             Some(held) => {
                 usize::from(actor) < self.limits.len()
                     && held[usize::from(actor)] >> right as u8 & 1 == 1
             }
             None => false,
         }
+    }
+
+    pub fn grants(&self, owner: u8, actor: u8, right: Right) -> bool {
+        self.has(&self.granted, owner, actor, right)
+    }
+
+    pub fn forbids(&self, owner: u8, actor: u8, right: Right) -> bool {
+        self.has(&self.forbidden, owner, actor, right)
     }
 
     /// The first rule that denies the use of a block, by the slot word of its place.
@@ -103,7 +116,11 @@ impl Policy {
         if !self.admits(arena, actor) {
             return Some(Rule::ForeignArena);
         }
-        if !self.grants(word_owner(word), actor, right) {
+        let owner = word_owner(word);
+        if self.forbids(owner, actor, right) {
+            return Some(Rule::Forbidden);
+        }
+        if !self.grants(owner, actor, right) {
             return Some(Rule::NotGranted);
         }
         None

@@ -36,6 +36,7 @@ const LINE_ROOM: usize = 1024;
 
 /// What became of a block that was freed.
 #[derive(Clone, Copy, Debug, PartialEq, Eq)]
+#[non_exhaustive]
 pub enum Freed {
     /// Its place is home.
     Here,

@@ -3,8 +3,10 @@
 use crate::raw::RawReply;
 use std::fmt;
 
-/// A rule of the policy or of the memory, by the order in which rules refuse.
+/// A rule of the policy or of the memory. They stand in the order in which a block is judged; a
+/// limit is of allocations alone.
 #[derive(Clone, Copy, Debug, PartialEq, Eq)]
+#[non_exhaustive]
 pub enum Rule {
     Stranger,
     /// The handle is of another life; this generation is there, 0 where none is.
@@ -13,6 +15,8 @@ pub enum Rule {
     },
     AlreadyFreed,
     ForeignArena,
+    /// A deny line names the right, whatever is granted.
+    Forbidden,
     NotGranted,
     OverLimit,
 }
@@ -24,6 +28,7 @@ impl fmt::Display for Rule {
             Rule::Stale { .. } => "stale",
             Rule::AlreadyFreed => "freed",
             Rule::ForeignArena => "arena",
+            Rule::Forbidden => "forbidden",
             Rule::NotGranted => "grant",
             Rule::OverLimit => "limit",
         })
@@ -32,6 +37,7 @@ impl fmt::Display for Rule {
 
 /// Why an event isn't served. As text it is what heapguard prints.
 #[derive(Clone, Copy, Debug, PartialEq, Eq)]
+#[non_exhaustive]
 pub enum Refusal {
     Denied(Rule),
     TooLarge,
@@ -69,6 +75,7 @@ impl Refusal {
             35 => Refusal::Denied(Rule::ForeignArena),
             36 => Refusal::Denied(Rule::NotGranted),
             37 => Refusal::Denied(Rule::OverLimit),
+            38 => Refusal::Denied(Rule::Forbidden),
             65 => Refusal::NoWorker,
             other => Refusal::Other(other),
         }
@@ -97,6 +104,7 @@ impl std::error::Error for Refusal {}
 
 /// What a fault of a policy is about.
 #[derive(Clone, Copy, Debug, PartialEq, Eq)]
+#[non_exhaustive]
 pub enum FaultKind {
     NotToml,
     Missing,
@@ -125,6 +133,7 @@ impl std::error::Error for PolicyFault {}
 
 /// Why no core was opened.
 #[derive(Clone, Debug, PartialEq, Eq)]
+#[non_exhaustive]
 pub enum OpenError {
     Policy(PolicyFault),
     Memory,
@@ -162,3 +171,33 @@ impl fmt::Display for OpenError {
 }
 
 impl std::error::Error for OpenError {}
+
+#[cfg(test)]
+mod tests {
+    use super::*;
+    use crate::Core;
+
+    const POLICY: &str = r#"version = 2
+workers = 1
+tenant = [ {name = "alice", limit = 8192}, {name = "bob", limit = 64} ]
+arena = [ {name = "main", segments = 1} ]
+group = [ {name = "all", members = ["alice", "bob"]} ]
+grant = [ {owner = "alice", to = "all", rights = ["read", "write"]} ]
+deny = [ {owner = "all", to = "all", rights = ["write"]} ]
+"#;
+
+    #[test]
+    fn what_is_denied_is_forbidden() {
+        let mut core = Core::open(POLICY).unwrap();
+        let (alice, bob) = (core.tenant("alice").unwrap(), core.tenant("bob").unwrap());
+        core.refill(0, 0).unwrap();
+        let block = core.alloc(0, alice, 0, 8).unwrap();
+        assert_eq!(core.write(0, alice, block, 0, 7), Ok(()));
+        assert_eq!(core.read(0, bob, block, 0), Ok(7));
+        let forbidden = Refusal::Denied(Rule::Forbidden);
+        assert_eq!(core.write(0, bob, block, 0, 8), Err(forbidden));
+        assert_eq!(forbidden.to_string(), "denied forbidden");
+        let ungranted = Err(Refusal::Denied(Rule::NotGranted));
+        assert_eq!(core.free(0, bob, block), ungranted);
+    }
+}

@@ -10,7 +10,7 @@ use Rattle.hg_place.specs.Slots.{Slot, slot_in, unused_slot}
 use Rattle.hg_machine.specs.declared.Rule.{Rule}
 use Rattle.hg_machine.specs.declared.Rule.TheVariants as rule
 use Rattle.hg_machine.specs.First.{first_of}
-use Rattle.hg_machine.specs.Policy.{Policy, is_tenant, arena_of, grants}
+use Rattle.hg_machine.specs.Policy.{Policy, is_tenant, arena_of, grants, forbids}
 use Rattle.hg_machine.specs.Life.{is_live, owner_of}
 use Rattle.hg_machine.specs.State.{State, record_at}
 use Rattle.hg_machine.specs.Denial.{denial_on, denial, slot_at, is_admitted}
@@ -29,6 +29,7 @@ on policy actor right expected arena generation owner alive =
     ∷ (not (generation == expected), rule.Stale generation)
     ∷ (not alive, rule.AlreadyFreed)
     ∷ (not (is_admitted policy arena actor), rule.ForeignArena)
+    ∷ (forbids policy owner actor right, rule.Forbidden)
     ∷ (not (grants policy owner actor right), rule.NotGranted)
     ∷ [])
 

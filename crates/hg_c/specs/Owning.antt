@@ -41,6 +41,7 @@ no_core = record {
     segments = [];
     admitted = [];
     granted = [];
+    forbidden = [];
   });
   lists = record { free = []; local_free = []; thread_free = []; delayed = [] };
   queues = [];

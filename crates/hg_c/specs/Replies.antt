@@ -31,7 +31,7 @@ held = plain 67
 abbrev pub no_name : Reply
 no_name = plain 68
 
--- each rule has a status of its own, by the order in which rules refuse
+-- each rule has a status of its own
 abbrev pub denial : Rule → Reply
 denial rule.Stranger = plain 32
 denial (rule.Stale generation) =
@@ -40,6 +40,7 @@ denial rule.AlreadyFreed = plain 34
 denial rule.ForeignArena = plain 35
 denial rule.NotGranted = plain 36
 denial rule.OverLimit = plain 37
+denial rule.Forbidden = plain 38
 
 -- each answer of the machine has a status of its own, and comes whole
 abbrev pub reply_of : Answer → Reply

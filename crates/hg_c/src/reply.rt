@@ -66,6 +66,7 @@ fn denial(rule: Rule) -> Reply
         Rule::ForeignArena => Reply::plain(35),
         Rule::NotGranted => Reply::plain(36),
         Rule::OverLimit => Reply::plain(37),
+        Rule::Forbidden => Reply::plain(38),
     }
 }
 

@@ -5,24 +5,29 @@ use Rattle.std.proofs.lemmas.Bool.{eq-eqb}
 use Rattle.hg_place.specs.declared.Right.TheVariants as right
 use Rattle.hg_machine.specs.declared.Rule.TheVariants as rule
 use Rattle.hg_machine.specs.First.{first_of}
-use Rattle.hg_machine.specs.Policy.{Policy, is_tenant, arena_of, admits, grants}
+use Rattle.hg_machine.specs.Policy.{Policy, is_tenant, arena_of, admits, grants, forbids}
 use Rattle.hg_machine.specs.Denial.{is_admitted}
 use Rattle.hg_choice.specs.SameBut.{may_read}
 use Rattle.hg_choice.specs.Readers.{read_denial, MayReadIsVerdict}
 
--- the last two rules
-last_two : (admitted granted : Bool)
-    → (admitted && granted)
+-- the last three rules
+last_three : (admitted forbidden granted : Bool)
+    → (admitted && (not forbidden && granted))
     ≡ is_none
-    (first_of ((not admitted, rule.ForeignArena) ∷ (not granted, rule.NotGranted) ∷ []))
-last_two false granted = refl
-last_two true false = refl
-last_two true true = refl
+    (first_of
+    ((not admitted, rule.ForeignArena)
+    ∷ (forbidden, rule.Forbidden)
+    ∷ (not granted, rule.NotGranted)
+    ∷ []))
+last_three false forbidden granted = refl
+last_three true true granted = refl
+last_three true false false = refl
+last_three true false true = refl
 
 -- all rules, for a live block of the handle's generation
-all_rules : (policy : Policy) (actor generation : ℕ) (tenant named granted : Bool)
+all_rules : (policy : Policy) (actor generation : ℕ) (tenant named forbidden granted : Bool)
     (arena : Option ℕ) → named ≡ true
-    → (tenant && (is_admitted policy arena actor && granted))
+    → (tenant && (is_admitted policy arena actor && (not forbidden && granted)))
     ≡ is_none
     (first_of
     ((not tenant, rule.Stranger)
@@ -30,13 +35,14 @@ all_rules : (policy : Policy) (actor generation : ℕ) (tenant named granted : B
     ∷ (not named, rule.Stale generation)
     ∷ (false, rule.AlreadyFreed)
     ∷ (not (is_admitted policy arena actor), rule.ForeignArena)
+    ∷ (forbidden, rule.Forbidden)
     ∷ (not granted, rule.NotGranted)
     ∷ []))
-all_rules policy actor generation false named granted arena e = refl
-all_rules policy actor generation true named granted None e = refl
-all_rules policy actor generation true false granted (Some arena) e = absurd (cc)
-all_rules policy actor generation true true granted (Some arena) e =
-    last_two (admits policy arena actor) granted
+all_rules policy actor generation false named forbidden granted arena e = refl
+all_rules policy actor generation true named forbidden granted None e = refl
+all_rules policy actor generation true false forbidden granted (Some arena) e = absurd (cc)
+all_rules policy actor generation true true forbidden granted (Some arena) e =
+    last_three (admits policy arena actor) forbidden granted
 
 -- there is one or none
 or_none : {A : Type 0} (o : Option A) → not (is_none o) ≡ is_some o
@@ -48,6 +54,7 @@ may_read_is_verdict policy actor segment owner generation =
     let readers : may_read policy actor segment owner
     ≡ is_none (read_denial policy actor segment owner generation) =
     all_rules policy actor generation (is_tenant policy actor) (generation == generation)
-    (grants policy owner actor right.Read) (arena_of policy segment)
+    (forbids policy owner actor right.Read) (grants policy owner actor right.Read)
+    (arena_of policy segment)
     (eq-eqb generation generation refl) in
     (readers, ap not readers ∙ or_none (read_denial policy actor segment owner generation))

@@ -81,7 +81,7 @@ module _ (hides : ℕ → ℕ → Bool) where
   reader_may s w reader handle index none =
       let may =
       permitted s reader.0 right.Read handle.place handle.generation (no_denial _ _ none).0 in
-      both _ _ may.tenant (both _ _ may.admitted may.granted)
+      both _ _ may.tenant (both _ _ may.admitted may.allowed)
 
   read_agrees : (s t : State) (w : ℕ) (reader : Actor) (handle : Handle) (index : ℕ) (a b : Answer)
       → refusal s w (event.Read reader handle index) ≡ None

@@ -8,7 +8,7 @@ use Rattle.hg_machine.specs.declared.Event.{Event}
 use Rattle.hg_machine.specs.declared.Event.TheVariants as event
 use Rattle.hg_machine.specs.declared.Answer.{Answer}
 use Rattle.hg_machine.specs.declared.Answer.TheVariants as answer
-use Rattle.hg_machine.specs.Policy.{Policy, is_tenant, arena_of, grants}
+use Rattle.hg_machine.specs.Policy.{Policy, is_tenant, arena_of, lets}
 use Rattle.hg_machine.specs.Life.{owner_of}
 use Rattle.hg_machine.specs.State.{State, record_at}
 use Rattle.hg_machine.specs.Denial.{is_admitted}
@@ -21,7 +21,7 @@ abbrev pub may_read : Policy → ℕ → ℕ → ℕ → Bool
 may_read policy actor segment owner =
     is_tenant policy actor
     && (is_admitted policy (arena_of policy segment) actor
-    && grants policy owner actor right.Read)
+    && lets policy owner actor right.Read)
 
 -- it doesn't
 abbrev pub is_unreadable : Policy → ℕ → ℕ → ℕ → Bool

@@ -42,8 +42,9 @@ impl Core {
 
     /// Frees a block: its place goes home where the worker holds its segment, else into the
     /// worker's hand, where it stays until `deliver`. A refusal changes nothing. `Denied` names the
-    /// first rule that refuses: `Stranger`, `Stale`, `AlreadyFreed`, `ForeignArena`, `NotGranted`;
-    /// `Busy` is a block of a segment that the worker doesn't hold while its hand has a place.
+    /// first rule that refuses: `Stranger`, `Stale`, `AlreadyFreed`, `ForeignArena`, `Forbidden`,
+    /// `NotGranted`; `Busy` is a block of a segment that the worker doesn't hold while its hand has
+    /// a place.
     pub fn free(&mut self, worker: u8, actor: Actor, handle: Handle) -> Result<Freed, NotFreed>
         requires worker { worker < self.old.state.policy.workers }
         ensures step { Step self.old.state worker (Event.Free actor handle)

@@ -13,7 +13,8 @@ use hg_policy::Policy;
 use hg_size::{block_words, class_of};
 
 /// The verdict on a block, by the slot word that was observed at its place: the first rule that
-/// denies it, in the order `Stranger`, `Stale`, `AlreadyFreed`, `ForeignArena`, `NotGranted`.
+/// denies it, in the order `Stranger`, `Stale`, `AlreadyFreed`, `ForeignArena`, `Forbidden`,
+/// `NotGranted`.
 ///
 /// A word that is no slot word shows a place that was never given out, and where the policy has no
 /// such segment the answer is `Stale(0)` whatever the word is.
@@ -37,7 +38,11 @@ pub fn judge(policy: &Policy, actor: Actor, right: Right, handle: Handle, word: 
     if !policy.admits(arena, actor) {
         return Verdict::Denied(Rule::ForeignArena);
     }
-    if !policy.grants(owner_of(word), actor, right) {
+    let owner = owner_of(word);
+    if policy.forbids(owner, actor, right) {
+        return Verdict::Denied(Rule::Forbidden);
+    }
+    if !policy.grants(owner, actor, right) {
         return Verdict::Denied(Rule::NotGranted);
     }
     Verdict::Allowed

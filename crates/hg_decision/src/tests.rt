@@ -15,6 +15,17 @@ arena = [ {name = "main", segments = 2}, {name = "vault", segments = 1, exclusiv
 grant = [ {owner = "alice", to = "bob", rights = ["read", "free"]} ]
 "#;
 
+/// The same tenants and arenas, with a group of both; and what is denied.
+const DENYING: &str = r#"
+version = 2
+workers = 2
+tenant = [ {name = "alice", limit = 8192}, {name = "bob", limit = 64} ]
+arena = [ {name = "main", segments = 2}, {name = "vault", segments = 1, exclusive = ["alice"]} ]
+group = [ {name = "staff", members = ["alice", "bob"]} ]
+grant = [ {owner = "staff", to = "staff", rights = ["read", "free"]} ]
+deny = [ {owner = "alice", to = "staff", rights = ["read", "write"]} ]
+"#;
+
 const ALICE: Actor = Actor(0);
 
 const BOB: Actor = Actor(1);
@@ -72,6 +83,39 @@ fn blocks_by_the_first_rule(rt: HostRuntime) -> Result<(), Fail> {
     assert_eq!(rt; no_segment, Verdict::Denied(Rule::Stale(0)));
     let no_slot = judge(&policy, ALICE, read, first, 0x0000_0001_0000_0081);
     assert_eq!(rt; no_slot, Verdict::Denied(Rule::Stale(0)));
+    Ok(())
+}
+
+// What is denied is denied before any grant, and after each other rule.
+#[test]
+fn denied_before_the_grant(rt: HostRuntime) -> Result<(), Fail> {
+    let policy = read_policy(rt.alloc(), DENYING.as_bytes())?;
+    let first = handle(0, 1);
+    for right in [Right::Read, Right::Write] {
+        let verdict = judge(&policy, BOB, right, first, block());
+        assert_eq!(rt; verdict, Verdict::Denied(Rule::Forbidden));
+        assert_eq!(rt;
+            judge(&policy, ALICE, right, first, block()),
+            Verdict::Allowed
+        );
+    }
+    let free = Right::Free;
+    assert_eq!(rt; judge(&policy, BOB, free, first, block()), Verdict::Allowed);
+    let listed = judge(&policy, BOB, Right::List, first, block());
+    assert_eq!(rt; listed, Verdict::Denied(Rule::NotGranted));
+    let bobs = pack(1, 1, true);
+    assert_eq!(rt;
+        judge(&policy, ALICE, Right::Read, first, bobs),
+        Verdict::Allowed
+    );
+    let foreign = judge(&policy, BOB, Right::Read, handle(2, 1), block());
+    assert_eq!(rt; foreign, Verdict::Denied(Rule::ForeignArena));
+    let freed = judge(&policy, BOB, Right::Read, first, pack(1, 0, false));
+    assert_eq!(rt; freed, Verdict::Denied(Rule::AlreadyFreed));
+    let stale = judge(&policy, BOB, Right::Read, handle(0, 2), block());
+    assert_eq!(rt; stale, Verdict::Denied(Rule::Stale(1)));
+    let stranger = judge(&policy, NOBODY, Right::Read, first, block());
+    assert_eq!(rt; stranger, Verdict::Denied(Rule::Stranger));
     Ok(())
 }
 

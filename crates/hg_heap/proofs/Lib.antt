@@ -10,6 +10,7 @@ pub mod Giving
 pub mod OpenBlocks
 pub mod PartCall
 pub mod Looking
+pub mod Freeable
 pub mod MeetCall
 pub mod ReadCall
 pub mod LookCall

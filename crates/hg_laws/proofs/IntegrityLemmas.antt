@@ -21,7 +21,7 @@ use Rattle.hg_machine.proofs.Follows.{others_leave_it}
 use Rattle.hg_machine.proofs.Preserves.{steps_keep_policy}
 use Rattle.hg_laws.specs.Asked.{actor_of}
 use Rattle.hg_laws.specs.Along.{AtSome}
-use Rattle.hg_laws.specs.Integrity.{Touches, TouchesAt, BlocksAreKept, GrantsNobody}
+use Rattle.hg_laws.specs.Integrity.{Touches, TouchesAt, BlocksAreKept, LetsNobody}
 use Rattle.hg_laws.specs.Integrity.{OthersChangeNothing}
 use Rattle.hg_laws.proofs.MachineFacts.{permitted, free_cases}
 
@@ -82,11 +82,11 @@ blocks_are_kept old (e ∷ es) (a ∷ rest) new place alive run =
     ]
 
 -- nobody but the owner can touch a block of an owner that lets nobody
-touched_by_owner : (p : Policy) (place generation owner : ℕ) (e : Event) (a : Answer) → GrantsNobody p owner → actor_of e ≢ Some owner → Touches p place generation owner e a → ⊥
+touched_by_owner : (p : Policy) (place generation owner : ℕ) (e : Event) (a : Answer) → LetsNobody p owner → actor_of e ≢ Some owner → Touches p place generation owner e a → ⊥
 touched_by_owner p place g owner (event.Free actor handle) a alone other t =
-    true≢false (sym t.1.granted ∙ alone.no_free actor.0 (λ e. other (ap Some e)))
+    true≢false (sym t.1.allowed ∙ alone.no_free actor.0 (λ e. other (ap Some e)))
 touched_by_owner p place g owner (event.Write actor handle index value) a alone other t =
-    true≢false (sym t.1.granted ∙ alone.no_write actor.0 (λ e. other (ap Some e)))
+    true≢false (sym t.1.allowed ∙ alone.no_write actor.0 (λ e. other (ap Some e)))
 touched_by_owner p place g owner (event.Alloc actor arena bytes) a alone other t = t
 touched_by_owner p place g owner event.Deliver a alone other t = t
 touched_by_owner p place g owner (event.Take segment) a alone other t = t
@@ -96,7 +96,7 @@ touched_by_owner p place g owner (event.Look actor at) a alone other t = t
 touched_by_owner p place g owner (event.Abandon segment) a alone other t = t
 touched_by_owner p place g owner (event.Refill arena) a alone other t = t
 
-never_touched : (p : Policy) (place generation owner : ℕ) (events : List (ℕ × Event)) (answers : List Answer) → GrantsNobody p owner
+never_touched : (p : Policy) (place generation owner : ℕ) (events : List (ℕ × Event)) (answers : List Answer) → LetsNobody p owner
     → All (λ e. actor_of e.1 ≢ Some owner) events → AtSome (Touches p place generation owner) events answers → ⊥
 never_touched p place g owner [] [] alone other t = t
 never_touched p place g owner [] (a ∷ rest) alone other t = t

@@ -13,3 +13,4 @@ pub mod OwnersLemmas
 pub mod RowsLemmas
 pub mod WorkersLemmas
 pub mod CountsLemmas
+pub mod ForbiddenLemmas

@@ -1,12 +1,12 @@
 -- Facts of the machine that several laws use.
-use Rattle.std.proofs.Common.{◌≡◌, ◌⊎◌, inl, inr, ℕ, ◌==◌, Option, Some, true, not, is_some, None}
+use Rattle.std.proofs.Common.{◌≡◌, ◌⊎◌, inl, inr, ℕ, ◌==◌, ◌&&◌, Option, Some, true, not, is_some, None}
 use Rattle.std.proofs.Common.{sym, subst, arith}
 use Rattle.std.proofs.lemmas.Bool.{eqb-true, not-false, and_parts, or_cases}
 use Rattle.hg_place.specs.declared.Place.{Place}
 use Rattle.hg_place.specs.declared.Right.{Right}
 use Rattle.hg_place.specs.Places.{number_of, segment_of, page_of}
 use Rattle.hg_place.specs.Slots.{Slot}
-use Rattle.hg_machine.specs.Policy.{Policy, is_tenant, arena_of, grants}
+use Rattle.hg_machine.specs.Policy.{Policy, is_tenant, arena_of, grants, forbids, lets}
 use Rattle.hg_machine.specs.Life.{owner_of}
 use Rattle.hg_machine.specs.State.{State, record_at, class_at}
 use Rattle.hg_machine.specs.declared.Answer.{Answer}
@@ -27,6 +27,14 @@ use Rattle.hg_laws.specs.Integrity.{Permits}
 pub segment_is : (place : Place) → segment_of (number_of place) ≡ place.segment
 segment_is place = let a = place.page_below in let b = place.index_below in omega arith
 
+-- what isn't forbidden and is granted
+let_by :
+    (p : Policy) (owner actor : ℕ) (right : Right)
+    → forbids p owner actor right ≡ false → grants p owner actor right ≡ true
+    → lets p owner actor right ≡ true
+let_by p owner actor right free granted =
+    ap (λ b. not b && grants p owner actor right) free ∙ granted
+
 -- what holds where no rule denies it
 pub record Passes (p : Policy) (actor : ℕ) (right : Right) (segment expected : ℕ) (slot : Slot) : Type 0 where
   pub generation : slot.generation ≡ expected
@@ -41,11 +49,16 @@ passes p actor right segment expected slot e =
     let s3 = step (not (slot.generation == expected)) _ _ s2.1 in
     let s4 = step (not slot.live) _ _ s3.1 in
     let s5 = step (not (is_admitted p (arena_of p segment) actor)) _ _ s4.1 in
-    let s6 = step (not (grants p slot.owner actor right)) _ _ s5.1 in
+    let s6 = step (forbids p slot.owner actor right) _ _ s5.1 in
+    let s7 = step (not (grants p slot.owner actor right)) _ _ s6.1 in
     record {
       generation = eqb-true _ _ (not-false _ s3.0);
       alive = not-false _ s4.0;
-      permits = record { tenant = not-false _ s1.0; admitted = not-false _ s5.0; granted = not-false _ s6.0 };
+      permits = record {
+        tenant = not-false _ s1.0;
+        admitted = not-false _ s5.0;
+        allowed = let_by p slot.owner actor right s6.0 (not-false _ s7.0);
+      };
     }
 
 -- the same of a state, by the number of the place

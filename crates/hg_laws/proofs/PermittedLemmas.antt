@@ -1,6 +1,6 @@
 -- What is served was permitted, and what is permitted is not denied.
 use Rattle.std.proofs.Common.{◌≡◌, ◌⊎◌, inl, inr, ℕ, ◌==◌, Bool, true, false, not, cond, is_some, max, Option, Some, None, refl, sym, ap, subst}
-use Rattle.std.proofs.lemmas.Bool.{eq-eqb}
+use Rattle.std.proofs.lemmas.Bool.{eq-eqb, and_parts}
 use Rattle.hg_place.specs.declared.Handle.{Handle}
 use Rattle.hg_place.specs.declared.Right.{Right}
 use Rattle.hg_place.specs.declared.Right.TheVariants as right
@@ -12,7 +12,7 @@ use Rattle.hg_machine.specs.declared.Row.{Row}
 use Rattle.hg_machine.specs.declared.Rule.TheVariants as rule
 use Rattle.hg_machine.specs.Life.{is_live, owner_of}
 use Rattle.hg_machine.specs.State.{State, record_at}
-use Rattle.hg_machine.specs.Policy.{Policy, is_tenant, arena_of, grants}
+use Rattle.hg_machine.specs.Policy.{Policy, is_tenant, arena_of, grants, forbids}
 use Rattle.hg_machine.specs.Denial.{denial, slot_at, is_admitted}
 use Rattle.hg_machine.specs.Served.{IsRow}
 use Rattle.hg_machine.proofs.Allowed.{no_denial}
@@ -65,6 +65,12 @@ passed : {A : Type 0} (b : Bool) (r : A) (rest : Option A) → b ≡ true → re
 passed true r rest e none = none
 passed false r rest e none = absurd (cc)
 
+unbarred :
+    {A : Type 0} (b : Bool) (r : A) (rest : Option A)
+    → not b ≡ true → rest ≡ None → cond b (Some r) rest ≡ None
+unbarred true r rest e none = absurd (cc)
+unbarred false r rest e none = none
+
 in_some : (p : Policy) (o : Option ℕ) (actor : ℕ) → is_admitted p o actor ≡ true → is_some o ≡ true
 in_some p None actor e = absurd (cc)
 in_some p (Some arena) actor e = refl
@@ -73,9 +79,12 @@ pub permitted_is_allowed : PermittedIsAllowed
 permitted_is_allowed s actor right handle may =
     let at = number_of handle.place in
     let arena = arena_of s.policy handle.place.segment in
+    let forbidden = forbids s.policy (owner_of (record_at s at).life) actor right in
+    let lets = and_parts (not forbidden) _ may.permits.allowed in
     passed (is_tenant s.policy actor) rule.Stranger _ may.permits.tenant
     (passed (is_some arena) (rule.Stale 0) _ (in_some s.policy arena actor may.permits.admitted)
     (passed ((record_at s at).generation == handle.generation) (rule.Stale (record_at s at).generation) _ (eq-eqb _ _ (sym may.names_it))
     (passed (is_live (record_at s at).life) rule.AlreadyFreed _ may.lives
     (passed (is_admitted s.policy arena actor) rule.ForeignArena _ may.permits.admitted
-    (passed (grants s.policy (owner_of (record_at s at).life) actor right) rule.NotGranted None may.permits.granted refl)))))
+    (unbarred forbidden rule.Forbidden _ lets.0
+    (passed (grants s.policy (owner_of (record_at s at).life) actor right) rule.NotGranted None lets.1 refl))))))

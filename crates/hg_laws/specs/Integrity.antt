@@ -8,7 +8,7 @@ use Rattle.hg_machine.specs.declared.Event.{Event}
 use Rattle.hg_machine.specs.declared.Event.TheVariants as event
 use Rattle.hg_machine.specs.declared.Answer.{Answer}
 use Rattle.hg_machine.specs.declared.Answer.TheVariants as answer
-use Rattle.hg_machine.specs.Policy.{Policy, is_tenant, arena_of, grants}
+use Rattle.hg_machine.specs.Policy.{Policy, is_tenant, arena_of, lets}
 use Rattle.hg_machine.specs.Life.{is_live, owner_of}
 use Rattle.hg_machine.specs.State.{State, record_at}
 use Rattle.hg_machine.specs.Denial.{is_admitted}
@@ -20,7 +20,7 @@ use Rattle.hg_laws.specs.Along.{AtSome}
 pub record Permits (p : Policy) (segment owner actor : ℕ) (right : Right) : Type 0 where
   pub tenant : is_tenant p actor ≡ true
   pub admitted : is_admitted p (arena_of p segment) actor ≡ true
-  pub granted : grants p owner actor right ≡ true
+  pub allowed : lets p owner actor right ≡ true
 
 -- the handle names this life of the place
 pub record NamesLife (handle : Handle) (place generation : ℕ) : Type 0 where
@@ -55,16 +55,16 @@ BlocksAreKept =
     ⊎ AtSome (TouchesAt old place) events answers
 
 -- the owner lets nobody else write or free its blocks
-pub record GrantsNobody (p : Policy) (owner : ℕ) : Type 0 where
-  pub no_write : (actor : ℕ) → actor ≢ owner → grants p owner actor right.Write ≡ false
-  pub no_free : (actor : ℕ) → actor ≢ owner → grants p owner actor right.Free ≡ false
+pub record LetsNobody (p : Policy) (owner : ℕ) : Type 0 where
+  pub no_write : (actor : ℕ) → actor ≢ owner → lets p owner actor right.Write ≡ false
+  pub no_free : (actor : ℕ) → actor ≢ owner → lets p owner actor right.Free ≡ false
 
 -- so in a run of others' events each of its live blocks stays as it was
 abbrev pub OthersChangeNothing : Type 0
 OthersChangeNothing =
     (old : State) (events : List (ℕ × Event)) (answers : List Answer) (new : State) (place : ℕ)
     → is_live (record_at old place).life ≡ true
-    → GrantsNobody old.policy (owner_of (record_at old place).life)
+    → LetsNobody old.policy (owner_of (record_at old place).life)
     → All (λ e. actor_of e.1 ≢ Some (owner_of (record_at old place).life)) events
     → Run old events answers new
     → record_at new place ≡ record_at old place

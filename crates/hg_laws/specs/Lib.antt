@@ -11,3 +11,4 @@ pub mod Owners
 pub mod Rows
 pub mod Workers
 pub mod Counts
+pub mod Forbidden

@@ -16,6 +16,7 @@ ghost use Rattle.hg_laws.specs.Owners.{OwnersAreTenants};
 ghost use Rattle.hg_laws.specs.Rows.{LooksTellTheirLine};
 ghost use Rattle.hg_laws.specs.Workers.{WorkersKeepApart, NewPagesComeLast};
 ghost use Rattle.hg_laws.specs.Counts.{TakenIsCounted, PagesAreCounted};
+ghost use Rattle.hg_laws.specs.Forbidden.{ForbiddenIsNeverServed};
 
 /// In any run a live block stays as it was, until an actor whom the policy lets do so frees it or
 /// writes into it.
@@ -148,4 +149,9 @@ pub fn taken_is_counted()
 /// A collect tells how many pages lost their class.
 pub fn pages_are_counted()
     ensures { PagesAreCounted }
+{}
+
+/// A right that is forbidden is denied after any run, and nothing changes.
+pub fn forbidden_is_never_served()
+    ensures { ForbiddenIsNeverServed }
 {}

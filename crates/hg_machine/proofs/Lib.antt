@@ -17,3 +17,4 @@ pub mod Listed
 pub mod Looks
 pub mod ShownLemmas
 pub mod Serves
+pub mod Unforbidden

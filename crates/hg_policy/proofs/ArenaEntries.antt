@@ -1,5 +1,5 @@
 -- What holds of the arenas that are read.
-use Rattle.std.proofs.Common.{◌≡◌, ℕ, ◌+◌, ◌-◌, ◌<◌, ◌≤◌, Bool, true, false, List, [], ◌∷◌, ◌++◌, length, take, replicate, nat_lt, ◌==◌, Option, Some, None, Ok, Err, refl, ◌∙◌, zero-add, arith, inl, inr, All}
+use Rattle.std.proofs.Common.{◌≡◌, ℕ, ◌+◌, ◌-◌, ◌<◌, ◌≤◌, Bool, true, false, List, [], ◌∷◌, ◌++◌, length, take, replicate, get_or, nat_lt, ◌==◌, ◌||◌, Option, Some, None, Ok, Err, refl, ◌∙◌, zero-add, arith, inl, inr, All}
 use Rattle.std.proofs.lemmas.Bool.{cases_Bool, ltb-false}
 use Rattle.std.proofs.lemmas.List.{length_push, length-append, length-replicate, take_all}
 use Rattle.std.proofs.lemmas.List.Elements.{All-push, All-nil, All-append, All-replicate, All-weaker}
@@ -12,12 +12,12 @@ use Rattle.hg_policy.specs.declared.key.Counted.TheVariants as counted
 use Rattle.hg_policy.specs.declared.key.Level.TheVariants as level
 use Rattle.hg_policy.specs.Faults.{repeated, too_many, in_turn}
 use Rattle.hg_policy.specs.Values.{field_at, known_keys, whole_at, or_else, elements_in}
-use Rattle.hg_policy.specs.Tenants.{number_in}
+use Rattle.hg_policy.specs.TenantSets.{just, either}
+use Rattle.hg_policy.specs.Groups.{Group, named_in}
 use Rattle.hg_policy.specs.NameForm.{is_name, name_at, is_among}
-use Rattle.hg_policy.specs.Arenas.{Arenas, no_arenas, and_arena, with_arena, with_member, members_in, just, admitted_in, admitted_at, arena_at, arenas_in}
+use Rattle.hg_policy.specs.Arenas.{Arenas, no_arenas, and_arena, with_arena, with_named, admitted_in, admitted_at, arena_at, arenas_in}
 use Rattle.hg_policy.specs.DocumentLaws.{AreNames}
 use Rattle.hg_policy.proofs.DistinctNames.{name_at-formed, AreNames-nil, AreNames-push}
-use Rattle.hg_policy.proofs.GrantEntries.{number_in-below}
 use Rattle.hg_policy.proofs.Chains.{bind_at, in_turn-keeps, in_turn-counts}
 
 -- the items of a list that is made longer
@@ -44,32 +44,27 @@ with_arena-is done out name segments admitted e =
       ]
     ]
 
-length-admitted_else : (tenants : List Tenant) (value : Option Data) (admitted : List Bool) → or_else (replicate (length tenants) true) (admitted_in tenants) value ≡ Ok admitted → length admitted ≡ length tenants
-length-admitted_else tenants None admitted e =
+-- of each tenant it is said whether an arena admits it
+length-admitted_in : (tenants : List Tenant) (groups : List Group) (value : Data) (admitted : List Bool) → admitted_in tenants groups value ≡ Ok admitted → length admitted ≡ length tenants
+length-admitted_in tenants groups value admitted e =
+    let n = length tenants in
+    let (names, at, rest) = bind_at (elements_in key.Exclusive value) (λ names. in_turn (with_named tenants groups) (just n []) names) admitted e in
+    in_turn-keeps (with_named tenants groups) (λ (flags : List Bool). length flags ≡ n)
+    (λ done d next e kept.
+    let (named, at, rest) = bind_at (named_in key.Exclusive tenants groups d) (λ named. Ok (either n done named)) next e in
+    let f : either n done named ≡ next = cc in
+    rw (← f) (length-map-range_with_len (λ tenant. get_or done tenant false || get_or named tenant false) 0 n))
+    (just n []) names admitted rest (length-map-range_with_len (λ tenant. list_any (λ member. member == tenant) []) 0 n)
+
+length-admitted_else : (tenants : List Tenant) (groups : List Group) (value : Option Data) (admitted : List Bool) → or_else (replicate (length tenants) true) (admitted_in tenants groups) value ≡ Ok admitted → length admitted ≡ length tenants
+length-admitted_else tenants groups None admitted e =
     let f : replicate (length tenants) true ≡ admitted = cc in
     rw (← f) (length-replicate (length tenants) true)
-length-admitted_else tenants (Some value) admitted e =
-    let (members, at, rest) = bind_at (members_in tenants value) (λ members. Ok (just (length tenants) members)) admitted e in
-    let f : just (length tenants) members ≡ admitted = cc in
-    rw (← f) (length-map-range_with_len (λ tenant. list_any (λ member. member == tenant) members) 0 (length tenants))
+length-admitted_else tenants groups (Some value) admitted e = length-admitted_in tenants groups value admitted e
 
-with_member-keeps : (tenants : List Tenant) (done : List ℕ) (d : Data) (next : List ℕ) → with_member tenants done d ≡ Ok next → All (λ member. member < length tenants) done → All (λ member. member < length tenants) next
-with_member-keeps tenants done d next e kept =
-    let (tenant, at, rest) = bind_at (number_in key.Exclusive tenants d) (λ tenant. Ok (done ++ tenant ∷ [])) next e in
-    let f : done ++ tenant ∷ [] ≡ next = cc in
-    rw (← f) (All-push (λ member. member < length tenants) done tenant kept (number_in-below key.Exclusive tenants d tenant at))
-
--- an exclusive list names tenants
-pub members_in-among : (tenants : List Tenant) (value : Data) (members : List ℕ) → members_in tenants value ≡ Ok members → All (λ member. member < length tenants) members
-unfolding members_in
-members_in-among tenants value members e =
-    let (names, at, rest) = bind_at (elements_in key.Exclusive value) (λ names. in_turn (with_member tenants) [] names) members e in
-    in_turn-keeps (with_member tenants) (λ members. All (λ member. member < length tenants) members) (with_member-keeps tenants) [] names members rest (All-nil (λ member. member < length tenants))
-
--- of each tenant it is said whether an arena admits it
-length-admitted_at : (tenants : List Tenant) (entry : Members) (admitted : List Bool) → admitted_at tenants entry ≡ Ok admitted → length admitted ≡ length tenants
+length-admitted_at : (tenants : List Tenant) (groups : List Group) (entry : Members) (admitted : List Bool) → admitted_at tenants groups entry ≡ Ok admitted → length admitted ≡ length tenants
 unfolding admitted_at
-length-admitted_at tenants entry admitted e = length-admitted_else tenants (field_at key.Exclusive entry) admitted e
+length-admitted_at tenants groups entry admitted e = length-admitted_else tenants groups (field_at key.Exclusive entry) admitted e
 
 -- one more arena, after those before
 record IsNext (tenants : List Tenant) (done out : Arenas) : Type 0 where
@@ -82,24 +77,24 @@ record IsNext (tenants : List Tenant) (done out : Arenas) : Type 0 where
   new : is_among name done.names ≡ false
   formed : is_name name ≡ true
 
-arena_at-is : (tenants : List Tenant) (done : Arenas) (entry : Members) (out : Arenas) → arena_at tenants done entry ≡ Ok out → IsNext tenants done out
+arena_at-is : (tenants : List Tenant) (groups : List Group) (done : Arenas) (entry : Members) (out : Arenas) → arena_at tenants groups done entry ≡ Ok out → IsNext tenants done out
 unfolding arena_at
-arena_at-is tenants done entry out e =
+arena_at-is tenants groups done entry out e =
     let (known, at1, e1) = bind_at (known_keys level.Arena entry) _ out e in
     let (name, at2, e2) = bind_at (name_at key.Name entry) _ out e1 in
     let (segments, at3, e3) = bind_at (whole_at key.Segments 0 9223372036854775807 entry) _ out e2 in
-    let (admitted, at4, e4) = bind_at (admitted_at tenants entry) (λ admitted. with_arena done name segments admitted) out e3 in
+    let (admitted, at4, e4) = bind_at (admitted_at tenants groups entry) (λ admitted. with_arena done name segments admitted) out e3 in
     let w = with_arena-is done out name segments admitted e4 in
-    record { name = name; segments = segments; admitted = admitted; is = w.0; fits = w.1; by_tenant = length-admitted_at tenants entry admitted at4; new = w.2; formed = name_at-formed key.Name entry name at2 }
+    record { name = name; segments = segments; admitted = admitted; is = w.0; fits = w.1; by_tenant = length-admitted_at tenants groups entry admitted at4; new = w.2; formed = name_at-formed key.Name entry name at2 }
 
-pub arena_at-one : (tenants : List Tenant) (done : Arenas) (entry : Members) (out : Arenas) → arena_at tenants done entry ≡ Ok out → length out.names ≡ length done.names + 1
-arena_at-one tenants done entry out e =
-    let n = arena_at-is tenants done entry out e in
+pub arena_at-one : (tenants : List Tenant) (groups : List Group) (done : Arenas) (entry : Members) (out : Arenas) → arena_at tenants groups done entry ≡ Ok out → length out.names ≡ length done.names + 1
+arena_at-one tenants groups done entry out e =
+    let n = arena_at-is tenants groups done entry out e in
     rw n.is (length_push done.names n.name)
 
-arena_at-keeps : (tenants : List Tenant) (done : Arenas) (entry : Members) (out : Arenas) → arena_at tenants done entry ≡ Ok out → IsArenas (length tenants) done → IsArenas (length tenants) out
-arena_at-keeps tenants done entry out e kept =
-    let n = arena_at-is tenants done entry out e in
+arena_at-keeps : (tenants : List Tenant) (groups : List Group) (done : Arenas) (entry : Members) (out : Arenas) → arena_at tenants groups done entry ≡ Ok out → IsArenas (length tenants) done → IsArenas (length tenants) out
+arena_at-keeps tenants groups done entry out e kept =
+    let n = arena_at-is tenants groups done entry out e in
     let more : length (done.names ++ n.name ∷ []) ≡ length done.names + 1 = length_push done.names n.name in
     rw n.is record {
       each = omega (arith, more, length_push done.admitted n.admitted, kept.each);
@@ -111,14 +106,14 @@ arena_at-keeps tenants done entry out e kept =
       names = AreNames-push done.names n.name kept.names n.new n.formed;
     }
 
-pub arenas_in-length : (tenants : List Tenant) (entries : List Members) (out : Arenas) → arenas_in tenants entries ≡ Ok out → length out.names ≡ length entries
+pub arenas_in-length : (tenants : List Tenant) (groups : List Group) (entries : List Members) (out : Arenas) → arenas_in tenants groups entries ≡ Ok out → length out.names ≡ length entries
 unfolding arenas_in
-arenas_in-length tenants entries out e = in_turn-counts (arena_at tenants) (λ arenas. length arenas.names) (arena_at-one tenants) no_arenas entries out e ∙ zero-add (length entries)
+arenas_in-length tenants groups entries out e = in_turn-counts (arena_at tenants groups) (λ arenas. length arenas.names) (arena_at-one tenants groups) no_arenas entries out e ∙ zero-add (length entries)
 
-pub arenas_in-holds : (tenants : List Tenant) (entries : List Members) (out : Arenas) → arenas_in tenants entries ≡ Ok out → IsArenas (length tenants) out
+pub arenas_in-holds : (tenants : List Tenant) (groups : List Group) (entries : List Members) (out : Arenas) → arenas_in tenants groups entries ≡ Ok out → IsArenas (length tenants) out
 unfolding arenas_in
-arenas_in-holds tenants entries out e =
-    in_turn-keeps (arena_at tenants) (IsArenas (length tenants)) (arena_at-keeps tenants) no_arenas entries out e record {
+arenas_in-holds tenants groups entries out e =
+    in_turn-keeps (arena_at tenants groups) (IsArenas (length tenants)) (arena_at-keeps tenants groups) no_arenas entries out e record {
       each = refl;
       by_tenant = All-nil (λ (admitted : List Bool). length admitted ≡ length tenants);
       in_arenas = All-nil (λ arena. arena < 0);

@@ -9,8 +9,12 @@ pub mod Wholes
 pub mod TenantEntries
 pub mod ArenaEntries
 pub mod Sound
-pub mod GrantEntries
+pub mod TenantNumbers
 pub mod GrantTable
 pub mod TenantBits
 pub mod Parts
 pub mod PlainLines
+pub mod Versions
+pub mod LineTable
+pub mod Sets
+pub mod OwnRows

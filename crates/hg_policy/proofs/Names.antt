@@ -29,7 +29,7 @@ module _ (name : List ℕ) where
       position-map (λ key. bytes_eq name (string_bytes key)) (λ one. one.0) named
       ∙ sym (position-map (λ (tenant : Tenant). bytes_eq name tenant.name) (λ one. record { name = string_bytes one.0; limit = one.1 }) named)
 
-list_any-map : {X Y : Type 0} (p : Y → Bool) (f : X → Y) (xs : List X) → list_any p (map f xs) ≡ list_any (λ x. p (f x)) xs
+pub list_any-map : {X Y : Type 0} (p : Y → Bool) (f : X → Y) (xs : List X) → list_any p (map f xs) ≡ list_any (λ x. p (f x)) xs
 list_any-map p f [] = refl
 list_any-map p f (x ∷ xs) = rw (list_any-map p f xs) refl
 

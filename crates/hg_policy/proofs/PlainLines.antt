@@ -87,11 +87,14 @@ plain-key_text key.Workers = plain-tested (codes "workers") refl
 plain-key_text key.MaxGeneration = plain-tested (codes "max_generation") refl
 plain-key_text key.Tenant = plain-tested (codes "tenant") refl
 plain-key_text key.Arena = plain-tested (codes "arena") refl
+plain-key_text key.Group = plain-tested (codes "group") refl
 plain-key_text key.Grant = plain-tested (codes "grant") refl
+plain-key_text key.Deny = plain-tested (codes "deny") refl
 plain-key_text key.Name = plain-tested (codes "name") refl
 plain-key_text key.Limit = plain-tested (codes "limit") refl
 plain-key_text key.Segments = plain-tested (codes "segments") refl
 plain-key_text key.Exclusive = plain-tested (codes "exclusive") refl
+plain-key_text key.Members = plain-tested (codes "members") refl
 plain-key_text key.Owner = plain-tested (codes "owner") refl
 plain-key_text key.To = plain-tested (codes "to") refl
 plain-key_text key.Rights = plain-tested (codes "rights") refl
@@ -100,6 +103,7 @@ plain-counted_text : (c : Counted) → NoCharPasses is_control (counted_text c)
 plain-counted_text counted.Workers = plain-tested (codes "workers") refl
 plain-counted_text counted.Tenants = plain-tested (codes "tenant") refl
 plain-counted_text counted.Arenas = plain-tested (codes "arena") refl
+plain-counted_text counted.Groups = plain-tested (codes "group") refl
 plain-counted_text counted.Segments = plain-tested (codes "segments") refl
 
 pub faults_are_one_line : (fault : PolicyFault) → NoCharPasses is_control (fault_line fault)

@@ -7,7 +7,7 @@ use Rattle.hg_policy.specs.Faults.{kind, too_many}
 use Rattle.hg_policy.specs.Values.{field_at, whole_at, whole_in, value_at, or_else}
 use Rattle.hg_policy.specs.declared.key.Key.TheVariants as key
 use Rattle.hg_policy.specs.declared.key.Counted.TheVariants as counted
-use Rattle.hg_policy.specs.Document.{workers_at, workers_in, max_generation_at}
+use Rattle.hg_policy.specs.Heads.{workers_at, workers_in, max_generation_at}
 use Rattle.hg_policy.proofs.Chains.{bind_at}
 use Rattle.std.proofs.lemmas.Bool.{leb-true, ltb-false}
 

@@ -1,7 +1,6 @@
 -- The entries of arenas.
 use Rattle.std.specs.Prelude.{ℕ, ◌+◌, Bool, true, List, [], ◌∷◌, ◌++◌, length, replicate}
-use Rattle.std.specs.Prelude.{◌==◌, map, Ok, Err, nat_lt, if◌then◌else◌}
-use Rattle.std.specs.List.{list_any, range_with_len}
+use Rattle.std.specs.Prelude.{Ok, Err, nat_lt, if◌then◌else◌}
 use Rattle.toml.specs.Data.{Data, Members}
 use Rattle.hg_place.specs.declared.geometry.TheConstants.{MAX_SEGMENTS}
 use Rattle.hg_machine.specs.Policy.{Tenant}
@@ -10,7 +9,8 @@ use Rattle.hg_policy.specs.declared.key.Counted.TheVariants as counted
 use Rattle.hg_policy.specs.declared.key.Level.TheVariants as level
 use Rattle.hg_policy.specs.Faults.{Read, ◌>>=◌, in_turn, repeated, too_many}
 use Rattle.hg_policy.specs.Values.{field_at, known_keys, whole_at, elements_in, or_else}
-use Rattle.hg_policy.specs.Tenants.{number_in}
+use Rattle.hg_policy.specs.TenantSets.{just, either}
+use Rattle.hg_policy.specs.Groups.{Group, named_in}
 use Rattle.hg_policy.specs.NameForm.{name_at, is_among}
 
 -- by arena its name and which tenants it admits, and by segment its arena
@@ -37,36 +37,30 @@ with_arena done name segments admitted =
     (if nat_lt MAX_SEGMENTS (length done.segments + segments) then Err (too_many counted.Segments)
     else Ok (and_arena done name segments admitted))
 
--- one more tenant that is named
-abbrev pub with_member : List Tenant → List ℕ → Data → Read (List ℕ)
-with_member tenants done value =
-    number_in key.Exclusive tenants value >>= λ tenant. Ok (done ++ tenant ∷ [])
+-- those too for whom one more name stands
+abbrev pub with_named : List Tenant → List Group → List Bool → Data → Read (List Bool)
+with_named tenants groups done value =
+    named_in key.Exclusive tenants groups value
+    >>= λ named. Ok (either (length tenants) done named)
 
-unfoldable pub members_in : List Tenant → Data → Read (List ℕ)
-members_in tenants value =
-    elements_in key.Exclusive value >>= λ names. in_turn (with_member tenants) [] names
+abbrev pub admitted_in : List Tenant → List Group → Data → Read (List Bool)
+admitted_in tenants groups value =
+    elements_in key.Exclusive value
+    >>= λ names. in_turn (with_named tenants groups) (just (length tenants) []) names
 
--- just these of so many tenants
-abbrev pub just : ℕ → List ℕ → List Bool
-just tenants members =
-    map (λ tenant. list_any (λ member. member == tenant) members) (range_with_len 0 tenants)
+-- an arena is open to all tenants, or admits just those for whom the names in its list stand
+unfoldable pub admitted_at : List Tenant → List Group → Members → Read (List Bool)
+admitted_at tenants groups entry =
+    or_else (replicate (length tenants) true) (admitted_in tenants groups)
+    (field_at key.Exclusive entry)
 
-abbrev pub admitted_in : List Tenant → Data → Read (List Bool)
-admitted_in tenants value =
-    members_in tenants value >>= λ members. Ok (just (length tenants) members)
-
--- an arena is open to all tenants, or admits just those that are named
-unfoldable pub admitted_at : List Tenant → Members → Read (List Bool)
-admitted_at tenants entry =
-    or_else (replicate (length tenants) true) (admitted_in tenants) (field_at key.Exclusive entry)
-
-unfoldable pub arena_at : List Tenant → Arenas → Members → Read Arenas
-arena_at tenants done entry = do
+unfoldable pub arena_at : List Tenant → List Group → Arenas → Members → Read Arenas
+arena_at tenants groups done entry = do
   known ← known_keys level.Arena entry
   name ← name_at key.Name entry
   segments ← whole_at key.Segments 0 9223372036854775807 entry
-  admitted ← admitted_at tenants entry
+  admitted ← admitted_at tenants groups entry
   with_arena done name segments admitted
 
-unfoldable pub arenas_in : List Tenant → List Members → Read Arenas
-arenas_in tenants entries = in_turn (arena_at tenants) no_arenas entries
+unfoldable pub arenas_in : List Tenant → List Group → List Members → Read Arenas
+arenas_in tenants groups entries = in_turn (arena_at tenants groups) no_arenas entries

@@ -1,71 +1,59 @@
 -- What a document means: the policy, or the first fault.
-use Rattle.std.specs.Prelude.{ℕ, ◌==◌, pos, negsuc, Bool, true, List, [], length, Option, None}
-use Rattle.std.specs.Prelude.{Ok, Err, nat_lt, if◌then◌else◌}
+use Rattle.std.specs.Prelude.{ℕ, ◌==◌, pos, negsuc, List, length, Option, None}
+use Rattle.std.specs.Prelude.{Ok, Err, if◌then◌else◌}
 use Rattle.std.specs.Str.{is_utf8}
 use Rattle.toml.specs.Data.{Data, Members, integer}
 use Rattle.toml.specs.Parse.{parse_document}
 use Rattle.hg_machine.specs.Policy.{Policy, Tenant}
 use Rattle.hg_policy.specs.declared.key.Key.TheVariants as key
-use Rattle.hg_policy.specs.declared.key.Counted.TheVariants as counted
+use Rattle.hg_policy.specs.declared.key.Level.{Level}
 use Rattle.hg_policy.specs.declared.key.Level.TheVariants as level
-use Rattle.hg_policy.specs.Faults.{Read, ◌>>=◌, or_fault, not_toml, kind, too_many, version}
-use Rattle.hg_policy.specs.Values.{field_at, value_at, whole_in, whole_at, known_keys}
-use Rattle.hg_policy.specs.Values.{entries_in, entries_at, or_else}
+use Rattle.hg_policy.specs.Faults.{Read, ◌>>=◌, or_fault, not_toml, kind, version}
+use Rattle.hg_policy.specs.Values.{value_at, known_keys}
+use Rattle.hg_policy.specs.Heads.{Heads, heads_at}
 use Rattle.hg_policy.specs.Tenants.{tenants_in}
+use Rattle.hg_policy.specs.Groups.{groups_in}
 use Rattle.hg_policy.specs.Arenas.{Arenas, arenas_in}
-use Rattle.hg_policy.specs.Grants.{grants_in}
-use Rattle.hg_policy.specs.Granted.{granted_among}
-use Rattle.hg_policy.specs.declared.grants.Grant.{Grant}
+use Rattle.hg_policy.specs.Lines.{Line, lines_in, granted_by, forbidden_by}
 
--- version 1 is the one that is read
-abbrev pub version_in : Data → Read Bool
-version_in (integer (pos n)) = if n == 1 then Ok true else Err version
-version_in (integer (negsuc n)) = Err version
-version_in _ = Err (kind key.Version)
+-- the top keys of versions 1 and 2
+abbrev pub top_in : Data → Read Level
+top_in (integer (pos n)) =
+    if n == 1 then Ok level.Top else (if n == 2 then Ok level.SecondTop else Err version)
+top_in (integer (negsuc n)) = Err version
+top_in _ = Err (kind key.Version)
 
-unfoldable pub version_at : Members → Read Bool
-version_at members = value_at key.Version members >>= version_in
+unfoldable pub top_at : Members → Read Level
+top_at members = value_at key.Version members >>= top_in
 
--- up to 16 workers
-abbrev pub workers_in : ℕ → Read ℕ
-workers_in n = if nat_lt 16 n then Err (too_many counted.Workers) else Ok n
-
-unfoldable pub workers_at : Members → Read ℕ
-workers_at members = whole_at key.Workers 1 9223372036854775807 members >>= workers_in
-
--- the greatest generation, and the entries of grants, where they are given
-unfoldable pub max_generation_at : Members → Read ℕ
-max_generation_at members =
-    or_else 4294967295 (whole_in key.MaxGeneration 1 4294967295)
-    (field_at key.MaxGeneration members)
-
-unfoldable pub grant_entries_at : Members → Read (List Members)
-grant_entries_at members = or_else [] (entries_in key.Grant) (field_at key.Grant members)
-
-abbrev pub policy_from : ℕ → ℕ → List Tenant → Arenas → List Grant → Policy
-policy_from workers greatest tenants arenas grants = record {
-  workers = workers;
-  max_generation = greatest;
+abbrev pub policy_from : Heads → List Tenant → Arenas → List Line → List Line → Policy
+policy_from heads tenants arenas grants denies = record {
+  workers = heads.workers;
+  max_generation = heads.greatest;
   tenants = tenants;
   arenas = arenas.names;
   segments = arenas.segments;
   admitted = arenas.admitted;
-  granted = granted_among grants (length tenants);
+  granted = granted_by grants (length tenants);
+  forbidden = forbidden_by denies (length tenants);
 }
 
+unfoldable pub tables_of : Heads → Read Policy
+tables_of heads = do
+  tenants ← tenants_in heads.tenants
+  groups ← groups_in tenants heads.groups
+  arenas ← arenas_in tenants groups heads.arenas
+  grants ← lines_in tenants groups heads.grants
+  denies ← lines_in tenants groups heads.denies
+  Ok (policy_from heads tenants arenas grants denies)
+
+-- the order of the steps is the order of the faults
 unfoldable pub policy_at : Members → Read Policy
 policy_at members = do
-  said ← version_at members
-  known ← known_keys level.Top members
-  workers ← workers_at members
-  greatest ← max_generation_at members
-  tenant_entries ← entries_at key.Tenant counted.Tenants 64 members
-  arena_entries ← entries_at key.Arena counted.Arenas 16 members
-  grant_entries ← grant_entries_at members
-  tenants ← tenants_in tenant_entries
-  arenas ← arenas_in tenants arena_entries
-  grants ← grants_in tenants grant_entries
-  Ok (policy_from workers greatest tenants arenas grants)
+  top ← top_at members
+  known ← known_keys top members
+  heads ← heads_at members
+  tables_of heads
 
 -- the tree of the bytes
 abbrev pub tree_of : List ℕ → Option Members

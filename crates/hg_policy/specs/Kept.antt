@@ -6,6 +6,12 @@ use Rattle.hg_policy.specs.Rights.{rights_of}
 use Rattle.hg_policy.specs.declared.rights.Rights.{Rights}
 use Rattle.hg_policy.specs.TenantSets.{flags_of}
 use Rattle.hg_policy.specs.declared.tenant_set.TenantSet.{TenantSet}
+use Rattle.hg_policy.specs.Groups as groups
+use Rattle.hg_policy.specs.Lines as lines
+use Rattle.hg_policy.specs.declared.lines.Line.{Line}
+use Rattle.toml.specs.View.{table_view}
+use Rattle.hg_policy.specs.Heads as heads
+use Rattle.hg_policy.specs.declared.heads.Heads.{Heads}
 use Rattle.hg_policy.specs.Arenas.{Arenas}
 use Rattle.hg_policy.specs.declared.arenas.ArenaTables.{ArenaTables}
 use Rattle.hg_policy.specs.declared.policy.Policy.TheInside.{Inside}
@@ -35,6 +41,30 @@ arenas_of tenants tables = record {
 abbrev pub granted_of : ℕ → List (List Rights) → List (List meaning.Rights)
 granted_of tenants granted = map (λ held. map rights_of (take tenants held)) granted
 
+-- groups, by which of so many tenants are members
+abbrev pub groups_of : ℕ → Named TenantSet → List groups.Group
+groups_of tenants named =
+    map (λ one. record { name = string_bytes one.0; members = flags_of tenants one.1 }) named
+
+-- a line, by which of so many tenants it names
+abbrev pub line_of : ℕ → Line → lines.Line
+line_of tenants line = record {
+  owners = flags_of tenants line.owners;
+  to = flags_of tenants line.to;
+  rights = rights_of line.rights;
+}
+
+abbrev pub heads_of : Heads → heads.Heads
+heads_of h = record {
+  workers = h.workers;
+  greatest = h.max_generation;
+  tenants = map (λ entry. table_view entry.now) h.tenants.items;
+  arenas = map (λ entry. table_view entry.now) h.arenas.items;
+  groups = map (λ entry. table_view entry.now) h.groups.items;
+  grants = map (λ entry. table_view entry.now) h.grants.items;
+  denies = map (λ entry. table_view entry.now) h.denies.items;
+}
+
 abbrev pub policy_of : Inside → meaning.Policy
 policy_of p = record {
   workers = p.workers;
@@ -44,4 +74,5 @@ policy_of p = record {
   segments = p.segments.items;
   admitted = admitted_of (length p.tenants.entries) p.arenas.entries;
   granted = granted_of (length p.tenants.entries) p.granted.items;
+  forbidden = granted_of (length p.tenants.entries) p.forbidden.items;
 }

@@ -11,7 +11,10 @@ pub mod FaultLines
 pub mod Tenants
 pub mod Arenas
 pub mod Grants
-pub mod Granted
+pub mod Groups
+pub mod Lines
+pub mod Heads
 pub mod Document
+pub mod VersionLaws
 pub mod DocumentLaws
 pub mod LineLaws

@@ -24,6 +24,10 @@ is_same a b = bit_of a == bit_of b
 abbrev pub has_bit : Rights → Right → Bool
 has_bit rights right = bit_and rights.0 (bit_of right) == bit_of right
 
+-- the set of none
+abbrev pub nothing : Rights
+nothing = record { 0 = 0 }
+
 -- the rights that a set has
 abbrev pub rights_of : Rights → meaning.Rights
 rights_of rights = record {

@@ -9,7 +9,7 @@ use Rattle.hg_policy.specs.declared.key.Key.TheVariants as key
 use Rattle.hg_policy.specs.declared.key.Level.TheVariants as level
 use Rattle.hg_policy.specs.Faults.{Read, ◌>>=◌, in_turn, or_fault, kind, repeated}
 use Rattle.hg_policy.specs.Faults.{no_such_name}
-use Rattle.hg_policy.specs.Values.{value_at, known_keys, whole_at}
+use Rattle.hg_policy.specs.Values.{known_keys, whole_at}
 use Rattle.hg_policy.specs.NameForm.{name_at, is_among}
 
 abbrev pub tenant_names : List Tenant → List (List ℕ)
@@ -36,6 +36,3 @@ abbrev pub number_in : Key → List Tenant → Data → Read ℕ
 number_in key tenants (string text) =
     or_fault (no_such_name text) (position (λ tenant. bytes_eq text tenant.name) tenants)
 number_in key tenants _ = Err (kind key)
-
-unfoldable pub number_at : Key → List Tenant → Members → Read ℕ
-number_at key tenants entry = value_at key entry >>= number_in key tenants

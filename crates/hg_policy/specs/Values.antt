@@ -37,7 +37,13 @@ knows level.Top key =
     bytes_eq key (codes "version") || (bytes_eq key (codes "workers")
     || (bytes_eq key (codes "max_generation") || (bytes_eq key (codes "tenant")
     || (bytes_eq key (codes "arena") || bytes_eq key (codes "grant")))))
+knows level.SecondTop key =
+    bytes_eq key (codes "version") || (bytes_eq key (codes "workers")
+    || (bytes_eq key (codes "max_generation") || (bytes_eq key (codes "tenant")
+    || (bytes_eq key (codes "arena") || (bytes_eq key (codes "grant")
+    || (bytes_eq key (codes "group") || bytes_eq key (codes "deny")))))))
 knows level.Tenant key = bytes_eq key (codes "name") || bytes_eq key (codes "limit")
+knows level.Group key = bytes_eq key (codes "name") || bytes_eq key (codes "members")
 knows level.Arena key =
     bytes_eq key (codes "name") || (bytes_eq key (codes "segments")
     || bytes_eq key (codes "exclusive"))

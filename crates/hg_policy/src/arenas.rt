@@ -3,7 +3,7 @@
 ghost use Rattle.std.specs.Prelude.{◌≡◌, ◌≤◌, ◌<◌, ◌^◌, ℕ, length, map};
 ghost use Rattle.toml.specs.View.{table_view};
 ghost use Rattle.hg_policy.specs.Faults.{Gives};
-ghost use Rattle.hg_policy.specs.Kept.{tenants_of, arenas_of};
+ghost use Rattle.hg_policy.specs.Kept.{tenants_of, groups_of, arenas_of};
 ghost use Rattle.hg_policy.specs.Arenas.{with_arena, arena_at, arenas_in};
 ghost use Rattle.hg_policy.specs.TenantSets.{flags_of};
 
@@ -29,12 +29,14 @@ pub(crate) struct ArenaTables {
 pub(crate) fn arenas(
     alloc: Global,
     tenants: &IndexMap<String, u32>,
+    groups: &IndexMap<String, TenantSet>,
     entries: &[&Table],
 ) -> Result<ArenaTables, PolicyFault>
     requires few_tenants { length tenants.now.entries ≤ 64 }
     requires few_entries { length entries.now ≤ 16 }
     ensures { Gives (arenas_of (length tenants.now.entries)) result
         (arenas_in (tenants_of tenants.now.entries)
+        (groups_of (length tenants.now.entries) groups.now.entries)
         (map (λ entry. table_view entry.now) entries.now)) }
 {
     let mut arenas = ArenaTables {
@@ -42,7 +44,7 @@ pub(crate) fn arenas(
         segments: Vec::with_capacity(alloc, MAX_SEGMENTS)?,
     };
     for entry in entries {
-        arena(alloc, tenants, &mut arenas, *entry)?;
+        arena(alloc, tenants, groups, &mut arenas, *entry)?;
     }
     Ok(arenas)
 }
@@ -51,6 +53,7 @@ pub(crate) fn arenas(
 fn arena(
     alloc: Global,
     tenants: &IndexMap<String, u32>,
+    groups: &IndexMap<String, TenantSet>,
     arenas: &mut ArenaTables,
     entry: &Table,
 ) -> Result<(), PolicyFault>
@@ -58,12 +61,13 @@ fn arena(
     requires few { length arenas.old.named.entries < 256 }
     ensures { Gives (λ _. arenas_of (length tenants.now.entries) arenas.new) result
         (arena_at (tenants_of tenants.now.entries)
+        (groups_of (length tenants.now.entries) groups.now.entries)
         (arenas_of (length tenants.now.entries) arenas.old) (table_view entry.now)) }
 {
     known(alloc, Level::Arena, entry)?;
     let name = name(entry, Key::Name)?;
     let segments = whole(entry, Key::Segments, 0, 9_223_372_036_854_775_807)?;
-    let admitted = admitted(alloc, tenants, entry)?;
+    let admitted = admitted(alloc, tenants, groups, entry)?;
     add_arena(alloc, arenas, name, segments, admitted)
 }
 

@@ -1,17 +1,16 @@
 //! Which tenants an arena admits.
 
-ghost use Rattle.std.specs.Prelude.{◌≡◌, ◌==◌, ◌≤◌, ◌<◌, ℕ, [], length, map, All};
-ghost use Rattle.std.specs.List.{list_any};
+ghost use Rattle.std.specs.Prelude.{◌≡◌, ◌≤◌, [], length, map};
 ghost use Rattle.toml.specs.View.{view, table_view};
 ghost use Rattle.hg_policy.specs.Faults.{Gives, in_turn};
-ghost use Rattle.hg_policy.specs.Kept.{tenants_of};
-ghost use Rattle.hg_policy.specs.Arenas.{admitted_at, admitted_in, members_in, with_member};
-ghost use Rattle.hg_policy.specs.TenantSets.{has_tenant, flags_of};
+ghost use Rattle.hg_policy.specs.Kept.{tenants_of, groups_of};
+ghost use Rattle.hg_policy.specs.Arenas.{admitted_at, admitted_in, with_named};
+ghost use Rattle.hg_policy.specs.TenantSets.{just, flags_of};
 
 use crate::fault::PolicyFault;
+use crate::groups::named_in;
 use crate::key::Key;
 use crate::tenant_set::TenantSet;
-use crate::tenants::number_in;
 use crate::values::{elements, field};
 use indexmap::IndexMap;
 use std::alloc::Global;
@@ -22,14 +21,16 @@ use toml::{Table, Value};
 pub(crate) fn admitted(
     alloc: Global,
     tenants: &IndexMap<String, u32>,
+    groups: &IndexMap<String, TenantSet>,
     entry: &Table,
 ) -> Result<TenantSet, PolicyFault>
     requires { length tenants.now.entries ≤ 64 }
     ensures { Gives (flags_of (length tenants.now.entries)) result
-        (admitted_at (tenants_of tenants.now.entries) (table_view entry.now)) }
+        (admitted_at (tenants_of tenants.now.entries)
+        (groups_of (length tenants.now.entries) groups.now.entries) (table_view entry.now)) }
 {
     match field(entry, Key::Exclusive) {
-        Some(value) => exclusive(alloc, tenants, value),
+        Some(value) => exclusive(alloc, tenants, groups, value),
         None => Ok(TenantSet::each()),
     }
 }
@@ -37,57 +38,35 @@ pub(crate) fn admitted(
 fn exclusive(
     alloc: Global,
     tenants: &IndexMap<String, u32>,
+    groups: &IndexMap<String, TenantSet>,
     value: &Value,
 ) -> Result<TenantSet, PolicyFault>
     requires { length tenants.now.entries ≤ 64 }
     ensures { Gives (flags_of (length tenants.now.entries)) result
-        (admitted_in (tenants_of tenants.now.entries) (view value.now)) }
-{
-    let members = members(alloc, tenants, value)?;
-    Ok(just(members.as_slice()))
-}
-
-/// The numbers of the tenants that a list names.
-#[tactic(auto, unfolding(crate::specs::Arenas::members_in))]
-fn members(
-    alloc: Global,
-    tenants: &IndexMap<String, u32>,
-    value: &Value,
-) -> Result<Vec<u8>, PolicyFault>
-    requires { length tenants.now.entries ≤ 64 }
-    ensures { Gives (λ members. members.items) result
-        (members_in (tenants_of tenants.now.entries) (view value.now)) }
+        (admitted_in (tenants_of tenants.now.entries)
+        (groups_of (length tenants.now.entries) groups.now.entries) (view value.now)) }
 {
     let names = elements(value, Key::Exclusive)?;
-    members_of(alloc, tenants, names)
+    just_named(alloc, tenants, groups, names)
 }
 
-fn members_of(
+/// Those for whom the names stand.
+fn just_named(
     alloc: Global,
     tenants: &IndexMap<String, u32>,
+    groups: &IndexMap<String, TenantSet>,
     names: &Vec<Value>,
-) -> Result<Vec<u8>, PolicyFault>
+) -> Result<TenantSet, PolicyFault>
     requires { length tenants.now.entries ≤ 64 }
-    ensures { Gives (λ members. members.items) result
-        (in_turn (with_member (tenants_of tenants.now.entries)) [] (map view names.now.items)) }
+    ensures { Gives (flags_of (length tenants.now.entries)) result
+        (in_turn (with_named (tenants_of tenants.now.entries)
+        (groups_of (length tenants.now.entries) groups.now.entries))
+        (just (length (tenants_of tenants.now.entries)) []) (map view names.now.items)) }
 {
-    let mut members = Vec::with_capacity(alloc, names.len())?;
+    let mut admitted = TenantSet::none();
     for name in names {
-        let tenant = number_in(alloc, tenants, name, Key::Exclusive)?;
-        members.push(tenant)?;
+        let named = named_in(alloc, tenants, groups, name, Key::Exclusive)?;
+        admitted = admitted.or(named);
     }
-    Ok(members)
-}
-
-/// The set of the members.
-fn just(members: &[u8]) -> TenantSet
-    requires { All (λ member. member < 64) members.now }
-    ensures { (tenant : ℕ) →
-        has_tenant result tenant ≡ list_any (λ member. member == tenant) members.now }
-{
-    let mut set = TenantSet::none();
-    for member in members {
-        set = set.with(*member);
-    }
-    set
+    Ok(admitted)
 }

@@ -19,9 +19,9 @@ pub enum PolicyFault {
     /// The value is of another type, of another form or out of its range.
     Kind(Key),
     Unknown(String),
-    /// The name of an earlier tenant, or of an earlier arena.
+    /// A name that is taken: of an arena by an earlier arena, else by a tenant or an earlier group.
     Repeated(String),
-    /// A text that is no tenant's name.
+    /// A text that is no tenant's name, nor a group's where a group may be named.
     NoSuchName(String),
     TooMany(Counted),
     Version,

@@ -14,11 +14,14 @@ pub enum Key {
     MaxGeneration,
     Tenant,
     Arena,
+    Group,
     Grant,
+    Deny,
     Name,
     Limit,
     Segments,
     Exclusive,
+    Members,
     Owner,
     To,
     Rights,
@@ -35,11 +38,14 @@ impl Key {
             Key::MaxGeneration => "max_generation",
             Key::Tenant => "tenant",
             Key::Arena => "arena",
+            Key::Group => "group",
             Key::Grant => "grant",
+            Key::Deny => "deny",
             Key::Name => "name",
             Key::Limit => "limit",
             Key::Segments => "segments",
             Key::Exclusive => "exclusive",
+            Key::Members => "members",
             Key::Owner => "owner",
             Key::To => "to",
             Key::Rights => "rights",
@@ -61,6 +67,7 @@ pub enum Counted {
     Workers,
     Tenants,
     Arenas,
+    Groups,
     Segments,
 }
 
@@ -73,6 +80,7 @@ impl Counted {
             Counted::Workers => "workers",
             Counted::Tenants => "tenant",
             Counted::Arenas => "arena",
+            Counted::Groups => "group",
             Counted::Segments => "segments",
         }
     }
@@ -89,9 +97,14 @@ impl fmt::Display for Counted {
 /// The tables of a document, by the keys that they may have.
 #[derive(Clone, Copy, Debug, PartialEq, Eq)]
 pub(crate) enum Level {
+    /// The document, in version 1.
     Top,
+    /// The document, in version 2.
+    SecondTop,
     Tenant,
     Arena,
+    Group,
+    /// A line that grants or denies.
     Grant,
 }
 
@@ -107,7 +120,21 @@ impl Level {
                     "version" | "workers" | "max_generation" | "tenant" | "arena" | "grant"
                 )
             }
+            Level::SecondTop => {
+                matches!(
+                    key,
+                    "version"
+                        | "workers"
+                        | "max_generation"
+                        | "tenant"
+                        | "arena"
+                        | "grant"
+                        | "group"
+                        | "deny"
+                )
+            }
             Level::Tenant => matches!(key, "name" | "limit"),
+            Level::Group => matches!(key, "name" | "members"),
             Level::Arena => matches!(key, "name" | "segments" | "exclusive"),
             Level::Grant => matches!(key, "owner" | "to" | "rights"),
         }

@@ -3,6 +3,7 @@
 ghost use Rattle.hg_policy.specs.DocumentLaws.{NamesAreDistinct, TablesAreWhole};
 ghost use Rattle.hg_policy.specs.DocumentLaws.{DocumentsAreSound};
 ghost use Rattle.hg_policy.specs.LineLaws.{FaultsAreOneLine};
+ghost use Rattle.hg_policy.specs.VersionLaws.{VersionsAgree, VersionTwoIsVersionOne};
 
 /// No two tenants of a policy that was read have one name, nor two arenas, and each name has the
 /// form of a name.
@@ -11,7 +12,7 @@ pub fn names_are_distinct()
 {}
 
 /// In a policy that was read it stands of each arena whether it admits each tenant, of each owner
-/// which rights each tenant has on its blocks, and nothing else.
+/// which rights each tenant has on its blocks, and of which it is denied what, and nothing else.
 pub fn tables_are_whole()
     ensures { TablesAreWhole }
 {}
@@ -24,4 +25,15 @@ pub fn documents_are_sound()
 /// The line of a fault has no control character, whatever key or name it tells.
 pub fn faults_are_one_line()
     ensures { FaultsAreOneLine }
+{}
+
+/// A document of version 1 whose top keys are that version's means the same policy, or has the same
+/// fault, with its version changed to 2.
+pub fn versions_agree()
+    ensures { VersionsAgree }
+{}
+
+/// What version 1 accepts means the same policy in version 2.
+pub fn version_two_is_version_one()
+    ensures { VersionTwoIsVersionOne }
 {}

@@ -1,4 +1,4 @@
-//! Policies: workers, tenants with their limits, arenas with their segments, and grants.
+//! Policies: workers, tenants with their limits, arenas with their segments, grants and denies.
 //! A policy is read from a document, and is sound.
 #![tactic(auto)]
 
@@ -8,8 +8,11 @@ mod exclusive;
 mod fault;
 mod granted;
 mod grants;
+mod groups;
+mod heads;
 mod key;
 pub mod laws;
+mod lines;
 mod name_form;
 mod one_line;
 mod policy;

@@ -16,7 +16,8 @@ use std::marker::Model;
 ///
 /// What each request asks is a flat table, so that no answer costs more with more grants: limits by
 /// tenant, whom an arena admits, one word by arena, the arena of each segment, and the rights on an
-/// owner's blocks, one byte by owner and actor, among them all rights of each owner on its own.
+/// owner's blocks, one byte by owner and actor, among them all rights of each owner on its own. What
+/// is forbidden is a second table like that of rights, where anything is.
 #[derive(Drop)]
 pub struct Policy {
     pub(crate) workers: u8,
@@ -29,6 +30,8 @@ pub struct Policy {
     pub(crate) segments: Vec<u8>,
     /// By owner the rights of each actor.
     pub(crate) granted: Vec<Held>,
+    /// By owner what is forbidden to each actor; empty where nothing is.
+    pub(crate) forbidden: Vec<Held>,
 }
 
 impl Model for Policy {
@@ -161,7 +164,18 @@ impl Policy {
         ensures { result ≡ meaning.grants self.now owner actor.0 right }
     {
         match self.granted.get(usize::from(owner)) {
-            Some(held) => self.is_tenant(actor) && held[usize::from(actor.0)].has(right),
+            Some(granted) => self.is_tenant(actor) && granted[usize::from(actor.0)].has(right),
+            None => false,
+        }
+    }
+
+    /// Whether an actor is forbidden a right on an owner's blocks, whatever it is granted. No tenant
+    /// is forbidden anything on its own.
+    pub fn forbids(&self, owner: u8, actor: Actor, right: Right) -> bool
+        ensures { result ≡ meaning.forbids self.now owner actor.0 right }
+    {
+        match self.forbidden.get(usize::from(owner)) {
+            Some(forbidden) => self.is_tenant(actor) && forbidden[usize::from(actor.0)].has(right),
             None => false,
         }
     }

@@ -1,6 +1,7 @@
 //! Sets of rights.
 
-ghost use Rattle.std.specs.Prelude.{⊤, ◌≡◌};
+ghost use Rattle.std.specs.Prelude.{⊤, ◌≡◌, ◌||◌};
+ghost use Rattle.hg_place.specs.declared.Right.{Right};
 ghost use Rattle.hg_machine.specs.Policy.{has_right, no_rights};
 ghost use Rattle.hg_policy.specs.Rights.{rights_of, bit_of, rights_table, all_rights, and_right};
 
@@ -74,6 +75,14 @@ impl Rights {
         ensures { rights_of result ≡ and_right (rights_of self) right }
     {
         self.union(Rights::only(right))
+    }
+
+    /// The rights of both sets.
+    pub(crate) fn and(self, more: Rights) -> Rights
+        ensures { (right : Right) → has_right (rights_of result) right
+            ≡ (has_right (rights_of self) right || has_right (rights_of more) right) }
+    {
+        self.union(more)
     }
 
     /// Whether the set has a right.

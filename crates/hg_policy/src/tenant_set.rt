@@ -31,6 +31,14 @@ impl TenantSet {
         TenantSet(self.0 | 1 << tenant)
     }
 
+    /// The tenants of both sets.
+    pub(crate) fn or(self, more: TenantSet) -> TenantSet
+        ensures { (tenant : ℕ) →
+            has_tenant result tenant ≡ (has_tenant self tenant || has_tenant more tenant) }
+    {
+        TenantSet(self.0 | more.0)
+    }
+
     /// Whether the set has a tenant.
     pub(crate) fn has(self, tenant: u8) -> bool
         requires { tenant < 64 }

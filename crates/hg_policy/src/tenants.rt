@@ -4,13 +4,12 @@ ghost use Rattle.std.specs.Prelude.{◌≡◌, ◌≤◌, length, map};
 ghost use Rattle.toml.specs.View.{view, table_view};
 ghost use Rattle.hg_policy.specs.Faults.{Gives};
 ghost use Rattle.hg_policy.specs.Kept.{tenants_of};
-ghost use Rattle.hg_policy.specs.Tenants.{with_tenant, tenant_at, tenants_in};
-ghost use Rattle.hg_policy.specs.Tenants.{number_in, number_at};
+ghost use Rattle.hg_policy.specs.Tenants.{with_tenant, tenant_at, tenants_in, number_in};
 
 use crate::fault::PolicyFault;
 use crate::key::{Key, Level};
 use crate::name_form::name;
-use crate::values::{known, value_at, whole};
+use crate::values::{known, whole};
 use indexmap::IndexMap;
 use std::alloc::Global;
 use toml::{Table, Value};
@@ -60,22 +59,6 @@ fn add_tenant(
     }
     tenants.insert(name, limit)?;
     Ok(())
-}
-
-/// The number of the tenant that a text at a key names.
-#[tactic(auto, unfolding(crate::specs::Tenants::number_at))]
-pub(crate) fn number(
-    alloc: Global,
-    tenants: &IndexMap<String, u32>,
-    table: &Table,
-    key: Key,
-) -> Result<u8, PolicyFault>
-    requires { length tenants.now.entries ≤ 64 }
-    ensures { Gives (λ n. n) result
-        (number_at key (tenants_of tenants.now.entries) (table_view table.now)) }
-{
-    let value = value_at(table, key)?;
-    number_in(alloc, tenants, value, key)
 }
 
 /// The number of the tenant that a text names.

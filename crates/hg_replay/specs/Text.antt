@@ -32,6 +32,7 @@ rule_text rule.Stranger = codes "stranger"
 rule_text (rule.Stale generation) = codes "stale"
 rule_text rule.AlreadyFreed = codes "freed"
 rule_text rule.ForeignArena = codes "arena"
+rule_text rule.Forbidden = codes "forbidden"
 rule_text rule.NotGranted = codes "grant"
 rule_text rule.OverLimit = codes "limit"
 

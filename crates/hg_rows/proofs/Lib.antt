@@ -4,6 +4,7 @@ pub mod PartitionLemmas
 pub mod AllocatingRuns
 pub mod JudgingRuns
 pub mod GrantingRuns
+pub mod DenyingRuns
 pub mod LivesRuns
 pub mod PartingRuns
 pub mod HoldingRuns

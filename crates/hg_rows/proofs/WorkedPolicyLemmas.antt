@@ -1,5 +1,5 @@
 -- The worked policy is sound, so there are sound states.
-use Rattle.std.proofs.Common.{◌≡◌, ℕ, zero, suc, ◌<◌, true, refl, arith, get_or}
+use Rattle.std.proofs.Common.{◌≡◌, ℕ, zero, suc, ◌<◌, true, false, refl, arith, get_or}
 use Rattle.hg_place.specs.declared.Right.{Right}
 use Rattle.hg_place.specs.declared.Right.TheVariants as right
 use Rattle.hg_machine.specs.Policy.{Tenant, admits, grants, has_right, no_rights}
@@ -15,6 +15,12 @@ admitted_p (suc zero) zero e = (omega arith, omega arith)
 admitted_p (suc zero) (suc zero) e = (omega arith, omega arith)
 admitted_p (suc zero) (suc (suc n)) e = absurd (cc)
 admitted_p (suc (suc m)) actor e = absurd (cc)
+
+none : (r : Right) → has_right no_rights r ≡ false
+none right.Read = refl
+none right.Write = refl
+none right.List = refl
+none right.Free = refl
 
 nothing : (r : Right) → has_right no_rights r ≡ true → ⊥
 nothing right.Read e = cc
@@ -67,6 +73,8 @@ policy_sound = record {
   admitted = admitted_p;
   granted = granted_p;
   own = own_p;
+  forbidden = λ owner actor r e. absurd (nothing r e);
+  own_unforbidden = λ tenant r. none r;
 }
 
 pub worked_policy_is_sound : WorkedPolicyIsSound

@@ -15,10 +15,10 @@ granting rights = record (worked_policy 9) {
   granted = (all_rights ∷ rights ∷ []) ∷ (no_rights ∷ all_rights ∷ []) ∷ [];
 }
 
--- with these rights bob reads, writes, looks at and frees a block of alice's, and is answered so
-abbrev pub BobIsAnswered : Rights → Answer → Answer → Answer → Answer → Type 0
-BobIsAnswered rights read written looked freed =
-    Answers (shortened (granting rights) 1 1)
+-- under this policy bob reads, writes, looks at and frees a block of alice's, and is answered so
+abbrev pub BobIsAnswered : Policy → Answer → Answer → Answer → Answer → Type 0
+BobIsAnswered policy read written looked freed =
+    Answers (shortened policy 1 1)
     (refills 0 0
     ∷ allocs 0 alice 8
     ∷ reads 0 bob block 0
@@ -36,17 +36,20 @@ row_of_eight = record { handle = block; owner = alice; bytes = 8 }
 
 -- each right serves its own event, and no other
 pub record EachRightServesItsOwn : Type 0 where
-  pub none : BobIsAnswered no_rights not_granted not_granted not_granted not_granted
+  pub none : BobIsAnswered (granting no_rights) not_granted not_granted not_granted not_granted
   pub to_read :
-      BobIsAnswered (record no_rights { read = true }) (answer.Value 0) not_granted not_granted
+      BobIsAnswered (granting (record no_rights { read = true })) (answer.Value 0) not_granted
+      not_granted
       not_granted
   pub to_write :
-      BobIsAnswered (record no_rights { write = true }) not_granted answer.Done not_granted
+      BobIsAnswered (granting (record no_rights { write = true })) not_granted answer.Done
+      not_granted
       not_granted
   pub to_list :
-      BobIsAnswered (record no_rights { list = true }) not_granted not_granted
+      BobIsAnswered (granting (record no_rights { list = true })) not_granted not_granted
       (answer.Listed row_of_eight)
       not_granted
   pub to_free :
-      BobIsAnswered (record no_rights { free = true }) not_granted not_granted not_granted
+      BobIsAnswered (granting (record no_rights { free = true })) not_granted not_granted
+      not_granted
       answer.Done

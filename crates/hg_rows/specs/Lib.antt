@@ -4,6 +4,7 @@ pub mod Answers
 pub mod Allocating
 pub mod Judging
 pub mod Granting
+pub mod Denying
 pub mod Lives
 pub mod Parting
 pub mod Holding

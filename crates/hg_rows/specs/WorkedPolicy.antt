@@ -23,6 +23,7 @@ worked_policy max_generation = record {
   segments = 0 ∷ 0 ∷ 1 ∷ [];
   admitted = (true ∷ true ∷ []) ∷ (true ∷ false ∷ []) ∷ [];
   granted = (all_rights ∷ read_and_free ∷ []) ∷ (no_rights ∷ all_rights ∷ []) ∷ [];
+  forbidden = [];
 }
 
 -- the opening state of a policy, with the records of the first places and the classes of the first

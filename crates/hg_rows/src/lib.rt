@@ -8,6 +8,7 @@ ghost use Rattle.hg_rows.specs.Judging.{StaleThenFreedThenArena};
 ghost use Rattle.hg_rows.specs.Judging.{StrangerThenStaleThenGrant, GrantThenHolderThenLength};
 ghost use Rattle.hg_rows.specs.Judging.{NoSuchSegment, LooksShowWhatMayBeListed};
 ghost use Rattle.hg_rows.specs.Granting.{EachRightServesItsOwn};
+ghost use Rattle.hg_rows.specs.Denying.{EachDenyTakesItsOwn};
 ghost use Rattle.hg_rows.specs.Lives.{StaleAfterReuse, WornPlaceIsNeverGivenOut};
 ghost use Rattle.hg_rows.specs.Parting.{DeliveredThenTaken, FullHandIsBusy};
 ghost use Rattle.hg_rows.specs.Parting.{PartedBlockCountsInCharge, HandIsNotTaken};
@@ -70,6 +71,12 @@ pub fn looks_show_what_may_be_listed()
 /// A grant of one right alone serves what asks for that right, and nothing else.
 pub fn each_right_serves_its_own()
     ensures { EachRightServesItsOwn }
+{}
+
+/// What is forbidden alone is denied to what asks for it, also where nothing is granted; the others
+/// are served.
+pub fn each_deny_takes_its_own()
+    ensures { EachDenyTakesItsOwn }
 {}
 
 /// After its place is given out again a handle is stale, and the new block reads zero.

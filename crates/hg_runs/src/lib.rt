@@ -3,6 +3,8 @@
 #![tactic(auto)]
 
 #[cfg(test)]
+mod deny_rows;
+#[cfg(test)]
 mod event_rows;
 #[cfg(test)]
 mod policies;
@@ -10,3 +12,5 @@ mod policies;
 mod text_secrets;
 #[cfg(test)]
 mod trace_rows;
+#[cfg(test)]
+mod versions;

@@ -8,7 +8,7 @@ use std::process::Abort;
 use std::test::Fail;
 
 /// Three tenants, two arenas and five segments; a place is given out three times at most.
-const POLICY: &str = r#"version = 1
+const POLICY: &str = r#"version = 2
 workers = 4
 max_generation = 3
 tenant = [ {name = "alice", limit = 90000}, {name = "bob", limit = 20000},
@@ -18,6 +18,9 @@ arena = [ {name = "main", segments = 3},
 grant = [ {owner = "alice", to = "bob", rights = ["read", "write", "free"]},
   {owner = "bob", to = "alice", rights = ["list", "write"]},
   {owner = "alice", to = "carol", rights = ["read", "write", "list", "free"]} ]
+group = [ {name = "guests", members = ["bob", "carol"]} ]
+deny = [ {owner = "alice", to = "guests", rights = ["write"]},
+  {owner = "guests", to = "guests", rights = ["read"]} ]
 "#;
 
 /// The tenants, and a stranger.
@@ -45,15 +48,15 @@ static SERVED: [(&str, &str); 11] = [
 
 /// Two traces, the same but for written values, drawn from a seed. The labels in them are numbered.
 #[derive(Drop)]
-struct Traces {
+pub struct Traces {
     random: u64,
-    one: String,
+    pub one: String,
     other: String,
     labels: usize,
 }
 
 impl Traces {
-    fn new(alloc: Global, seed: u64) -> Traces {
+    pub fn new(alloc: Global, seed: u64) -> Traces {
         Traces {
             random: seed,
             one: String::new(alloc),
@@ -162,7 +165,7 @@ impl Traces {
     }
 
     /// Many lines, and listings behind them.
-    fn lines(&mut self, alloc: Global, count: u32) -> Result<(), AllocError> {
+    pub fn lines(&mut self, alloc: Global, count: u32) -> Result<(), AllocError> {
         self.add("w0 alloc alice main 8 as l0\n")?;
         for _ in 0..count {
             self.line(alloc)?;
@@ -171,13 +174,13 @@ impl Traces {
     }
 }
 
-/// What a trace prints.
-fn printed(rt: &impl Abort, alloc: Global, trace: &str) -> String {
+/// What a trace prints under a policy.
+pub fn printed(rt: &impl Abort, alloc: Global, policy: &str, trace: &str) -> String {
     let mut out = Vec::new(alloc);
     let mut err = Vec::new(alloc);
     let status = run_texts(
         alloc,
-        POLICY.as_bytes(),
+        policy.as_bytes(),
         trace.as_bytes(),
         &mut out,
         &mut err,
@@ -218,8 +221,8 @@ fn written_values_show_in_words_alone(rt: HostRuntime) -> Result<(), Fail> {
     for seed in [5, 1999] {
         let mut traces = Traces::new(rt.alloc(), seed);
         traces.lines(rt.alloc(), 4000)?;
-        let one = printed(&rt, rt.alloc(), traces.one.as_str());
-        let other = printed(&rt, rt.alloc(), traces.other.as_str());
+        let one = printed(&rt, rt.alloc(), POLICY, traces.one.as_str());
+        let other = printed(&rt, rt.alloc(), POLICY, traces.other.as_str());
         check_served(&rt, traces.one.as_str(), one.as_str());
         assert!(&rt; words_apart(&rt, one.as_str(), other.as_str()) > 0);
     }

@@ -7,7 +7,7 @@ use std::process::Abort;
 use std::test::Fail;
 
 /// The run ends with this status, output and line on standard error.
-fn ends(
+pub fn ends(
     rt: &impl Abort,
     a: Global,
     policy: &str,
@@ -24,7 +24,7 @@ fn ends(
 }
 
 /// The trace is answered so.
-fn answers(
+pub fn answers(
     rt: &impl Abort,
     a: Global,
     policy: &str,

@@ -187,6 +187,9 @@ impl Machine {
         if !self.policy.admits(arena, actor) {
             return Some(Rule::ForeignArena);
         }
+        if self.policy.forbids(record.owner, actor, right) {
+            return Some(Rule::Forbidden);
+        }
         if !self.policy.grants(record.owner, actor, right) {
             return Some(Rule::NotGranted);
         }

@@ -37,6 +37,7 @@ pub enum Kind {
     NeverGiven,
     AlreadyFreed,
     ForeignArena,
+    Forbidden,
     NotGranted,
     OverLimit,
     TooLarge,
@@ -73,6 +74,7 @@ fn rule_kind(rule: Rule) -> Kind {
         Rule::Stale(_) => Kind::Stale,
         Rule::AlreadyFreed => Kind::AlreadyFreed,
         Rule::ForeignArena => Kind::ForeignArena,
+        Rule::Forbidden => Kind::Forbidden,
         Rule::NotGranted => Kind::NotGranted,
         Rule::OverLimit => Kind::OverLimit,
     }
@@ -102,7 +104,7 @@ fn kind_of(answer: Answer) -> Kind {
 }
 
 /// How each event can be answered, but for the denials of those that name a handle.
-static ANSWERS: [(Call, Kind); 31] = [
+static ANSWERS: [(Call, Kind); 32] = [
     (Call::Alloc, Kind::Block),
     (Call::Alloc, Kind::Stranger),
     (Call::Alloc, Kind::ForeignArena),
@@ -129,6 +131,7 @@ static ANSWERS: [(Call, Kind); 31] = [
     (Call::Look, Kind::NeverGiven),
     (Call::Look, Kind::AlreadyFreed),
     (Call::Look, Kind::ForeignArena),
+    (Call::Look, Kind::Forbidden),
     (Call::Look, Kind::NotGranted),
     (Call::Abandon, Kind::Done),
     (Call::Abandon, Kind::NotHeld),
@@ -154,12 +157,13 @@ static SERVED: [(Call, Kind); 11] = [
 /// The events that name a handle, and the denials that each of them can have.
 static ON_HANDLES: [Call; 3] = [Call::Free, Call::Read, Call::Write];
 
-static DENIALS: [Kind; 6] = [
+static DENIALS: [Kind; 7] = [
     Kind::Stranger,
     Kind::NeverGiven,
     Kind::Stale,
     Kind::AlreadyFreed,
     Kind::ForeignArena,
+    Kind::Forbidden,
     Kind::NotGranted,
 ];
 

@@ -73,6 +73,7 @@ impl Machine {
             Some(record) => {
                 self.is_tenant(actor)
                     && self.policy.admits(arena, actor)
+                    && !self.policy.forbids(record.owner, actor, Right::Read)
                     && self.policy.grants(record.owner, actor, Right::Read)
             }
             None => false,

@@ -11,8 +11,9 @@ use hg_policy::read_policy;
 use std::alloc::Global;
 use std::process::Abort;
 
-/// Three tenants, two arenas and five segments; each place is given out three times at most.
-pub static FEW_LIVES: &str = "version = 1
+/// Three tenants, two arenas and five segments; each place is given out three times at most. Some of
+/// what is denied is granted, and some isn't.
+pub static FEW_LIVES: &str = "version = 2
 workers = 4
 max_generation = 3
 tenant = [ {name = \"alice\", limit = 90000}, {name = \"bob\", limit = 20000},
@@ -23,10 +24,15 @@ grant = [ {owner = \"alice\", to = \"bob\", rights = [\"read\", \"free\"]},
   {owner = \"bob\", to = \"alice\", rights = [\"list\", \"write\"]},
   {owner = \"alice\", to = \"carol\", rights = [\"read\", \"write\", \"list\", \"free\"]},
   {owner = \"carol\", to = \"alice\", rights = [\"free\"]} ]
+group = [ {name = \"staff\", members = [\"alice\", \"carol\"]},
+  {name = \"all\", members = [\"alice\", \"bob\", \"carol\"]} ]
+deny = [ {owner = \"alice\", to = \"all\", rights = [\"free\"]},
+  {owner = \"bob\", to = \"staff\", rights = [\"read\"]},
+  {owner = \"all\", to = \"carol\", rights = [\"write\", \"list\"]} ]
 ";
 
 /// As many of each, and as many lives as there may be.
-pub static MANY_LIVES: &str = "version = 1
+pub static MANY_LIVES: &str = "version = 2
 workers = 4
 tenant = [ {name = \"alice\", limit = 70000}, {name = \"bob\", limit = 70000},
   {name = \"carol\", limit = 3000} ]
@@ -34,6 +40,10 @@ arena = [ {name = \"main\", segments = 2},
   {name = \"vault\", segments = 3, exclusive = [\"bob\", \"carol\"]} ]
 grant = [ {owner = \"bob\", to = \"alice\", rights = [\"read\", \"write\", \"list\", \"free\"]},
   {owner = \"carol\", to = \"bob\", rights = [\"list\", \"free\"]} ]
+group = [ {name = \"guests\", members = [\"bob\", \"carol\"]} ]
+deny = [ {owner = \"guests\", to = \"alice\", rights = [\"read\", \"free\"]},
+  {owner = \"alice\", to = \"guests\", rights = [\"write\"]},
+  {owner = \"guests\", to = \"guests\", rights = [\"list\"]} ]
 ";
 
 /// The workers of both, and of the tenants and arenas of both the first.

@@ -37,9 +37,18 @@ pub fn page_of(place: Place) -> usize {
 /// Whether alice granted bob the right, or bob her.
 fn is_granted(owner: u8, right: Right) -> bool {
     if owner == ALICE.0 {
-        matches!(&right, Right::Read | Right::Free)
+        matches!(&right, Right::Read | Right::Free | Right::Write)
     } else {
         matches!(&right, Right::List | Right::Write)
+    }
+}
+
+/// Whether bob is denied the right on alice's blocks, or she on his.
+fn is_forbidden(owner: u8, right: Right) -> bool {
+    if owner == ALICE.0 {
+        matches!(&right, Right::Write)
+    } else {
+        matches!(&right, Right::Free)
     }
 }
 
@@ -149,6 +158,9 @@ impl Machine {
         let owner = self.block(rt, at).owner;
         if self.arena_of(rt, handle.place.segment as usize) == Some(VAULT) && actor != ALICE {
             return Some(Rule::ForeignArena);
+        }
+        if owner != actor.0 && is_forbidden(owner, right) {
+            return Some(Rule::Forbidden);
         }
         if owner != actor.0 && !is_granted(owner, right) {
             return Some(Rule::NotGranted);

@@ -7,7 +7,7 @@ use crate::tests::heaps::{MAIN, Tried, VAULT, free_far, fresh, live, send};
 use crate::tests::machine::{Machine, page_of};
 use crate::tests::order::{Order, places};
 use hg_heap::{Heap, Refused};
-use hg_machine::Row;
+use hg_machine::{Row, Rule};
 use hg_place::{
     Actor, Handle, PAGE_PLACES, Place, PlainWords, Right, SEGMENT_PAGES, SEGMENT_PLACES,
     word_generation,
@@ -23,22 +23,26 @@ pub const GREATEST: u32 = 4;
 
 pub const LIMITS: [u64; 2] = [90000, 9000];
 
-/// Two tenants, two arenas and three segments.
-static SEEDED: &str = "version = 1
+/// Two tenants, two arenas and three segments. What is denied stands in no grant, in one, and in a
+/// line on each tenant's own blocks.
+static SEEDED: &str = "version = 2
 workers = 1
 max_generation = 4
 tenant = [ {name = \"alice\", limit = 90000}, {name = \"bob\", limit = 9000} ]
 arena = [ {name = \"main\", segments = 2},
   {name = \"vault\", segments = 1, exclusive = [\"alice\"]} ]
-grant = [ {owner = \"alice\", to = \"bob\", rights = [\"read\", \"free\"]},
-  {owner = \"bob\", to = \"alice\", rights = [\"list\", \"write\"]} ]
+group = [ {name = \"both\", members = [\"alice\", \"bob\"]} ]
+grant = [ {owner = \"alice\", to = \"bob\", rights = [\"read\", \"free\", \"write\"]},
+  {owner = \"bob\", to = \"both\", rights = [\"list\", \"write\"]} ]
+deny = [ {owner = \"both\", to = \"alice\", rights = [\"free\"]},
+  {owner = \"alice\", to = \"both\", rights = [\"write\"]} ]
 ";
 
 /// The bytes that are asked for.
 static BYTES: [u64; 9] = [0, 24, 200, 512, 700, 1300, 2000, 4096, 5000];
 
-/// A heap, its models, and the handles that were given out; and what was sent to segment 1, once
-/// for the heap and once for the models.
+/// A heap, its models, and the handles that were given out; what was sent to segment 1, once for
+/// the heap and once for the models; and how often a right was forbidden.
 #[derive(Drop)]
 struct Run {
     tried: Tried,
@@ -47,6 +51,7 @@ struct Run {
     handles: Vec<Handle>,
     remote: RemoteList,
     sent: RemoteList,
+    forbidden: u32,
 }
 
 /// A part of a seeded number, below a bound.
@@ -87,6 +92,7 @@ impl Run {
             handles: Vec::new(alloc),
             remote: RemoteList::new(alloc).expect(rt, "memory"),
             sent: RemoteList::new(alloc).expect(rt, "memory"),
+            forbidden: 0,
         }
     }
 
@@ -165,6 +171,9 @@ impl Run {
             return Some(Refused::Elsewhere);
         }
         let rule = self.machine.denial(rt, actor, right, handle)?;
+        if rule == Rule::Forbidden {
+            self.forbidden = self.forbidden.wrapping_add(1);
+        }
         Some(Refused::Denied(rule))
     }
 
@@ -430,6 +439,7 @@ fn run_from(rt: &impl Abort, alloc: Global, seed: u64) {
     run.adopt_fresh(rt, alloc, 2);
     run.steps(rt, alloc, seed, 2400);
     check_held(rt, &run.tried.heap);
+    assert!(rt; run.forbidden > 0);
     drop(run);
 }
 

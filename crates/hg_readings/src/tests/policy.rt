@@ -1,3 +1,6 @@
+mod expanded;
 mod faults;
 mod reading;
+mod second;
+mod second_faults;
 mod sizes;

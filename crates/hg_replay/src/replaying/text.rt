@@ -72,6 +72,7 @@ fn denied_line(rule: Rule) -> &'static str
         Rule::Stale(_) => "denied stale\n",
         Rule::AlreadyFreed => "denied freed\n",
         Rule::ForeignArena => "denied arena\n",
+        Rule::Forbidden => "denied forbidden\n",
         Rule::NotGranted => "denied grant\n",
         Rule::OverLimit => "denied limit\n",
     }

@@ -76,7 +76,7 @@ arena = [ {name = \"main\", segments = 65} ]
         "policy fault 7: too many segments\n",
     ),
     (
-        "version = 2
+        "version = 3
 workers = 1
 tenant = [ {name = \"alice\", limit = 8192} ]
 arena = [ {name = \"main\", segments = 1} ]

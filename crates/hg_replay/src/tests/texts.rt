@@ -70,6 +70,7 @@ fn denials_have_lines(rt: HostRuntime) {
     shows(&rt, Answer::Denied(Rule::Stale(7)), "denied stale\n");
     shows(&rt, Answer::Denied(Rule::AlreadyFreed), "denied freed\n");
     shows(&rt, Answer::Denied(Rule::ForeignArena), "denied arena\n");
+    shows(&rt, Answer::Denied(Rule::Forbidden), "denied forbidden\n");
     shows(&rt, Answer::Denied(Rule::NotGranted), "denied grant\n");
     shows(&rt, Answer::Denied(Rule::OverLimit), "denied limit\n");
 }

@@ -18,11 +18,17 @@ const VERSION: &str = "\
 2: missing version | colour = 1
 3: kind version | version = 1.0 ; colour = 1
 3: kind version | version = true
-8: version | version = 2 ; colour = 1
+8: version | version = 3 ; colour = 1
+8: version | version = 0
 8: version | version = -1
+8: version | version = -2
 4: unknown colour | version = 1 ; colour = 1
 4: unknown colour | version = 1 ; zebra = 1 ; colour = 1 ; workers = 0
 4: unknown deny | version = 1 ; deny = []
+4: unknown group | version = 1 ; group = []
+4: unknown deny | version = 1 ; group = [] ; deny = [] ; workers = 0
+4: unknown colour | version = 2 ; group = 1 ; deny = 1 ; colour = 1
+2: missing workers | version = 2 ; group = 1 ; deny = 1
 ";
 
 #[test]
@@ -165,7 +171,7 @@ fn tells_a_key_in_one_line(rt: HostRuntime) -> Result<(), Fail> {
 }
 
 /// Each document of a table, between head and tail, fails with its line.
-fn each_fails(
+pub(crate) fn each_fails(
     rt: &impl Abort,
     alloc: Global,
     head: &str,

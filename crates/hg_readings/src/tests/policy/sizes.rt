@@ -42,6 +42,41 @@ fn refuses_one_more_of_each(rt: HostRuntime) -> Result<(), Fail> {
     Ok(())
 }
 
+/// 64 groups, the last of which has all tenants; with one more there are too many. An entry that is
+/// no table is told before.
+#[test]
+fn takes_the_most_groups(rt: HostRuntime) -> Result<(), Fail> {
+    let mut text = document(rt.alloc(), 1, 64, 1, 1)?.replace(rt.alloc(), "n = 1", "n = 2")?;
+    for n in 0..63 {
+        let group = format!(in rt.alloc(); "[[group]]\nname = \"g{n}\"\nmembers = []\n")?;
+        text.push_str(group.as_str())?;
+    }
+    text.push_str("[[group]]\nname = \"g63\"\nmembers = [")?;
+    for n in 0..64 {
+        let member = format!(in rt.alloc(); "\"t{n}\", ")?;
+        text.push_str(member.as_str())?;
+    }
+    text.push_str("]\n")?;
+    let lines = "owner = \"g63\"\nto = \"g63\"\nrights = [\"read\"]\n";
+    let most = format!(in rt.alloc(); "{text}[[grant]]\n{lines}[[deny]]\n{lines}")?;
+    has_all_groups(&rt, &read_policy(rt.alloc(), most.as_bytes())?);
+    let more = format!(in rt.alloc(); "{text}[[group]]\n[[grant]]\nx = 1\n")?;
+    fails(&rt, rt.alloc(), more.as_str(), "7: too many group")
+}
+
+/// Each may read each other's blocks, and is forbidden to; its own it may read.
+fn has_all_groups(rt: &impl Abort, policy: &Policy) {
+    for owner in 0..64 {
+        for actor in 0..64 {
+            assert!(rt; policy.grants(owner, Actor(actor), Right::Read));
+            assert_eq!(rt;
+                policy.forbids(owner, Actor(actor), Right::Read),
+                owner != actor
+            );
+        }
+    }
+}
+
 /// 19,605 grants, the last of which alone lets bob free.
 #[test]
 fn takes_a_million_bytes(rt: HostRuntime) -> Result<(), Fail> {

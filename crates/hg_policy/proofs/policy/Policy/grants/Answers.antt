@@ -15,6 +15,6 @@ returns-then-is_tenant c =
     let tenant : nat_lt actor (length (tenants_of entries)) ≡ true = rw (← c.self.view_is) at (sym c.is_tenant.ensures.tenant ∙ c.if-is_tenant.true) in
     let below : actor < length entries = omega (arith, ltb-true actor (length (tenants_of entries)) tenant, length-tenants entries) in
     let held = rw (c.from.ensures, c.deref.ensures.value) at c.in-Some.ensures.lookup in
-    let is = granted_of-at (length entries) granted owner actor c.in-Some.held.now (ltb-true owner (length granted) (sym held.0)) held.1 below in
+    let is = granted_of-at (length entries) granted owner actor c.in-Some.granted.now (ltb-true owner (length granted) (sym held.0)) held.1 below in
     rw (← c.self.view_is)
     ((rw c.from-then-is_tenant.ensures at c.has.ensures) ∙ ap (λ rights. meaning.has_right rights c.args.right) (sym is))

@@ -1,0 +1,115 @@
+-- The table of what lines name.
+use Rattle.std.proofs.Common.{◌≡◌, ◌≢◌, ℕ, ◌+◌, ◌*◌, ◌<◌, ◌≤◌, Bool, false, ◌||◌, ◌&&◌, ◌==◌, nat_lt, max, zero, suc, bit_or, List, length, map, take, get_or, set, refl, sym, ap, ◌∙◌, inl, inr, arith}
+use Rattle.std.specs.Int.{bit_at}
+use Rattle.std.specs.List.{list_any, range_with_len}
+use Rattle.std.proofs.lemmas.Nat.Bits.{and_pow, bit_at_or}
+use Rattle.hg_place.specs.declared.Right.{Right}
+use Rattle.hg_place.specs.declared.Right.TheVariants as right
+use Rattle.hg_machine.specs.Policy.{has_right}
+use Rattle.hg_policy.specs.declared.rights.Rights.{Rights}
+use Rattle.hg_policy.specs.declared.tenant_set.TenantSet.{TenantSet}
+use Rattle.hg_policy.specs.Rights.{rights_of, nothing}
+use Rattle.hg_policy.specs.TenantSets.{has_tenant}
+use Rattle.hg_policy.specs.declared.lines.Line.{Line}
+use Rattle.hg_policy.specs.Kept.{line_of}
+use Rattle.hg_policy.specs.Lines as lines
+use Rattle.hg_policy.specs.Lines.{names_right, rights_by}
+use Rattle.hg_machine.specs.Policy as meaning
+use Rattle.std.proofs.lemmas.Bool.{cases_eq}
+use Rattle.std.proofs.lemmas.List.{get_or-set_same, get_or-set_other, get_or-map, get_or-take, length-set, length-map, length-take}
+use Rattle.std.proofs.lemmas.List.Folds.{list_any_more}
+use Rattle.std.proofs.lemmas.List.FromFn.{fill_by_all, get_or-map-range_with_len}
+use Rattle.hg_policy.proofs.Names.{list_any-map}
+use Rattle.hg_policy.proofs.GrantTable.{ne-eqb}
+use Rattle.hg_policy.proofs.OwnRows.{same_rights, own_here}
+
+-- the bits of two sets
+either_1 : (x y : ℕ) → x ≤ 1 → y ≤ 1 → (max x y * 1 == 1) ≡ ((x * 1 == 1) || (y * 1 == 1))
+either_1 zero zero a b = refl
+either_1 zero (suc zero) a b = refl
+either_1 (suc zero) zero a b = refl
+either_1 (suc zero) (suc zero) a b = refl
+either_1 (suc (suc x)) y a b = absurd (omega arith)
+either_1 x (suc (suc y)) a b = absurd (omega arith)
+
+either_2 : (x y : ℕ) → x ≤ 1 → y ≤ 1 → (max x y * 2 == 2) ≡ ((x * 2 == 2) || (y * 2 == 2))
+either_2 zero zero a b = refl
+either_2 zero (suc zero) a b = refl
+either_2 (suc zero) zero a b = refl
+either_2 (suc zero) (suc zero) a b = refl
+either_2 (suc (suc x)) y a b = absurd (omega arith)
+either_2 x (suc (suc y)) a b = absurd (omega arith)
+
+either_4 : (x y : ℕ) → x ≤ 1 → y ≤ 1 → (max x y * 4 == 4) ≡ ((x * 4 == 4) || (y * 4 == 4))
+either_4 zero zero a b = refl
+either_4 zero (suc zero) a b = refl
+either_4 (suc zero) zero a b = refl
+either_4 (suc zero) (suc zero) a b = refl
+either_4 (suc (suc x)) y a b = absurd (omega arith)
+either_4 x (suc (suc y)) a b = absurd (omega arith)
+
+either_8 : (x y : ℕ) → x ≤ 1 → y ≤ 1 → (max x y * 8 == 8) ≡ ((x * 8 == 8) || (y * 8 == 8))
+either_8 zero zero a b = refl
+either_8 zero (suc zero) a b = refl
+either_8 (suc zero) zero a b = refl
+either_8 (suc zero) (suc zero) a b = refl
+either_8 (suc (suc x)) y a b = absurd (omega arith)
+either_8 x (suc (suc y)) a b = absurd (omega arith)
+
+bit_small : (n i : ℕ) → bit_at n i ≤ 1
+bit_small n i = omega arith
+
+pub or_rights : (x y z : Rights) → x.0 ≡ bit_or y.0 z.0 → (r : Right) → has_right (rights_of x) r ≡ (has_right (rights_of y) r || has_right (rights_of z) r)
+or_rights x y z e right.Read = rw (e, and_pow (bit_or y.0 z.0) 0, and_pow y.0 0, and_pow z.0 0, bit_at_or y.0 z.0 0) (either_1 (bit_at y.0 0) (bit_at z.0 0) (bit_small y.0 0) (bit_small z.0 0))
+or_rights x y z e right.Write = rw (e, and_pow (bit_or y.0 z.0) 1, and_pow y.0 1, and_pow z.0 1, bit_at_or y.0 z.0 1) (either_2 (bit_at y.0 1) (bit_at z.0 1) (bit_small y.0 1) (bit_small z.0 1))
+or_rights x y z e right.List = rw (e, and_pow (bit_or y.0 z.0) 2, and_pow y.0 2, and_pow z.0 2, bit_at_or y.0 z.0 2) (either_4 (bit_at y.0 2) (bit_at z.0 2) (bit_small y.0 2) (bit_small z.0 2))
+or_rights x y z e right.Free = rw (e, and_pow (bit_or y.0 z.0) 3, and_pow y.0 3, and_pow z.0 3, bit_at_or y.0 z.0 3) (either_8 (bit_at y.0 3) (bit_at z.0 3) (bit_small y.0 3) (bit_small z.0 3))
+
+-- after so many actors the rights of each of them in the set are more
+abbrev pub AddedTo : ℕ → List Rights → List Rights → TenantSet → Rights → Type 0
+AddedTo i old now to rights =
+    (actor : ℕ) (r : Right) → actor < 64
+    → has_right (rights_of (get_or now actor nothing)) r
+    ≡ (has_right (rights_of (get_or old actor nothing)) r || (nat_lt actor i && (has_tenant to actor && has_right (rights_of rights) r)))
+
+-- a line, by the sets that it is kept as
+line_here : (tenants owner actor : ℕ) (line : Line) (r : Right) → owner < tenants → actor < tenants
+    → names_right owner actor r (line_of tenants line) ≡ (has_tenant line.owners owner && (has_tenant line.to actor && has_right (rights_of line.rights) r))
+line_here tenants owner actor line r o a =
+    rw (get_or-map-range_with_len (has_tenant line.owners) 0 tenants owner owner false o (omega arith), get_or-map-range_with_len (has_tenant line.to) 0 tenants actor actor false a (omega arith)) refl
+
+-- one line more
+pub row_more : (tenants owner actor : ℕ) (r : Right) (lines : List Line) (i : ℕ) (d : Line) (old new : Bool) → i < length lines → owner < tenants → actor < tenants
+    → old ≡ list_any (names_right owner actor r) (map (line_of tenants) (take i lines))
+    → new ≡ (old || (has_tenant (get_or lines i d).owners owner && (has_tenant (get_or lines i d).to actor && has_right (rights_of (get_or lines i d).rights) r)))
+    → new ≡ list_any (names_right owner actor r) (map (line_of tenants) (take (i + 1) lines))
+row_more tenants owner actor r lines i d old new within o a before now =
+    let p : Line → Bool = λ line. names_right owner actor r (line_of tenants line) in
+    now
+    ∙ ap (λ b. b || (has_tenant (get_or lines i d).owners owner && (has_tenant (get_or lines i d).to actor && has_right (rights_of (get_or lines i d).rights) r))) (before ∙ list_any-map (names_right owner actor r) (line_of tenants) (take i lines))
+    ∙ ap (λ b. list_any p (take i lines) || b) (sym (line_here tenants owner actor (get_or lines i d) r o a))
+    ∙ sym (list_any_more p lines i d within)
+    ∙ sym (list_any-map (names_right owner actor r) (line_of tenants) (take (i + 1) lines))
+
+other_here : (own : meaning.Rights) (named_by : List lines.Line) (owner actor : ℕ) (r : Right) → actor ≢ owner → has_right (rights_by own named_by owner actor) r ≡ list_any (names_right owner actor r) named_by
+other_here own named_by owner actor right.Read other = rw (ne-eqb actor owner other) refl
+other_here own named_by owner actor right.Write other = rw (ne-eqb actor owner other) refl
+other_here own named_by owner actor right.List other = rw (ne-eqb actor owner other) refl
+other_here own named_by owner actor right.Free other = rw (ne-eqb actor owner other) refl
+
+-- the row of an owner, once its own rights are written
+pub row_is : (tenants owner : ℕ) (own : Rights) (held : List Rights) (named_by : List lines.Line) → tenants ≤ 64 → owner < tenants → length held ≡ 64
+    → ((actor : ℕ) (r : Right) → actor < tenants → has_right (rights_of (get_or held actor nothing)) r ≡ list_any (names_right owner actor r) named_by)
+    → map rights_of (take tenants (set held owner own)) ≡ map (λ actor. rights_by (rights_of own) named_by owner actor) (range_with_len 0 tenants)
+row_is tenants owner own held named_by few o long named =
+    let row = set held owner own in
+    let whole : length row ≡ 64 = length-set held owner own ∙ long in
+    let cut : length (take tenants row) ≡ tenants = omega (arith, length-take tenants row, whole) in
+    fill_by_all (λ actor. rights_by (rights_of own) named_by owner actor) (map rights_of (take tenants row)) tenants meaning.no_rights (length-map (take tenants row) rights_of ∙ cut)
+    (λ actor h.
+    get_or-map rights_of (take tenants row) actor nothing meaning.no_rights (omega (arith, cut, h))
+    ∙ ap rights_of (get_or-take tenants row actor nothing h)
+    ∙ elim (cases_eq actor owner) as (λ _. rights_of (get_or row actor nothing) ≡ rights_by (rights_of own) named_by owner actor) [
+      | inl same ↦ rw (same, get_or-set_same held owner own nothing (omega (arith, o, long))) (sym (own_here (rights_of own) named_by owner))
+      | inr other ↦ rw (get_or-set_other held owner actor own nothing other) (same_rights _ _ (λ r. named actor r h ∙ sym (other_here (rights_of own) named_by owner actor r other)))
+    ])
