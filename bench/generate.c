@@ -174,7 +174,7 @@ static void two_commands(void) {
         unsigned chance = below(1000);
         if (chance < 400) LINE("w0 alloc mallory main %u", below(4096));
         else if (chance < 800) LINE("w0 alloc alice closed %u", below(4096));
-        else if (chance < 880) LINE("w0 alloc alice main %u", 4097 + below(1000000));
+        else if (chance < 880) LINE("w0 alloc alice main %u", 65537 + below(1000000));
         else if (chance < 940) LINE("w0 alloc bob main %u  # above the limit", 65 + below(1000));
         else if (chance < 990) LINE("w0 alloc alice main %u", below(4096));
         else LINE("w0 refill main");

@@ -111,6 +111,7 @@ hg_reply hg_close(hg_core *core);
 
 /* The ten events. `worker` is who serves, a number below that of hg_workers. `actor` is who asks,
  * by the number of a tenant; a number that no tenant has is a stranger's, and 255 always is. */
+/* At most 65536 bytes; the words of the block are 0. Above 4096 it has 8, 16, 32 or 64 KiB. */
 hg_reply hg_alloc(hg_core *core, uint8_t worker, uint8_t actor, uint8_t arena, uint64_t bytes);
 hg_reply hg_free(hg_core *core, uint8_t worker, uint8_t actor, hg_handle block);
 hg_reply hg_deliver(hg_core *core, uint8_t worker);

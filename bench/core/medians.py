@@ -12,6 +12,10 @@ import sys
 GOALS = [
     ("pair", "sharded-slab", 0.7, 0.5),
     ("pair", "mimalloc", 5, 3),
+    ("large16", "memset", 1.2, 1.2),
+    ("large64", "memset", 1.2, 1.2),
+    ("large16", "mimalloc", 1.2, 1.2),
+    ("large64", "mimalloc", 1.2, 1.2),
     ("lifo", "sharded-slab", 0.7, 0.5),
     ("lifo", "mimalloc", 5, 3),
     ("churn", "sharded-slab", 0.6, 0.45),

@@ -18,7 +18,7 @@ constexpr std::uint8_t STRANGER = 255;
 
 constexpr char POLICY[] = R"(version = 2
 workers = 1
-tenant = [ {name = "ann", limit = 4096}, {name = "bob", limit = 256}, {name = "cy", limit = 256} ]
+tenant = [ {name = "ann", limit = 131072}, {name = "bob", limit = 256}, {name = "cy", limit = 256} ]
 arena = [ {name = "rows", segments = 2} ]
 group = [ {name = "readers", members = ["bob", "cy"]} ]
 grant = [ {owner = "ann", to = "readers", rights = ["read"]} ]
@@ -141,7 +141,11 @@ int main()
     tell("eve, a stranger, gets city", store.get(eve, "city"));
     tell("eve sets a key", store.set(eve, "key", "x"));
     tell("bob sets a value over his limit", store.set(bob, "long", std::string(300, 'b')));
-    tell("ann sets a value too large for a block", store.set(ann, "huge", std::string(5000, 'a')));
+    std::string page;
+    for (std::size_t at = 0; at < 65536 - 8; at++) page += static_cast<char>('a' + at / 8 % 26);
+    tell("ann sets a value that fills a block of 64 KiB", store.set(ann, "page", page));
+    tell("ann gets it", store.get(ann, "page") == "\"" + page + "\"" ? "as it was" : "another");
+    tell("ann sets a value too large for a block", store.set(ann, "huge", page + "a"));
 
     const Handle kept = store.handle("city");
     tell("ann replaces city", store.set(ann, "city", "Akureyri"));

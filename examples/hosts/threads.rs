@@ -134,5 +134,13 @@ fn main() -> Result<(), Box<dyn std::error::Error>> {
             core.take(worker, worker)?
         );
     }
+
+    core.collect(0)?;
+    let block = core.alloc(0, tenants[0], 0, 65536)?;
+    core.write(0, tenants[0], block, 8191, 7)?;
+    println!(
+        "the last word of a block of 64 KiB is {}",
+        core.read(0, tenants[0], block, 8191)?
+    );
     Ok(())
 }

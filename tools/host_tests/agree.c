@@ -88,13 +88,24 @@ static uint64_t some_bytes(void)
     switch (below(20)) {
     case 0: return next();
     case 1: return below(5000);
+    case 2: return below(70000);
     default: return below(200);
+    }
+}
+
+/* A word of most blocks, of the largest, or now and then of none. */
+static uint32_t some_index(void)
+{
+    switch (below(20)) {
+    case 0: return (uint32_t)next();
+    case 1: return below(8200);
+    default: return below(4);
     }
 }
 
 static hg_reply on_block(unsigned w, unsigned what)
 {
-    uint32_t at = below(TENANTS + 1), index = below(20) ? below(4) : (uint32_t)next();
+    uint32_t at = below(TENANTS + 1), index = some_index();
     uint8_t actor = number(at, TENANTS);
     hg_handle block = some_block();
     uint64_t value = next();

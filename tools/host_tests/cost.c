@@ -57,6 +57,10 @@ int main(void)
     COST("look, served", hg_look(&core, 0, 0, hg_place_of(block)));
     COST("alloc, denied to a stranger", hg_alloc(&core, 0, 77, 0, 24));
     COST("alloc and free of the block", hg_free(&core, 0, 0, hg_alloc(&core, 0, 0, 0, 24).value));
+    hg_free(&core, 0, 0, block);
+    hg_collect(&core, 0);
+    COST("alloc and free of 64 KiB",
+         hg_free(&core, 0, 0, hg_alloc(&core, 0, 0, 0, 65536).value));
     hg_close(&core);
     return 0;
 }

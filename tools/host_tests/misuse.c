@@ -149,6 +149,34 @@ static void try_open(void)
     for (unsigned n = 0; n < 64; n++) any_call(&core, n % KINDS, (char[ROOM]){0});
 }
 
+/* A block of a whole segment: its first and its last word, its row, and one byte more. */
+static void try_large(void)
+{
+    static const char LARGE[] =
+        "version = 1\nworkers = 1\n"
+        "tenant = [ {name = \"ann\", limit = 131072} ]\n"
+        "arena = [ {name = \"main\", segments = 1} ]\n";
+    hg_core core = HG_CORE_INIT;
+    CHECK(hg_open(&core, LARGE, sizeof LARGE - 1, NULL, 0).status == HG_DONE);
+    CHECK(hg_refill(&core, 0, 0).status == HG_REFILLED);
+    CHECK(is_plain(hg_alloc(&core, 0, 0, 0, 65537), HG_TOO_LARGE));
+    hg_reply made = hg_alloc(&core, 0, 0, 0, 65536);
+    CHECK(made.status == HG_BLOCK && made.value != 0);
+    CHECK(is_plain(hg_alloc(&core, 0, 0, 0, 1), HG_NO_ROOM));
+    CHECK(is_plain(hg_write(&core, 0, 0, made.value, 0, 5), HG_DONE));
+    CHECK(is_plain(hg_write(&core, 0, 0, made.value, 8191, 6), HG_DONE));
+    CHECK(is_plain(hg_write(&core, 0, 0, made.value, 8192, 7), HG_OUT_OF_BLOCK));
+    CHECK(hg_read(&core, 0, 0, made.value, 0).value == 5);
+    CHECK(hg_read(&core, 0, 0, made.value, 8190).value == 0);
+    CHECK(hg_read(&core, 0, 0, made.value, 8191).value == 6);
+    hg_reply row = hg_look(&core, 0, 0, hg_place_of(made.value));
+    CHECK(row.status == HG_LISTED && row.value == made.value && row.detail == 65536);
+    CHECK(is_plain(hg_free(&core, 0, 0, made.value), HG_DONE));
+    CHECK(hg_collect(&core, 0).value == 1);
+    CHECK(hg_alloc(&core, 0, 0, 0, 1).status == HG_BLOCK);
+    CHECK(is_plain(hg_close(&core), HG_DONE));
+}
+
 int main(void)
 {
     hg_core zeros = HG_CORE_INIT, garbage;
@@ -158,6 +186,7 @@ int main(void)
     try_closed(garbage);
     try_opening();
     try_open();
+    try_large();
     printf("misuse: %u checks, %u failed\n", checks, failed);
     return failed != 0;
 }

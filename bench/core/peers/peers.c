@@ -1,6 +1,7 @@
 // The cases of bench/core on an allocator of C: glibc's, or with -DMIMALLOC mimalloc's.
 //     peers CASE THREADS MS [OPS]
-// prints the line that bench/core prints. What is freed elsewhere is freed by a second thread, and
+// prints the line that bench/core prints. With -DMEMSET it has the cases of large blocks alone: the
+// same room is cleared again and again. What is freed elsewhere is freed by a second thread, and
 // neither thread's waiting is counted: a batch is given out by one and freed by the other.
 #define _GNU_SOURCE
 #include <pthread.h>
@@ -17,10 +18,17 @@
 #include <mimalloc.h>
 #define NAME "mimalloc"
 #define GIVE mi_malloc
+#define CLEAR(size) mi_calloc(1, size)
 #define FREE mi_free
+#elif defined MEMSET
+#define NAME "memset"
+#define GIVE malloc
+#define CLEAR(size) memset(room, 0, size)
+#define FREE(p) ((void)(p))
 #else
 #define NAME "glibc"
 #define GIVE malloc
+#define CLEAR(size) calloc(1, size)
 #define FREE free
 #endif
 
@@ -78,6 +86,26 @@ static uint64_t pairs(uint64_t count) {
     }
     return count;
 }
+
+#ifdef MEMSET
+static uint64_t room[8192];
+#endif
+
+// Blocks of zeros, their first and last word written.
+static uint64_t large(uint64_t count, size_t size) {
+    for (uint64_t i = 0; i < count; i++) {
+        volatile uint64_t *p = CLEAR(size);
+        if (!p) abort();
+        p[0] = i;
+        p[size / 8 - 1] = i;
+        FREE((void *)p);
+    }
+    return count;
+}
+
+static uint64_t large16(uint64_t count) { return large(count, 16 * 1024); }
+
+static uint64_t large64(uint64_t count) { return large(count, 64 * 1024); }
 
 static uint64_t lifo(uint64_t count) {
     static void *stack[LIFO];
@@ -188,6 +216,9 @@ int main(int count, char **words) {
     const char *name = words[1];
     uint64_t span = strtoull(words[3], NULL, 10) * 1000000u;
     uint64_t ops = count > 4 ? strtoull(words[4], NULL, 10) : 0;
+    if (!strcmp(name, "large16")) return run(name, large16, 64, span, ops), 0;
+    if (!strcmp(name, "large64")) return run(name, large64, 64, span, ops), 0;
+    if (!strcmp(NAME, "memset")) return 3;
     if (!strcmp(name, "mem")) {
         memset(kept, 1, sizeof kept);
         uint64_t before = resident();

@@ -1,15 +1,13 @@
 //! The heap of a worker: its segments, and a queue of pages for each arena and size class.
 
 use crate::lists::IndexLists;
-use crate::page::{Class, class_of, words_of};
+use crate::page::{CLASSES, Class, class_of, words_of};
 use crate::policy::{Handle, Place, Policy, Right, Rule, pack, word_owner};
 use crate::segment::{SEGMENT_PAGES, Segment, Standing, block_bytes};
 
 const MAX_SEGMENTS: usize = 64;
 
 const PAGES: u16 = (MAX_SEGMENTS * SEGMENT_PAGES) as u16;
-
-const CLASSES: u16 = 32;
 
 const ARENAS: u16 = 16;
 
@@ -32,7 +30,7 @@ pub struct Heap {
 }
 
 fn key(arena: u8, class: Class) -> u16 {
-    arena as u16 * CLASSES + class.number as u16
+    arena as u16 * CLASSES as u16 + class.number as u16
 }
 
 fn page_of(place: Place) -> u16 {
@@ -55,7 +53,7 @@ impl Heap {
         Heap {
             segments: Vec::with_capacity(MAX_SEGMENTS),
             table: Box::new([None; MAX_SEGMENTS]),
-            queues: IndexLists::new(PAGES as usize, (ARENAS * CLASSES) as usize),
+            queues: IndexLists::new(PAGES as usize, ARENAS as usize * CLASSES),
             charges: Box::new([0; 64]),
         }
     }
@@ -115,22 +113,21 @@ impl Heap {
         if let Some(page) = self.queues.front(key(arena, class)) {
             return Some(page);
         }
-        let page = (0..PAGES).find(|page| self.is_blank(*page, arena, class))?;
+        let mut segments = 0..MAX_SEGMENTS as u8;
+        let page = segments.find_map(|segment| self.blank_in(segment, arena, class))?;
         let found = self.found((page / SEGMENT_PAGES as u16) as u8)?;
         self.segments[found as usize].assign_page((page % SEGMENT_PAGES as u16) as u8, class);
         requeue(&mut self.queues, arena, class, page, false);
         Some(page)
     }
 
-    fn is_blank(&self, page: u16, arena: u8, class: Class) -> bool {
-        let Some(found) = self.found((page / SEGMENT_PAGES as u16) as u8) else {
-            return false;
-        };
-        let segment = &self.segments[found as usize];
-        let page = (page % SEGMENT_PAGES as u16) as u8;
-        segment.arena == arena
-            && segment.class_of(page).is_none()
-            && segment.has_vacant(page, class)
+    fn blank_in(&self, segment: u8, arena: u8, class: Class) -> Option<u16> {
+        let held = &self.segments[self.found(segment)? as usize];
+        if held.arena != arena {
+            return None;
+        }
+        let page = held.first_begin(class)?;
+        Some(u16::from(segment) * SEGMENT_PAGES as u16 + u16::from(page))
     }
 
     fn give_out(&mut self, arena: u8, class: Class, page: u16, owner: u8) -> Handle {

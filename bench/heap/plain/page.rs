@@ -5,9 +5,11 @@ const END: u16 = 0;
 
 pub const PAGE_WORDS: usize = 512;
 
-static SIZES: [u16; 32] = [
+pub const CLASSES: usize = 36;
+
+static SIZES: [u16; CLASSES] = [
     1, 2, 3, 4, 5, 6, 7, 8, 10, 12, 14, 16, 20, 24, 28, 32, 40, 48, 56, 64, 80, 96, 112, 128, 160,
-    192, 224, 256, 320, 384, 448, 512,
+    192, 224, 256, 320, 384, 448, 512, 1024, 2048, 4096, 8192,
 ];
 
 /// A size class: the words of a block, and where that stands in the table.
@@ -24,6 +26,16 @@ pub fn class_of(words: u64) -> Option<Class> {
         words: SIZES[number],
         number: number as u8,
     })
+}
+
+/// Over how many pages a block lies.
+pub fn pages_of(class: Class) -> u8 {
+    ((class.words - 1) / PAGE_WORDS as u16 + 1) as u8
+}
+
+/// How many blocks begin at a page.
+pub fn per_page(class: Class) -> u16 {
+    u16::from(pages_of(class)) * PAGE_WORDS as u16 / class.words
 }
 
 pub fn words_of(bytes: u64) -> u64 {
@@ -63,7 +75,7 @@ impl Page {
 
     pub fn format(&mut self, words: &mut [u64], class: Class, worn: &[bool; PAGE_WORDS]) {
         self.size = class.words;
-        self.places = PAGE_WORDS as u16 / class.words;
+        self.places = per_page(class);
         self.in_use = 0;
         self.used = [false; PAGE_WORDS];
         self.free = END;

@@ -1,6 +1,6 @@
 //! A segment: the words of its pages, their lists, and the slot words of their places.
 
-use crate::page::{Class, PAGE_WORDS, Page};
+use crate::page::{Class, PAGE_WORDS, Page, pages_of, per_page};
 use crate::policy::{Handle, Place, pack, word_generation, word_owner};
 
 pub const SEGMENT_PAGES: usize = 16;
@@ -35,6 +35,8 @@ pub struct Segment {
     words: Box<[u64]>,
     pages: Box<[Page]>,
     classes: Box<[Option<Class>; SEGMENT_PAGES]>,
+    // a bit for each page that has no class and over which no block lies
+    blank: u16,
     charges: Box<[u64; 64]>,
 }
 
@@ -117,6 +119,7 @@ impl Segment {
             words: vec![0; SEGMENT_WORDS].into_boxed_slice(),
             pages: (0..SEGMENT_PAGES as u8).map(Page::new).collect(),
             classes: Box::new([None; SEGMENT_PAGES]),
+            blank: u16::MAX,
             charges: Box::new([0; 64]),
         }
     }
@@ -185,9 +188,21 @@ impl Segment {
     }
 
     /// Whether a page has a place that is home and not worn, of those of the class.
-    pub fn has_vacant(&self, page: u8, class: Class) -> bool {
-        let places = PAGE_WORDS as u16 / class.words;
-        (0..places).any(|index| match self.standing(page, index) {
+    pub fn first_begin(&self, class: Class) -> Option<u8> {
+        let behind = 1..pages_of(class);
+        let mut begins = behind.fold(self.blank, |marks, ahead| marks & self.blank >> ahead);
+        while begins != 0 {
+            let page = begins.trailing_zeros() as u8;
+            if self.has_vacant(page, class) {
+                return Some(page);
+            }
+            begins &= begins - 1;
+        }
+        None
+    }
+
+    fn has_vacant(&self, page: u8, class: Class) -> bool {
+        (0..per_page(class)).any(|index| match self.standing(page, index) {
             Standing::Home(generation) => generation != self.greatest,
             Standing::Open(_, _) => false,
         })
@@ -203,5 +218,6 @@ impl Segment {
         }
         self.pages[page as usize].format(&mut self.words, class, &worn);
         self.classes[page as usize] = Some(class);
+        self.blank &= !((((1u32 << pages_of(class)) - 1) << page) as u16);
     }
 }

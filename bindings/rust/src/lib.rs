@@ -86,7 +86,8 @@ impl Core {
         Err(OpenError::of(reply.status, &room[..reply.value as usize]))
     }
 
-    /// Asks for a block of so many bytes, whose words are 0.
+    /// Asks for a block of so many bytes, 65,536 at most, whose words are 0. Above 4,096 bytes it has
+    /// 8, 16, 32 or 64 KiB.
     pub fn alloc(
         &mut self,
         worker: u8,

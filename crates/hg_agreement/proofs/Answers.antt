@@ -16,7 +16,7 @@ use Rattle.hg_machine.specs.declared.AllocVerdict.TheVariants as alloc
 use Rattle.hg_machine.specs.Denial.{denial_on}
 use Rattle.hg_machine.specs.Policy.{arena_of}
 use Rattle.hg_machine.specs.Holders.{is_number}
-use Rattle.hg_machine.specs.Room.{is_class}
+use Rattle.hg_machine.specs.Room.{suits}
 use Rattle.hg_size.specs.Sizes.{places_of}
 use Rattle.hg_machine.specs.Request.{words_for, size_of, alloc_verdict}
 use Rattle.hg_machine.proofs.Allowed.{parts, no_denial, in_room}
@@ -58,7 +58,7 @@ free_at : (view : View) (arena size : ℕ) (wanted : Option ℕ) (k : ℕ)
     → is_open_to_in view arena size wanted k ≡ true → is_home (view.standing k) ≡ true
 free_at view arena size wanted k e =
     open_home (view.holds (segment_of k)) (is_number arena (arena_of view.policy (segment_of k)))
-    (is_class (view.class (page_of k)) wanted)
+    (suits view.class size wanted (page_of k))
     (nat_lt (index_of k) (places_of size)) (is_home (view.standing k))
     (not (standing_generation (view.standing k) == view.policy.max_generation)) e
 

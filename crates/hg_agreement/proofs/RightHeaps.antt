@@ -1,5 +1,5 @@
 -- What a worker with right segments has.
-use Rattle.std.proofs.Common.{◌≡◌, ℕ, ◌+◌, ◌*◌, ◌/◌, ◌%◌, ◌==◌, ◌<◌, ◌≤◌, inl, inr, true}
+use Rattle.std.proofs.Common.{refl, ◌≡◌, ℕ, ◌+◌, ◌*◌, ◌/◌, ◌%◌, ◌==◌, ◌<◌, ◌≤◌, inl, inr, true}
 use Rattle.std.proofs.Common.{false, cond, ◌∷◌, [], List, length, Option, Some, None, sym, ap}
 use Rattle.std.proofs.Common.{subst, ◌∙◌, arith, is_some}
 use Rattle.std.proofs.lemmas.Bool.{cases_Bool, eqb-true, true≢false}
@@ -9,7 +9,9 @@ use Rattle.hg_place.specs.Standings.{standing_at, standing_generation, is_home}
 use Rattle.hg_words.proofs.Ranges.{length-block_of}
 use Rattle.hg_segment.specs.Blocks.{block_at, block_of_class}
 use Rattle.hg_segment.specs.Right.{IsBlockPlace}
-use Rattle.hg_segment.proofs.KeptBlocks.{fits_in_page}
+use Rattle.hg_size.specs.Sizes.{pages_of}
+use Rattle.hg_size.proofs.Table.{fits_in_pages}
+use Rattle.hg_size.proofs.Within.{run_within}
 use Rattle.hg_machine.specs.Policy.{Policy}
 use Rattle.hg_agreement.specs.Holdings.{Holding, block_of, class_of, holding_of, has}
 use Rattle.hg_agreement.specs.Holdings.{class_told, standing_told, block_told}
@@ -37,21 +39,23 @@ there (x ∷ xs) segment e = elim (cases_Bool (x.number == segment))
     ]
 
 -- a block at a block place has the length of its page's class
-pub sized : (words : List ℕ) (page index : ℕ) (class : Option ℕ) → length words ≡ 8192 → page < 16
+pub sized : (words : List ℕ) (page index : ℕ) (class : Option ℕ) → length words ≡ 8192
+    → ((n : ℕ) → class ≡ Some n → page + pages_of n ≤ 16)
     → IsBlockPlace class index → class ≡ Some (length (block_of_class words page index class))
 sized words page index None whole low on = absurd on
 sized words page index (Some n) whole low on =
     ap Some (sym (length-block_of words (page * 512 + n * index) n
-    (omega (arith, fits_in_page n index on, low, whole))))
+    (omega (arith, fits_in_pages n index on, low n refl, whole))))
 
 -- and its index is below the number of its page's places
-pub within : (words : List ℕ) (page index : ℕ) (class : Option ℕ) → length words ≡ 8192 → page < 16
+pub within : (words : List ℕ) (page index : ℕ) (class : Option ℕ) → length words ≡ 8192
+    → ((n : ℕ) → class ≡ Some n → page + pages_of n ≤ 16)
     → IsBlockPlace class index
     → index < places_of (length (block_of_class words page index class))
 within words page index None whole low on = absurd on
 within words page index (Some n) whole low on =
     subst (λ k. index < places_of k) (sym (length-block_of words (page * 512 + n * index) n
-    (omega (arith, fits_in_page n index on, low, whole)))) on
+    (omega (arith, fits_in_pages n index on, low n refl, whole)))) on
 
 module _ (policy : Policy) (holdings : List Holding)
     (right : (segment : ℕ) (h : Holding) → holding_of holdings segment ≡ Some h
@@ -92,6 +96,12 @@ right_holdings_are_heaps policy worker hand generation holdings sound below righ
       let t = there holdings (segment_of_page page) e in
       (right (segment_of_page page) t.0 t.1).sizes (page % 16) size
       (sym (ap (λ o. class_told o (page % 16)) t.1) ∙ is);
+  runs = λ page e.
+      let t = there holdings (segment_of_page page) e in
+      run_within (class_of t.0) _ page
+      (λ q same. ap (λ s. class_told (holding_of holdings s) (q % 16)) same
+      ∙ ap (λ o. class_told o (q % 16)) t.1)
+      ((right (segment_of_page page) t.0 t.1).runs (page % 16));
   generations = λ place e.
       let t = there holdings (segment_of place) e in
       subst (λ o. standing_generation (standing_told o (place % 8192)) ≤ policy.max_generation)
@@ -113,8 +123,8 @@ right_holdings_are_heaps policy worker hand generation holdings sound below righ
       ap (λ s. class_told (holding_of holdings s) (page_of place % 16)) same
       ∙ ap (λ o. class_told o (page_of place % 16)) t.1
       ∙ ap (class_of h) on_page
-      ∙ sized h.words (at / 512) (index_of place) (class_of h (at / 512)) is.whole (omega arith)
-      p.on
+      ∙ sized h.words (at / 512) (index_of place) (class_of h (at / 512)) is.whole
+      (λ n e. let fit = (is.runs (at / 512)).inside n e in omega arith) p.on
       ∙ ap (λ ws. Some (length ws)) (sym p.words)
       ∙ ap (λ o. Some (length (block_told o at))) (sym t.1);
   below = λ place e out.
@@ -126,8 +136,8 @@ right_holdings_are_heaps policy worker hand generation holdings sound below righ
       (sym (ap (λ o. is_home (standing_told o at)) t.1) ∙ out) in
       subst (λ ws. index_of place < places_of (length ws))
       (sym p.words ∙ ap (λ o. block_told o at) (sym t.1))
-      (within h.words (at / 512) (index_of place) (class_of h (at / 512)) is.whole (omega arith)
-      p.on);
+      (within h.words (at / 512) (index_of place) (class_of h (at / 512)) is.whole
+      (λ n e. let fit = (is.runs (at / 512)).inside n e in omega arith) p.on);
   empty = λ place e home.
       let t = there holdings (segment_of place) e in
       let h = t.0 in

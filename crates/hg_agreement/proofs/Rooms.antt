@@ -12,8 +12,9 @@ use Rattle.hg_machine.specs.State.{State, record_at, class_at, places_in}
 use Rattle.hg_machine.specs.Holders.{is_number}
 use Rattle.hg_machine.specs.Policy.{Policy, arena_of}
 use Rattle.hg_machine.specs.Charge.{share, charge}
+use Rattle.hg_machine.proofs.Suits.{suits_alike}
 use Rattle.hg_machine.proofs.Enough.{sums, anys}
-use Rattle.hg_machine.specs.Room.{is_class, is_open_to, has_open, is_room, has_room}
+use Rattle.hg_machine.specs.Room.{suits, is_open_to, has_open, is_room, has_room}
 use Rattle.hg_agreement.specs.Views.{View, Shown}
 use Rattle.hg_agreement.specs.Agreement.{standing_by, Agrees}
 use Rattle.hg_agreement.specs.Seen.{share_in, charge_in, places_of_view, is_open_to_in, has_open_in}
@@ -77,11 +78,11 @@ same_charge m view shown tenant agrees =
     (λ n. shares m view shown tenant n agrees)
     ∙ ap (sum_by (share_in view tenant)) (same_places m view shown agrees)
 
-abbrev open_of : ℕ → ℕ → Option ℕ → ℕ → Bool → Policy → Option ℕ → Bool → ℕ → Bool
-open_of arena size wanted place held policy class free generation =
+abbrev open_of : ℕ → ℕ → ℕ → Bool → Policy → Bool → Bool → ℕ → Bool
+open_of arena size place held policy suited free generation =
     held
     && (is_number arena (arena_of policy (segment_of place))
-    && (is_class class wanted
+    && (suited
     && (nat_lt (index_of place) (places_of size)
     && (free && not (free && generation == policy.max_generation)))))
 
@@ -89,11 +90,11 @@ once : (b c : Bool) → (b && not (b && c)) ≡ (b && not c)
 once true c = refl
 once false c = refl
 
-abbrev open_now : ℕ → ℕ → Option ℕ → ℕ → Bool → Policy → Option ℕ → Bool → ℕ → Bool
-open_now arena size wanted place held policy class free generation =
+abbrev open_now : ℕ → ℕ → ℕ → Bool → Policy → Bool → Bool → ℕ → Bool
+open_now arena size place held policy suited free generation =
     held
     && (is_number arena (arena_of policy (segment_of place))
-    && (is_class class wanted
+    && (suited
     && (nat_lt (index_of place) (places_of size)
     && (free && not (generation == policy.max_generation)))))
 
@@ -104,30 +105,31 @@ opens m view shown arena size wanted place agrees =
     let r = record_at m place in
     let b = view.holds (segment_of place) in
     let at : segment_of_page (page_of place) ≡ segment_of place = omega arith in
-    ap (λ x. open_of arena size wanted place x m.policy (class_at m (page_of place))
+    ap (λ x. open_of arena size place x m.policy (suits (class_at m) size wanted (page_of place))
     (is_home r.life) r.generation) (agrees.holding (segment_of place))
-    ∙ ap (λ p. open_of arena size wanted place b p (class_at m (page_of place)) (is_home r.life)
+    ∙ ap (λ p. open_of arena size place b p (suits (class_at m) size wanted (page_of place)) (is_home r.life)
     r.generation) agrees.policy
-    ∙ ap (λ z. b && (is_number arena (arena_of view.policy (segment_of place)) && (is_class
-    (class_at m (page_of place)) wanted && (nat_lt (index_of place) (places_of size) && z))))
+    ∙ ap (λ z. b && (is_number arena (arena_of view.policy (segment_of place)) && (suits
+    (class_at m) size wanted (page_of place) && (nat_lt (index_of place) (places_of size) && z))))
     (once (is_home r.life) (r.generation == view.policy.max_generation))
-    ∙ elim (cases_Bool b) as (λ _. open_now arena size wanted place b view.policy
-    (class_at m (page_of place)) (is_home r.life) r.generation ≡ is_open_to_in view arena size
+    ∙ elim (cases_Bool b) as (λ _. open_now arena size place b view.policy
+    (suits (class_at m) size wanted (page_of place)) (is_home r.life) r.generation ≡ is_open_to_in view arena size
     wanted place) [
       | inl h ↦
           let st = agrees.standings place h in
-          ap (λ c. open_now arena size wanted place b view.policy c (is_home r.life) r.generation)
-          (agrees.classes (page_of place) (ap view.holds at ∙ h))
-          ∙ ap (λ f. open_now arena size wanted place b view.policy (view.class (page_of place)) f
+          ap (λ c. open_now arena size place b view.policy c (is_home r.life) r.generation)
+          (sym (suits_alike (class_at m) view.class size wanted (page_of place)
+          (λ q e. sym (agrees.classes q (ap view.holds (e ∙ at) ∙ h)))))
+          ∙ ap (λ f. open_now arena size place b view.policy (suits view.class size wanted (page_of place)) f
           r.generation) (sym (home_by r.generation r.life) ∙ ap at_home st)
-          ∙ ap (open_now arena size wanted place b view.policy (view.class (page_of place))
+          ∙ ap (open_now arena size place b view.policy (suits view.class size wanted (page_of place))
           (at_home (view.standing place))) (sym (generation_by r.generation r.life)
           ∙ ap standing_generation st)
       | inr f ↦
-          ap (λ x. open_now arena size wanted place x view.policy (class_at m (page_of place))
+          ap (λ x. open_now arena size place x view.policy (suits (class_at m) size wanted (page_of place))
           (is_home r.life) r.generation) f
-          ∙ sym (ap (λ x. open_now arena size wanted place x view.policy
-          (view.class (page_of place)) (at_home (view.standing place))
+          ∙ sym (ap (λ x. open_now arena size place x view.policy
+          (suits view.class size wanted (page_of place)) (at_home (view.standing place))
           (standing_generation (view.standing place))) f)
     ]
 

@@ -9,7 +9,9 @@ use Rattle.std.proofs.lemmas.Bool.{or_left, or_right, false_from_ne_true}
 use Rattle.std.proofs.lemmas.Grind.{get_or-set_at}
 use Rattle.std.proofs.lemmas.List.{length-set, get_or_past, length-replicate}
 use Rattle.std.proofs.lemmas.List.FromFn.{length-map-range_with_len, get_or-map-range_with_len}
-use Rattle.std.proofs.lemmas.Option.{none-some}
+use Rattle.std.proofs.lemmas.Option.{none-some, same_Some}
+use Rattle.hg_size.specs.Runs.{AreRuns, IsRunAt}
+use Rattle.hg_size.proofs.Covers.{run_alike, run_small}
 use Rattle.hg_size.specs.Sizes.{sizes, places_of}
 use Rattle.hg_place.specs.Places.{page_of, segment_of, index_of, segment_of_page}
 use Rattle.hg_place.specs.Slots.{slot_in}
@@ -25,7 +27,7 @@ use Rattle.hg_machine.proofs.Opening.{all_same}
 use Rattle.hg_machine.proofs.Plain.{inside, outside}
 use Rattle.hg_agreement.specs.Views.{View, Shown, slot_shown}
 use Rattle.hg_agreement.specs.Agreement.{standing_of, Agrees}
-use Rattle.hg_machine.proofs.Gives.{number_some}
+use Rattle.hg_machine.proofs.Suits.{number_some}
 use Rattle.hg_machine.specs.Shown.{IsShownBy}
 use Rattle.hg_agreement.specs.Witness.{record_held, record_elsewhere, is_shown_at, is_on}
 use Rattle.hg_agreement.specs.Witness.{is_shown_on, held_life}
@@ -51,6 +53,10 @@ numbered {X} f d n k past =
       | inr over ↦ get_or_past (map f (range_with_len 0 n)) k d
           (let l = length-map-range_with_len f 0 n in omega arith) ∙ sym (past over)
     ]
+
+one_or_none : (b : Bool) (size : ℕ) → (if b then Some 1 else None) ≡ Some size → size ≡ 1
+one_or_none true size e = sym (same_Some _ _ e)
+one_or_none false size e = absurd (none-some size e)
 
 module _ (view : View) (shown : Option Shown) (heap : IsHeapView view) (hand : IsHandOf view)
     (found : IfSome shown (IsFoundBy view)) (usual : IsUsual view shown) where
@@ -270,6 +276,18 @@ module _ (view : View) (shown : Option Shown) (heap : IsHeapView view) (hand : I
             ∙ other_parted (is_shown_at shown q) (slot_shown shown) view.hand_generation
       ]
 
+  run_here : AreRuns (class_at (witness view shown))
+  run_here page =
+      elim (cases_Bool (view.holds (segment_of_page page)))
+      as (λ _. IsRunAt (class_at (witness view shown)) page) [
+        | inl h ↦ run_alike view.class (class_at (witness view shown)) page
+            (λ q e. class_held q (ap view.holds e ∙ h)) (heap.runs page h)
+        | inr f ↦ run_small (class_at (witness view shown)) page
+            (λ q size e is. one_or_none (is_on q view.hand || is_shown_on q shown) size
+            (sym (ap (λ b. if b then view.class q else if is_on q view.hand || is_shown_on q shown
+            then Some 1 else None) (ap view.holds e ∙ f)) ∙ sym (class_is q) ∙ is))
+      ]
+
   pub witness_sound : IsSound (witness view shown)
   unfolding segments
   witness_sound = record {
@@ -292,6 +310,7 @@ module _ (view : View) (shown : Option Shown) (heap : IsHeapView view) (hand : I
         chosen_size (view.holds (segment_of_page page))
         (is_on page view.hand || is_shown_on page shown) (view.class page) size (Contains sizes)
         (sym (class_is page) ∙ e) (0, (omega arith), refl) (heap.classes page size);
+    runs = run_here;
     workers = λ segment v e. elim (cases_lt segment (length view.policy.segments))
         as (λ _. v < view.policy.workers) [
           | inl below ↦ subst (λ n. n < view.policy.workers)

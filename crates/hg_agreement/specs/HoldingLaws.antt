@@ -2,6 +2,7 @@
 use Rattle.std.specs.Prelude.{◌≡◌, ℕ, ◌<◌, ◌≤◌, true, false, List, [], length, Option, Some}
 use Rattle.std.specs.Prelude.{Contains}
 use Rattle.hg_place.specs.declared.geometry.TheConstants.{PAGE_PLACES, SEGMENT_PAGES, SEGMENT_WORDS}
+use Rattle.hg_size.specs.Runs.{AreRuns}
 use Rattle.hg_size.specs.Sizes.{sizes}
 use Rattle.hg_place.specs.Standings.{standing_at, standing_generation, is_home}
 use Rattle.hg_segment.specs.Kept.{slot}
@@ -24,11 +25,13 @@ abbrev pub BlocksAreTheSegments : Type 0
 BlocksAreTheSegments =
     (h : Holding) (page index : ℕ) → index < PAGE_PLACES → AreBlocks h page index
 
--- a segment of the policy keeps sizes as classes, generations up to the greatest, and as open
--- places those that were given out, at block places of its pages
+-- a segment of the policy keeps sizes as classes, of blocks that end in it and of no covered page,
+-- generations up to the greatest, and as open places those that were given out, at block places of
+-- its pages
 pub record IsHoldingRight (policy : Policy) (h : Holding) : Type 0 where
   pub number : h.number < length policy.segments
   pub sizes : (page size : ℕ) → class_of h page ≡ Some size → Contains sizes size
+  pub runs : AreRuns (class_of h)
   pub whole : length h.words ≡ SEGMENT_WORDS
   pub bounded :
       (at : ℕ) → standing_generation (standing_at h.standings at) ≤ policy.max_generation

@@ -22,7 +22,7 @@ use Rattle.hg_machine.specs.declared.AllocVerdict.TheVariants as alloc
 use Rattle.hg_machine.specs.declared.Row.{Row}
 use Rattle.hg_machine.specs.Policy.{arena_of}
 use Rattle.hg_machine.specs.Holders.{is_number}
-use Rattle.hg_machine.specs.Room.{is_class}
+use Rattle.hg_machine.specs.Room.{suits}
 use Rattle.hg_machine.specs.Denial.{denial_on}
 use Rattle.hg_machine.specs.Request.{words_for, alloc_verdict}
 use Rattle.hg_machine.specs.Refusal.{denial_or}
@@ -70,7 +70,7 @@ abbrev pub is_open_to_in : View → ℕ → ℕ → Option ℕ → ℕ → Bool
 is_open_to_in view arena size wanted place =
     view.holds (segment_of place)
     && (is_number arena (arena_of view.policy (segment_of place))
-    && (is_class (view.class (page_of place)) wanted
+    && (suits view.class size wanted (page_of place)
     && (nat_lt (index_of place) (places_of size)
     && (is_home (view.standing place)
     && not (standing_generation (view.standing place) == view.policy.max_generation)))))

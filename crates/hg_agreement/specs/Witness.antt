@@ -4,6 +4,7 @@ use Rattle.std.specs.Prelude.{if◌then◌else◌, List, [], ◌∷◌, length, 
 use Rattle.std.specs.Prelude.{replicate, slice_set, Contains, IfSome}
 use Rattle.hg_place.specs.declared.geometry.TheConstants.{SEGMENT_PLACES}
 use Rattle.hg_size.specs.Sizes.{sizes, places_of}
+use Rattle.hg_size.specs.Runs.{IsRunAt}
 use Rattle.hg_place.specs.Places.{page_of, segment_of, index_of, segment_of_page}
 use Rattle.hg_place.specs.Slots.{Slot, slot_in}
 use Rattle.hg_place.specs.Standings.{is_home, standing_generation}
@@ -102,9 +103,10 @@ witness view shown =
       hands = slice_set (replicate view.policy.workers None) view.worker view.hand;
     }
 
--- What holds of every worker: its segments are the policy's and their classes sizes; a generation
--- is no greater than the greatest; an open place was given out, and is a block place of a page of
--- its block's class; a place at home has no words
+-- What holds of every worker: its segments are the policy's and their classes sizes, of blocks that
+-- end in their segment and of no covered page; a generation is no greater than the greatest; an open
+-- place was given out, and is a block place of a page of its block's class; a place at home has no
+-- words
 pub record IsHeapView (view : View) : Type 0 where
   pub policy : IsSoundPolicy view.policy
   pub worker : view.worker < view.policy.workers
@@ -113,6 +115,7 @@ pub record IsHeapView (view : View) : Type 0 where
   pub classes :
       (page size : ℕ) → view.holds (segment_of_page page) ≡ true → view.class page ≡ Some size
       → Contains sizes size
+  pub runs : (page : ℕ) → view.holds (segment_of_page page) ≡ true → IsRunAt view.class page
   pub generations :
       (place : ℕ) → view.holds (segment_of place) ≡ true
       → standing_generation (view.standing place) ≤ view.policy.max_generation

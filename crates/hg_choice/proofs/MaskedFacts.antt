@@ -16,7 +16,7 @@ use Rattle.hg_machine.specs.Life.{contents_of, bytes_of}
 use Rattle.hg_machine.specs.State.{State, record_at, class_at, places_in}
 use Rattle.hg_machine.specs.Holders.{holds, is_in_arena, is_number}
 use Rattle.hg_machine.specs.Charge.{share, charge}
-use Rattle.hg_machine.specs.Room.{is_class, is_usable, is_open_to, has_open, is_room, has_room}
+use Rattle.hg_machine.specs.Room.{suits, is_usable, is_open_to, has_open, is_room, has_room}
 use Rattle.hg_machine.specs.Denial.{denial, denial_on, slot_at}
 use Rattle.hg_machine.specs.Sweeps.{is_sent, is_sent_to, is_idle, cleared}
 use Rattle.hg_choice.specs.Masks.{masked_life, masked_record, masked, is_hidden}
@@ -104,7 +104,7 @@ module _ (hides : ℕ → ℕ → Bool) where
   same_open s w arena size wanted = fun_ext λ p.
       ap (λ usable. holds s w (segment_of p)
       && (is_in_arena s arena (segment_of p)
-      && (is_class (class_at s (page_of p)) wanted && usable p))) (same_usable s size)
+      && (suits (class_at s) size wanted (page_of p) && usable p))) (same_usable s size)
 
   pub same_has_open : (s : State) (w arena size : ℕ) (wanted : Option ℕ)
       → has_open (masked hides s) w arena size wanted ≡ has_open s w arena size wanted

@@ -19,7 +19,11 @@ use Rattle.hg_page.specs.PageLists.{PageLists, fresh, listed, Pops}
 use Rattle.hg_segment.specs.Kept.{Kept, class_at, lists_at, refilled, slot}
 use Rattle.hg_segment.specs.Right.{is_vacant, vacant_in, HasVacant}
 use Rattle.hg_segment.specs.Parted.{plain_number}
-use Rattle.hg_segment.proofs.Turned.{places_small}
+use Rattle.std.proofs.lemmas.Option.{none-some}
+use Rattle.hg_size.specs.Runs.{may_begin}
+use Rattle.hg_size.proofs.Covers.{begins_not}
+use Rattle.hg_size.proofs.Within.{begins_within}
+use Rattle.hg_size.proofs.Table.{places_small}
 use Rattle.hg_machine.specs.declared.Event.TheVariants as event
 use Rattle.hg_machine.specs.declared.Answer.TheVariants as answer
 use Rattle.hg_machine.specs.SoundPolicy.{IsSoundPolicy}
@@ -29,7 +33,7 @@ use Rattle.hg_machine.specs.State.{class_at as class_of_page}
 use Rattle.hg_machine.specs.Holders.{holds, is_in_arena, is_number}
 use Rattle.hg_machine.specs.Charge.{charge}
 use Rattle.hg_machine.specs.Request.{words_for, size_of}
-use Rattle.hg_machine.specs.Room.{is_class, is_usable, is_open_to, has_open, is_room}
+use Rattle.hg_machine.specs.Room.{suits, is_usable, is_open_to, has_open, is_room}
 use Rattle.hg_machine.proofs.Allowed.{fitting}
 use Rattle.hg_machine.proofs.Cases.{Served}
 use Rattle.hg_heap.specs.Held.{Held, segment_in, is_held, has_place}
@@ -213,11 +217,11 @@ module _ (core : Core) (worker : ℕ) (actor : Actor) (arena bytes : ℕ) (handl
   blanks = blank_on plain_number plain_records old arena size page
 
   -- a place of a page without a class may have such a block as the segment says
-  usable_told : class_at one.classes (page % 16) ≡ None → one.arena ≡ arena → (i : ℕ) → i < 512
+  usable_told : may_begin (class_at one.classes) size (page % 16) ≡ true → one.arena ≡ arena → (i : ℕ) → i < 512
       → is_usable s size (page * 512 + i)
       ≡ (nat_lt i (places_of size)
       && is_vacant one.greatest (standing_at (plain_records one.slots) (slot (page % 16) i)))
-  usable_told none same i low =
+  usable_told may same i low =
       let p = page * 512 + i in
       let sg : segment_of p ≡ segment_of_page page = omega (arith, low) in
       let pg : page_of p ≡ page = omega (arith, low) in
@@ -227,16 +231,18 @@ module _ (core : Core) (worker : ℕ) (actor : Actor) (arena bytes : ℕ) (handl
       let usable = is_usable s size p in
       let left : is_open_to s worker arena size None p ≡ usable =
       ap (λ b. b && (is_in_arena s arena (segment_of p)
-      && (is_class (class_of_page s (page_of p)) None && usable)))
+      && (suits (class_of_page s) size None (page_of p) && usable)))
       (ap (holds s worker) sg ∙ held_here)
       ∙ ap (λ n. is_number arena (arena_of core.policy n)
-      && (is_class (class_of_page s (page_of p)) None && usable)) sg
-      ∙ ap (λ o. is_number arena o && (is_class (class_of_page s (page_of p)) None && usable))
+      && (suits (class_of_page s) size None (page_of p) && usable)) sg
+      ∙ ap (λ o. is_number arena o && (suits (class_of_page s) size None (page_of p) && usable))
       (arena_told core worker policy t below page one found)
-      ∙ ap (λ b. b && (is_class (class_of_page s (page_of p)) None && usable))
+      ∙ ap (λ b. b && (suits (class_of_page s) size None (page_of p) && usable))
       (ap (λ n. n == arena) same ∙ eq-eqb arena arena refl)
-      ∙ ap (λ o. is_class o None && usable) (ap (class_of_page s) pg
-      ∙ class_told core worker policy t below page one found ∙ none)
+      ∙ ap (λ b. b && usable) (ap (may_begin (class_of_page s) size) pg
+      ∙ begins_within (class_at one.classes) (class_of_page s) size page
+      (λ q e. class_told core worker policy t below q one
+      (ap (segment_in plain_number old) e ∙ found)) ∙ may)
       in
       let right : open_by plain_number plain_records arena size None
       (segment_in plain_number old (segment_of p)) (page_of p % 16) (index_of p) ≡ vac =
@@ -247,17 +253,17 @@ module _ (core : Core) (worker : ℕ) (actor : Actor) (arena bytes : ℕ) (handl
       ∙ ap (λ n. open_by plain_number plain_records arena size None
       (segment_in plain_number old (segment_of_page page)) (page % 16) n) ix
       ∙ ap (λ o. open_by plain_number plain_records arena size None o (page % 16) i) found
-      ∙ ap (λ b. b && (is_class (class_at one.classes (page % 16)) None && vac))
+      ∙ ap (λ b. b && (suits (class_at one.classes) size None (page % 16) && vac))
       (ap (λ n. n == arena) same ∙ eq-eqb arena arena refl)
-      ∙ ap (λ o. is_class o None && vac) none
+      ∙ ap (λ b. b && vac) may
       in
       sym left ∙ open_told core worker policy t below arena size None p ∙ right
 
-  blanks_told : class_at one.classes (page % 16) ≡ None → one.arena ≡ arena
+  blanks_told : may_begin (class_at one.classes) size (page % 16) ≡ true → one.arena ≡ arena
       → filter (is_usable s size) (range_with_len (page * 512) 512)
       ≡ places_from (page * 512) (vacant_in one.greatest (plain_records one.slots) (page % 16)
       (places_of size))
-  blanks_told none same =
+  blanks_told may same =
       let q : ℕ → Bool =
       (λ i. is_vacant one.greatest (standing_at (plain_records one.slots) (slot (page % 16) i))) in
       let z : page * 512 ≡ page * 512 + 0 = omega arith in
@@ -266,7 +272,7 @@ module _ (core : Core) (worker : ℕ) (actor : Actor) (arena bytes : ℕ) (handl
       ∙ ap (places_from (page * 512))
       (
       filter_same (λ i. is_usable s size (page * 512 + i)) (λ i. nat_lt i (places_of size) && q i) 0
-      512 (λ i a b. usable_told none same i (omega (arith, b)))
+      512 (λ i a b. usable_told may same i (omega (arith, b)))
       ∙ filter_cut q (places_of size) 0 (places_of size) 512 (omega arith) (places_small size)
       )
 
@@ -279,7 +285,9 @@ module _ (core : Core) (worker : ℕ) (actor : Actor) (arena bytes : ℕ) (handl
   classed other e =
       let plain : from_heap ≡ had =
       ap (λ o. begun_or (blank_by plain_number plain_records arena size o (page % 16)) had) found
-      ∙ ap (λ c. begun_or (blank_of plain_number plain_records arena size (page % 16) one c) had) e
+      ∙ ap (λ m. begun_or (blank_of plain_number plain_records arena size (page % 16) one m) had)
+      (begins_not (class_at one.classes) size (page % 16) (λ m.
+      none-some other (sym (m.none (page % 16) (omega arith) (omega arith)) ∙ e)))
       in
       let same = numbered_told core worker policy t below page one found in
       record {
@@ -314,14 +322,16 @@ module _ (core : Core) (worker : ℕ) (actor : Actor) (arena bytes : ℕ) (handl
       in
       let same_one : on.k ≡ one = (let k : Some on.k ≡ Some one = sym on.is ∙ found in cc) in
       let same : one.arena ≡ arena = ap (λ k. k.arena) (sym same_one) ∙ on.arena_is in
+      let may : may_begin (class_at one.classes) size (page % 16) ≡ true =
+      ap (λ k. may_begin (class_at k.classes) size (page % 16)) (sym same_one) ∙ on.class in
       let blanks_are : blanks ≡ vacant_in one.greatest (plain_records one.slots) (page % 16)
       (places_of size) =
       ap (λ o. blank_by plain_number plain_records arena size o (page % 16)) found
-      ∙ ap (blank_of plain_number plain_records arena size (page % 16) one) e
+      ∙ ap (blank_of plain_number plain_records arena size (page % 16) one) may
       ∙ ap (λ b. cond b (vacant_in one.greatest (plain_records one.slots) (page % 16)
       (places_of size)) []) (ap (λ n. n == arena) same ∙ eq-eqb arena arena refl)
       in
-      blanks_told e same ∙ ap (places_from (page * 512)) (sym blanks_are)
+      blanks_told may same ∙ ap (places_from (page * 512)) (sym blanks_are)
 
   begun : class_at one.classes (page % 16) ≡ None → (x : ℕ) (xs : List ℕ) → blanks ≡ x ∷ xs
       → (free : List ℕ)

@@ -15,11 +15,11 @@ use Rattle.hg_page.specs.PageLists.{PageLists}
 use Rattle.hg_segment.specs.Kept.{class_at, lists_at, slot}
 use Rattle.hg_segment.specs.Right.{is_vacant, vacant_in}
 use Rattle.hg_segment.specs.Parted.{plain_number}
-use Rattle.hg_segment.proofs.Turned.{places_small}
+use Rattle.hg_size.proofs.Table.{places_small}
 use Rattle.hg_queue.specs.Queues.{queue_of}
 use Rattle.hg_machine.specs.SoundPolicy.{IsSoundPolicy}
 use Rattle.hg_machine.specs.State.{places_in}
-use Rattle.hg_machine.specs.Room.{is_class, is_open_to}
+use Rattle.hg_machine.specs.Room.{is_open_to}
 use Rattle.hg_machine.specs.Lists.{list_at}
 use Rattle.hg_machine.specs.Lists.{Kept as KeptCore}
 use Rattle.hg_heap.specs.Held.{Held, segment_in, lists_by, is_some_place, all_pages}
@@ -116,9 +116,6 @@ module _ (core : Core) (worker arena size : ℕ) (policy : IsSoundPolicy core.po
       (segment_in plain_number held.segments (segment_of p)) (page_of p % 16) (index_of p)
       (sym (open_told core worker policy t below arena size None p) ∙ e))
 
-  no_class : (o : Option ℕ) → o ≡ None → is_class o None ≡ true
-  no_class o none = ap (λ c. is_class c None) none
-
   open_at : (page index : ℕ) → index < 512 → Opens page index → is_open (page * 512 + index) ≡ true
   open_at page index low on =
       let p = page * 512 + index in
@@ -134,14 +131,14 @@ module _ (core : Core) (worker arena size : ℕ) (policy : IsSoundPolicy core.po
       (segment_in plain_number held.segments (segment_of_page page)) (page % 16) m) i
       ∙ ap (λ o. open_by plain_number plain_records arena size None o (page % 16) index) on.is
       ∙ and_from _ _ (ap (λ m. m == arena) on.arena_is ∙ eq-eqb arena arena refl)
-      (and_from _ _ (no_class (class_at on.k.classes (page % 16)) on.class)
+      (and_from _ _ on.class
       (and_from _ _ (lt-ltb index (places_of size) on.below) on.vacant))
 
   -- it lies in a page that is blank, of a segment of the policy
   opens_blank : (page index : ℕ) → Opens page index → blank page ≡ true
   opens_blank page index on =
       blank_vacant plain_number plain_records held.segments arena size page on.k on.is on.arena_is
-      (ap is_some on.class)
+      on.class
       ∙ vacant_some plain_number plain_records on.k (page % 16) size index on.below on.vacant
 
   page_low : (page index : ℕ) → Opens page index → page < total * 16

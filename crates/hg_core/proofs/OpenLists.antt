@@ -30,7 +30,7 @@ use Rattle.hg_core.proofs.Opens.{OpensWith, all_alike, is_opening, opens}
 -- queues without pages
 pub queues_none : (queues : List (List ℕ)) → AreQueues queues
     → ((key : ℕ) → queue_of queues key ≡ []) → queues ≡ empty_queues
-queues_none queues are none = all_alike queues 512 [] are.all (λ key below. none key)
+queues_none queues are none = all_alike queues 576 [] are.all (λ key below. none key)
 
 -- heaps that all have these queues
 queues_alike : (hs : List (Held PlainWords)) (queues : List (List ℕ))

@@ -8,3 +8,4 @@ mod secrets;
 mod seeded;
 mod serving;
 mod sweeping;
+mod words;

@@ -132,17 +132,19 @@ fn allocations_by_the_first_rule(rt: HostRuntime) -> Result<(), Fail> {
     let policy = read_policy(rt.alloc(), DOCUMENT.as_bytes())?;
     assert!(rt; fits(judge_alloc(&policy, ALICE, MAIN, 9, 0), 10));
     assert!(rt; fits(judge_alloc(&policy, ALICE, MAIN, 512, 4096), 512));
+    assert!(rt; fits(judge_alloc(&policy, ALICE, MAIN, 513, 0), 1024));
     let over = AllocVerdict::Denied(Rule::OverLimit);
     assert_eq!(rt; judge_alloc(&policy, ALICE, MAIN, 512, 4097), over);
+    assert_eq!(rt; judge_alloc(&policy, ALICE, MAIN, 8192, 0), over);
     assert_eq!(rt; judge_alloc(&policy, ALICE, MAIN, 1, u64::MAX), over);
     assert_eq!(rt; judge_alloc(&policy, BOB, MAIN, 9, 0), over);
     let foreign = AllocVerdict::Denied(Rule::ForeignArena);
-    assert_eq!(rt; judge_alloc(&policy, BOB, VAULT, 513, 0), foreign);
+    assert_eq!(rt; judge_alloc(&policy, BOB, VAULT, 8193, 0), foreign);
     assert_eq!(rt; judge_alloc(&policy, ALICE, 255, 1, 0), foreign);
     let stranger = AllocVerdict::Denied(Rule::Stranger);
-    assert_eq!(rt; judge_alloc(&policy, NOBODY, VAULT, 513, 0), stranger);
+    assert_eq!(rt; judge_alloc(&policy, NOBODY, VAULT, 8193, 0), stranger);
     assert_eq!(rt;
-        judge_alloc(&policy, ALICE, MAIN, 513, u64::MAX),
+        judge_alloc(&policy, ALICE, MAIN, 8193, u64::MAX),
         AllocVerdict::TooLarge
     );
     assert_eq!(rt;

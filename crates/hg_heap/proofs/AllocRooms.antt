@@ -120,7 +120,7 @@ module _ {S : Type 0} (number : S → ℕ) (records : S → List Standing) (smal
       → is_some_place (blank_on number records held.segments arena size page) ≡ true
   open_blank page index on =
       blank_vacant number records held.segments arena size page on.k on.is on.arena_is
-      (ap is_some on.class)
+      on.class
       ∙ vacant_some number records on.k (page % 16) size index on.below on.vacant
 
   pub unchosen_no_room : front_page number records held arena size ≡ None

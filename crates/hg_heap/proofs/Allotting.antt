@@ -20,6 +20,7 @@ use Rattle.hg_queue.specs.Queues.{queue_of}
 use Rattle.hg_segment.specs.Kept.{Kept, class_at, refilled}
 use Rattle.hg_segment.specs.Right.{IsBlockPlace}
 use Rattle.hg_heap.specs.Held.{Held, is_of, segment_in, class_by, class_on, lists_on, is_some_place}
+use Rattle.hg_heap.proofs.Blanks.{blank_classed}
 use Rattle.hg_heap.specs.Choice.{next_index, blank_of, blank_by, blank_on, begun_or, front_page}
 use Rattle.hg_heap.specs.Choice.{blank_page, chosen_page, chosen_place, lists_for}
 use Rattle.hg_heap.specs.Queues.{AreQueued, key_by}
@@ -72,7 +73,7 @@ module _ {S : Type 0} (number : S → ℕ) (records : S → List Standing) where
   blank_none_by : (arena size page n : ℕ) (o : Option (Kept S)) → class_by number o page ≡ Some n
       → blank_by number records arena size o page ≡ []
   blank_none_by arena size page n None e = absurd (cc)
-  blank_none_by arena size page n (Some k) e = ap (blank_of number records arena size page k) e
+  blank_none_by arena size page n (Some k) e = blank_classed number records arena size page n k e
 
   pub lists_for_classed : (segments : List (Kept S)) (arena size page n : ℕ)
       → class_on number segments page ≡ Some n → lists_for number records segments arena size page
@@ -138,7 +139,7 @@ module _ {S : Type 0} (number : S → ℕ) (records : S → List Standing) where
       go None is = is
       go (Some n) is =
           absurd (true≢false (sym b
-          ∙ ap (λ (c : Option ℕ). is_some_place (blank_of number records arena size page j c)) is))
+          ∙ ap is_some_place (blank_classed number records arena size page n j is)))
 
   no_block : (class : Option ℕ) (index : ℕ) → class ≡ None → IsBlockPlace class index → ⊥
   no_block None index e on = on

@@ -1,6 +1,6 @@
 -- A page without a class gets one.
 use Rattle.std.proofs.Common.{◌≡◌, ◌≢◌, ◌⊎◌, ℕ, ◌+◌, ◌*◌, ◌/◌, ◌%◌, ◌==◌, ◌<◌, ◌++◌, inl, inr}
-use Rattle.std.proofs.Common.{Bool, true, cond}
+use Rattle.std.proofs.Common.{Bool, true, false, cond, ◌≤◌}
 use Rattle.std.proofs.Common.{◌∷◌, [], List, length, Option, Some, None, refl, sym, ap, subst}
 use Rattle.std.proofs.Common.{◌∙◌, arith, slice_set}
 use Rattle.std.proofs.Common.{get_or-set_other, get_or-set_same}
@@ -12,6 +12,8 @@ use Rattle.hg_place.specs.Places.{segment_of_page}
 use Rattle.hg_place.specs.Standings.{standing_at, is_home}
 use Rattle.hg_size.specs.Sizes.{number_of_size, places_of}
 use Rattle.hg_size.specs.SizeLaws.{key_of}
+use Rattle.hg_size.specs.Runs.{may_begin}
+use Rattle.hg_size.proofs.Covers.{begins}
 use Rattle.hg_page.specs.PageLists.{PageLists, fresh}
 use Rattle.hg_queue.specs.declared.page_queues.TheConstants.{PAGES, ARENAS}
 use Rattle.hg_queue.specs.Queues.{queue_of}
@@ -47,17 +49,17 @@ split_page page = omega arith
 
 module _ {S : Type 0} (number : S → ℕ) (records : S → List Standing) where
   -- what a page is where a block of this size may be begun
-  record IsBlank (arena size page : ℕ) (k : Kept S) (had : Option ℕ) : Type 0 where
-    pub class : had ≡ None
+  record IsBlank (arena size page : ℕ) (k : Kept S) (may : Bool) : Type 0 where
+    pub class : may ≡ true
     pub of : k.arena ≡ arena
-    pub places : blank_of number records arena size page k had
+    pub places : blank_of number records arena size page k may
         ≡ vacant_in k.greatest (records k.slots) page (places_of size)
 
-  blank_is : (arena size page : ℕ) (k : Kept S) (had : Option ℕ)
-      → is_some_place (blank_of number records arena size page k had) ≡ true
-      → IsBlank arena size page k had
-  blank_is arena size page k (Some other) some = absurd (true≢false (sym some))
-  blank_is arena size page k None some = elim (cases_Bool (k.arena == arena)) [
+  blank_is : (arena size page : ℕ) (k : Kept S) (may : Bool)
+      → is_some_place (blank_of number records arena size page k may) ≡ true
+      → IsBlank arena size page k may
+  blank_is arena size page k false some = absurd (true≢false (sym some))
+  blank_is arena size page k true some = elim (cases_Bool (k.arena == arena)) [
     | inl t ↦ record {
       class = refl;
       of = eqb-true k.arena arena t;
@@ -75,18 +77,19 @@ module _ {S : Type 0} (number : S → ℕ) (records : S → List Standing) where
       (blank : is_some_place (blank_on number records items arena size page) ≡ true) where
     told : blank_on number records items arena size page
         ≡ blank_of number records arena size (page % SEGMENT_PAGES) one
-        (class_in one.classes (page % SEGMENT_PAGES))
+        (may_begin (class_in one.classes) size (page % SEGMENT_PAGES))
     told = ap (λ (o : Option (Kept S)). blank_by number records arena size o
         (page % SEGMENT_PAGES)) (found_is number items (segment_of_page page) found one here)
 
     was_blank : IsBlank arena size (page % SEGMENT_PAGES) one
-        (class_in one.classes (page % SEGMENT_PAGES))
+        (may_begin (class_in one.classes) size (page % SEGMENT_PAGES))
     was_blank = blank_is arena size (page % SEGMENT_PAGES) one
-        (class_in one.classes (page % SEGMENT_PAGES)) (sym (ap is_some_place told) ∙ blank)
+        (may_begin (class_in one.classes) size (page % SEGMENT_PAGES))
+        (sym (ap is_some_place told) ∙ blank)
 
-    -- a page that a block may be begun in has no class
-    pub unclassed : class_in one.classes (page % SEGMENT_PAGES) ≡ None
-    unclassed = was_blank.class
+    -- a page that a block may be begun in may get the class
+    pub begun_there : may_begin (class_in one.classes) size (page % SEGMENT_PAGES) ≡ true
+    begun_there = was_blank.class
 
   -- the page of a segment that is found had no class and a place for a block, and has the class now
   pub record Begins (items : List (Kept S)) (found arena size page : ℕ)
@@ -113,8 +116,12 @@ module _ {S : Type 0} (number : S → ℕ) (records : S → List Standing) where
     settled_before : IsSettled records one
     settled_before = b.settled one (Contains-get items found one b.here.at)
 
-    was : IsBlank arena size at one (class_in one.classes at)
+    was : IsBlank arena size at one (may_begin (class_in one.classes) size at)
     was = was_blank items found arena size page one b.here b.blank
+
+    unclassed : class_in one.classes at ≡ None
+    unclassed = (begins (class_in one.classes) size at was.class).none at (omega arith)
+        (omega arith)
 
     places_are : blank_on number records items arena size page ≡ places
     places_are = told items found arena size page one b.here b.blank ∙ was.places
@@ -148,7 +155,7 @@ module _ {S : Type 0} (number : S → ℕ) (records : S → List Standing) where
       class = ap (λ (cs : List (Option ℕ)). class_in cs at) classes_are
           ∙ get_or-set_same one.classes at (Some size) None
           (omega (arith, settled_before.classes));
-      was = inr was.class;
+      was = inr unclassed;
       classes = class_other;
       lists = λ other ne. ap (λ (ls : List PageLists). lists_at ls other) lists_are
           ∙ get_or-set_other one.lists at other (fresh places) no_lists ne;
@@ -201,7 +208,7 @@ module _ {S : Type 0} (number : S → ℕ) (records : S → List Standing) where
       | inl e ↦ (let is : at * 512 + other % 512 ≡ other = omega (arith, e) in
           elim (cases_Bool (is_home (standing_at (records one.slots) other))) [
             | inl t ↦ inl t
-            | inr f ↦ absurd (subst (λ (c : Option ℕ). IsBlockPlace c (other % 512)) was.class
+            | inr f ↦ absurd (subst (λ (c : Option ℕ). IsBlockPlace c (other % 512)) unclassed
                 (settled_before.opened at (other % 512) low (omega arith)
                 (ap (λ (n : ℕ). is_home (standing_at (records one.slots) n)) is ∙ f)))
           ])

@@ -164,14 +164,14 @@ module _ {S : Type 0} (records : S → List Standing) where
 
   -- no class has blocks of more bytes than a page
   bytes_small : (class : Option ℕ) → ((size : ℕ) → class ≡ Some size → Contains sizes size)
-      → block_bytes class ≤ 4096
+      → block_bytes class ≤ 65536
   bytes_small None listed = omega arith
   bytes_small (Some size) listed = let b =
       (size_bounds size (listed size refl)).1 in omega (arith, b)
 
   charge_of_small : (k : Kept S) (tenant : ℕ) → length (records k.slots) ≡ SEGMENT_PLACES
       → IsSettled records k
-      → charge_of (records k.slots) k.classes tenant ≤ SEGMENT_PLACES * 4096
+      → charge_of (records k.slots) k.classes tenant ≤ SEGMENT_PLACES * 65536
   charge_of_small k tenant sized settled =
       let c = charge_small (records k.slots) k.classes tenant
       (λ page. bytes_small (class_at k.classes page) (settled.sizes page)) in
@@ -182,14 +182,14 @@ module _ {S : Type 0} (records : S → List Standing) where
       (tenant : ℕ)
       → ((s : S) → length (records s) ≡ SEGMENT_PLACES) → IsTabled number table segments
       → ((k : Kept S) → Contains segments k → IsSettled records k)
-      → charge_in records segments tenant ≤ MAX_SEGMENTS * (SEGMENT_PLACES * 4096)
+      → charge_in records segments tenant ≤ MAX_SEGMENTS * (SEGMENT_PLACES * 65536)
   charge_room number table segments tenant sized t settled =
       let many : length segments ≤ 64 =
       omega (arith, t.all, t.many, count_by-le-length is_some table) in
       let c = sum_by-le (λ (k : Kept S). charge_of (records k.slots) k.classes tenant)
-      (SEGMENT_PLACES * 4096) segments
+      (SEGMENT_PLACES * 65536) segments
       (All-weaker (Contains segments)
-      (λ (k : Kept S). charge_of (records k.slots) k.classes tenant ≤ SEGMENT_PLACES * 4096)
+      (λ (k : Kept S). charge_of (records k.slots) k.classes tenant ≤ SEGMENT_PLACES * 65536)
       (λ k there. charge_of_small k tenant (sized k.slots) (settled k there)) segments
       (All-contains_itself segments)) in
       omega (arith, many, c)

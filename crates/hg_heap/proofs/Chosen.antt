@@ -14,8 +14,12 @@ use Rattle.hg_place.specs.Places.{segment_of_page}
 use Rattle.hg_place.specs.Standings.{standing_at}
 use Rattle.hg_size.specs.Sizes.{sizes, places_of, number_of_size}
 use Rattle.hg_size.specs.SizeLaws.{key_of}
+use Rattle.std.proofs.lemmas.Option.{none-some}
+use Rattle.hg_size.specs.Runs.{may_begin}
 use Rattle.hg_size.proofs.Table.{number_below, numbers_apart}
-use Rattle.hg_machine.specs.Room.{is_class}
+use Rattle.hg_size.proofs.Covers.{begins_not}
+use Rattle.hg_machine.specs.Room.{suits}
+use Rattle.hg_machine.proofs.Suits.{number_some, number_has}
 use Rattle.hg_page.specs.PageLists.{PageLists, listed}
 use Rattle.hg_queue.specs.Queues.{queue_of}
 use Rattle.hg_segment.specs.Kept.{Kept, slot, class_at, lists_at, refilled_by}
@@ -84,14 +88,6 @@ next_there lists has = go lists.free lists.local_free lists refl refl has
       subst (λ (fs : List ℕ). Contains (fs ++ l.local_free) x) (sym e) (0, omega arith, refl),
     )
 
-is_wanted : (class : Option ℕ) (size : ℕ) → is_class class (Some size) ≡ true → class ≡ Some size
-is_wanted None size e = absurd (true≢false (sym e))
-is_wanted (Some n) size e = ap Some (eqb-true n size e)
-
-is_blank : (class : Option ℕ) → is_class class None ≡ true → class ≡ None
-is_blank None e = refl
-is_blank (Some n) e = absurd (true≢false (sym e))
-
 module _ {S : Type 0} (number : S → ℕ) (records : S → List Standing) where
   -- a place of a page that is open to a block of the size
   pub record IsOpenOn (arena size : ℕ) (wanted : Option ℕ) (o : Option (Kept S)) (page index : ℕ)
@@ -99,13 +95,9 @@ module _ {S : Type 0} (number : S → ℕ) (records : S → List Standing) where
     pub k : Kept S
     pub is : o ≡ Some k
     pub arena_is : k.arena ≡ arena
-    pub class : class_at k.classes page ≡ wanted
+    pub class : suits (class_at k.classes) size wanted page ≡ true
     pub below : index < places_of size
     pub vacant : is_vacant k.greatest (standing_at (records k.slots) (slot page index)) ≡ true
-
-  wanted_is : (wanted : Option ℕ) (class : Option ℕ) → is_class class wanted ≡ true → class ≡ wanted
-  wanted_is None class e = is_blank class e
-  wanted_is (Some size) class e = is_wanted class size e
 
   pub opened_on : (arena size : ℕ) (wanted : Option ℕ) (o : Option (Kept S)) (page index : ℕ)
       → open_by number records arena size wanted o page index ≡ true
@@ -119,8 +111,7 @@ module _ {S : Type 0} (number : S → ℕ) (records : S → List Standing) where
         k = k;
         is = refl;
         arena_is = eqb-true k.arena arena a.0;
-        class = wanted_is wanted
-            (class_at k.classes page) b.0;
+        class = b.0;
         below = ltb-true index (places_of size) c.0;
         vacant = c.1;
       }
@@ -152,7 +143,7 @@ module _ {S : Type 0} (number : S → ℕ) (records : S → List Standing) where
         let f = found_one number records held.segments (segment_of_page page) k on.is in
         let s = settled k f.0 in
         let low : page % 16 < 16 = omega arith in
-        let here = listed_all k (page % 16) index (class_at k.classes (page % 16)) on.class
+        let here = listed_all k (page % 16) index (class_at k.classes (page % 16)) (number_some size _ on.class)
         (s.lists (page % 16) low).all on.below on.vacant in
         let lists : lists_on number held.segments page ≡ lists_at k.lists (page % 16) =
         ap (λ (o : Option (Kept S)). lists_by number o (page % 16)) on.is in
@@ -161,7 +152,7 @@ module _ {S : Type 0} (number : S → ℕ) (records : S → List Standing) where
         let t = queued.there page has in
         let same : Some t.0 ≡ Some key =
         sym t.1 ∙ ap (λ (o : Option (Kept S)). key_by number o (page % 16)) on.is
-        ∙ key_is k (page % 16) on.arena_is on.class in
+        ∙ key_is k (page % 16) on.arena_is (number_some size _ on.class) in
         let is : t.0 ≡ key = cc in
         let none : queue_of held.queues key ≡ [] =
         no_first (queue_of held.queues key) (sym empty) in
@@ -213,7 +204,7 @@ module _ {S : Type 0} (number : S → ℕ) (records : S → List Standing) where
             k = k;
             is = e;
             arena_is = c.0;
-            class = c.1;
+            class = number_has size _ c.1;
             below = placed_below (class_at k.classes (page % 16)) n.0 c.1
                 (s.listed (page % 16) n.0 low n.2);
             vacant = v.vacant;
@@ -230,9 +221,9 @@ module _ {S : Type 0} (number : S → ℕ) (records : S → List Standing) where
     pub blank_there : (page x : ℕ) (o : Option (Kept S))
         → Contains (blank_by number records arena size o page) x → IsOpenOn arena size None o page x
     blank_there page x None c = absurd (omega (arith, c.1))
-    blank_there page x (Some k) c = go (class_at k.classes page) refl c
+    blank_there page x (Some k) c = go (may_begin (class_at k.classes) size page) refl c
       where
-        fits : (b : Bool) → (k.arena == arena) ≡ b → class_at k.classes page ≡ None
+        fits : (b : Bool) → (k.arena == arena) ≡ b → may_begin (class_at k.classes) size page ≡ true
             → Contains (cond b (vacant_in k.greatest (records k.slots) page (places_of size)) []) x
             → IsOpenOn arena size None (Some k) page x
         fits true e none d =
@@ -250,19 +241,21 @@ module _ {S : Type 0} (number : S → ℕ) (records : S → List Standing) where
             }
         fits false e none d = absurd (omega (arith, d.1))
 
-        go : (o : Option ℕ) → class_at k.classes page ≡ o
-            → Contains (blank_of number records arena size page k o) x
+        go : (m : Bool) → may_begin (class_at k.classes) size page ≡ m
+            → Contains (blank_of number records arena size page k m) x
             → IsOpenOn arena size None (Some k) page x
-        go None e d = fits (k.arena == arena) refl e d
-        go (Some n) e d = absurd (omega (arith, d.1))
+        go true e d = fits (k.arena == arena) refl e d
+        go false e d = absurd (omega (arith, d.1))
 
     -- which place that is: of the page at the front
     class_lists : (page : ℕ) (o : Option (Kept S)) (k : Kept S) (lists : PageLists) → o ≡ Some k
-        → class_at k.classes page ≡ Some size → begun_or (blank_by number records arena size o page)
-        lists ≡ lists
+        → class_at k.classes page ≡ Some size
+        → begun_or (blank_by number records arena size o page) lists ≡ lists
     class_lists page o k lists is class =
         ap (λ (p : Option (Kept S)). begun_or (blank_by number records arena size p page) lists) is
-        ∙ ap (λ (c : Option ℕ). begun_or (blank_of number records arena size page k c) lists) class
+        ∙ ap (λ (m : Bool). begun_or (blank_of number records arena size page k m) lists)
+        (begins_not (class_at k.classes) size page
+        (λ m. none-some size (sym (m.none page (omega arith) (omega arith)) ∙ class)))
 
     pub chosen_front : (page : ℕ) → front_page number records held arena size ≡ Some page
         → (f : IsFront page) → chosen_place number records held arena size ≡ Some
@@ -275,7 +268,7 @@ module _ {S : Type 0} (number : S → ℕ) (records : S → List Standing) where
         (option_or o (blank_page number records held arena size))) front
         ∙ ap (λ (l : PageLists). option_map (λ (index : ℕ). page * 512 + index) (next_index l))
         (class_lists (page % 16) (segment_in number held.segments (segment_of_page page)) on.k
-        (lists_on number held.segments page) on.is on.class)
+        (lists_on number held.segments page) on.is (number_some size _ on.class))
         ∙ ap (option_map (λ (index : ℕ). page * 512 + index)) f.next
 
     -- or of the first blank page

@@ -28,6 +28,7 @@ use Rattle.hg_segment.specs.Right.{is_vacant}
 use Rattle.hg_segment.proofs.WentOut.{vacant_home}
 use Rattle.hg_heap.specs.Held.{Held, kind_of, segment_in, is_held, lists_by, lists_on}
 use Rattle.hg_heap.specs.Held.{has_place, is_some_place}
+use Rattle.hg_heap.proofs.Blanks.{blank_classed}
 use Rattle.hg_heap.specs.Choice.{blank_of, blank_by, lists_for, begun_or}
 use Rattle.hg_heap.specs.Lists.{GivenOut}
 use Rattle.hg_heap.specs.Requeued.{requeued}
@@ -162,8 +163,8 @@ module _ {S : Type 0} (number : S → ℕ) (records : S → List Standing) where
         ap (λ (o : Option (Kept S)). begun_or (blank_by number records arena size o at)
         (lists_by number o at))
         (found_is number items (segment_of_page page) found one h.here)
-        ∙ ap (λ (c : Option ℕ). begun_or (blank_of number records arena size at one c)
-        (lists_at one.lists at)) keyed.0
+        ∙ ap (λ (xs : List ℕ). begun_or xs (lists_at one.lists at))
+        (blank_classed number records arena size at size one keyed.0)
 
     pub given_out : GivenOut number records arena size page handle.place.index items new
     given_out = record {

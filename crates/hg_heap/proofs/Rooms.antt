@@ -12,9 +12,8 @@ use Rattle.hg_place.specs.declared.standing.Standing.{Standing}
 use Rattle.hg_place.specs.Places.{segment_of, segment_of_page, page_of, index_of}
 use Rattle.hg_size.specs.Sizes.{sizes, places_of}
 use Rattle.hg_machine.specs.Policy.{Policy, arena_of}
-use Rattle.hg_machine.specs.Room.{is_class}
 use Rattle.hg_segment.specs.Kept.{Kept, class_at}
-use Rattle.hg_segment.proofs.Turned.{places_small}
+use Rattle.hg_size.proofs.Table.{places_small}
 use Rattle.hg_agreement.specs.Views.{View}
 use Rattle.hg_agreement.specs.Seen.{is_open_to_in, has_open_in, is_room_in, has_room_in}
 use Rattle.hg_agreement.specs.Seen.{places_of_view}
@@ -26,12 +25,6 @@ use Rattle.hg_heap.specs.Settled.{IsSettled}
 use Rattle.hg_heap.specs.Ties.{heap_view}
 use Rattle.hg_heap.proofs.ViewRoom.{open_by, open_is, found_one}
 use Rattle.hg_heap.proofs.Chosen.{IsOpenOn, opened_on, none_of_class}
-
-class_same : (wanted class : Option ℕ) → class ≡ wanted → is_class class wanted ≡ true
-class_same None None e = refl
-class_same None (Some n) e = absurd (cc)
-class_same (Some size) None e = absurd (cc)
-class_same (Some size) (Some n) e = let same : n ≡ size = cc in rw same (eq-eqb size size refl)
 
 module _ {S : Type 0} (number : S → ℕ) (records : S → List Standing) (small : (s : S)
     → number s < 64) (policy : Policy) (worker : ℕ) (hand : Option ℕ) (generation : ℕ)
@@ -49,7 +42,7 @@ module _ {S : Type 0} (number : S → ℕ) (records : S → List Standing) (smal
       subst (λ (p : Option (Kept S)). open_by number records arena size wanted p page index ≡ true)
       (sym on.is)
       (and_from _ _ (ap (λ (n : ℕ). n == arena) on.arena_is ∙ eq-eqb arena arena refl)
-      (and_from _ _ (class_same wanted (class_at on.k.classes page) on.class)
+      (and_from _ _ on.class
       (and_from _ _ (lt-ltb index (places_of size) on.below) on.vacant)))
 
   -- a place is open as its page says

@@ -11,7 +11,8 @@ use Rattle.hg_place.specs.Standings.{standing_at, is_home, standing_generation}
 use Rattle.hg_size.specs.Sizes.{places_of}
 use Rattle.hg_machine.specs.Policy.{Policy, arena_of}
 use Rattle.hg_machine.specs.Holders.{is_number}
-use Rattle.hg_machine.specs.Room.{is_class}
+use Rattle.hg_machine.specs.Room.{suits}
+use Rattle.hg_machine.proofs.Suits.{suits_within}
 use Rattle.hg_segment.specs.Kept.{Kept, slot, class_at}
 use Rattle.hg_segment.specs.Right.{is_vacant}
 use Rattle.hg_agreement.specs.Holdings.{Holding, holding_of, class_told, standing_told, has}
@@ -60,7 +61,7 @@ module _ {S : Type 0} (number : S → ℕ) (records : S → List Standing) where
   abbrev pub open_by : ℕ → ℕ → Option ℕ → Option (Kept S) → ℕ → ℕ → Bool
   open_by arena size wanted None page index = false
   open_by arena size wanted (Some k) page index =
-      (k.arena == arena) && (is_class (class_at k.classes page) wanted
+      (k.arena == arena) && (suits (class_at k.classes) size wanted page
       && (nat_lt index (places_of size) && is_vacant k.greatest
       (standing_at (records k.slots) (slot page index))))
 
@@ -73,7 +74,7 @@ module _ {S : Type 0} (number : S → ℕ) (records : S → List Standing) where
   told policy arena size wanted o place segment =
       is_some o
       && (is_number arena (arena_of policy segment)
-      && (is_class (class_told o (page_of place % 16)) wanted
+      && (suits (class_told o) size wanted (page_of place % 16)
       && (nat_lt (index_of place) (places_of size)
       && (is_home (standing_told o (place % 8192))
       && not (standing_generation (standing_told o (place % 8192)) == policy.max_generation)))))
@@ -90,20 +91,20 @@ module _ {S : Type 0} (number : S → ℕ) (records : S → List Standing) where
       ap (arena_of policy) (sym f.1) ∙ of.arena k f.0 in
       let g = of.greatest k f.0 in
       let at : place % 8192 ≡ page_of place % 16 * 512 + index_of place = omega arith in
-      ap (λ (o : Option ℕ). is_number arena o && (is_class (class_at k.classes (page_of place % 16))
-      wanted && (nat_lt (index_of place)
+      ap (λ (o : Option ℕ). is_number arena o && (suits (class_at k.classes) size wanted (page_of place % 16)
+      && (nat_lt (index_of place)
       (places_of size) && (is_home (standing_at (records k.slots) (place % 8192)) && not
       (standing_generation (standing_at (records k.slots) (place % 8192))
       == policy.max_generation))))) a
-      ∙ ap (λ (n : ℕ). (k.arena == arena) && (is_class (class_at k.classes (page_of place % 16))
-      wanted && (nat_lt (index_of place)
+      ∙ ap (λ (n : ℕ). (k.arena == arena) && (suits (class_at k.classes) size wanted (page_of place % 16)
+      && (nat_lt (index_of place)
       (places_of size) && (is_home (standing_at (records k.slots) (place % 8192)) && not
       (standing_generation (standing_at (records k.slots) (place % 8192)) == n))))) (sym g)
-      ∙ ap (λ (b : Bool). (k.arena == arena) && (is_class (class_at k.classes (page_of place % 16))
-      wanted && (nat_lt (index_of place) (places_of size) && b)))
+      ∙ ap (λ (b : Bool). (k.arena == arena) && (suits (class_at k.classes) size wanted (page_of place % 16)
+      && (nat_lt (index_of place) (places_of size) && b)))
       (vacant_is (standing_at (records k.slots) (place % 8192)) k.greatest)
-      ∙ ap (λ (n : ℕ). (k.arena == arena) && (is_class (class_at k.classes (page_of place % 16))
-      wanted && (nat_lt (index_of place) (places_of size) && is_vacant k.greatest
+      ∙ ap (λ (n : ℕ). (k.arena == arena) && (suits (class_at k.classes) size wanted (page_of place % 16)
+      && (nat_lt (index_of place) (places_of size) && is_vacant k.greatest
       (standing_at (records k.slots) n)))) at
 
   -- what the view tells of it
@@ -117,12 +118,16 @@ module _ {S : Type 0} (number : S → ℕ) (records : S → List Standing) where
   open_is policy worker hand generation segments arena size wanted place of =
       let same : segment_of_page (page_of place) ≡ segment_of place = omega arith in
       let hs = map (holding number records) segments in
-      ap (λ (s : ℕ). has hs
-      (segment_of place) && (is_number arena (arena_of policy (segment_of place)) && (is_class
-      (class_told (holding_of hs s) (page_of place % 16)) wanted && (nat_lt (index_of place)
+      ap (λ (b : Bool). has hs
+      (segment_of place) && (is_number arena (arena_of policy (segment_of place)) && (b
+      && (nat_lt (index_of place)
       (places_of size) && (is_home (standing_told (holding_of hs (segment_of place)) (place % 8192))
       && not (standing_generation (standing_told (holding_of hs (segment_of place)) (place % 8192))
-      == policy.max_generation)))))) same
+      == policy.max_generation))))))
+      (suits_within (class_told (holding_of hs (segment_of place)))
+      (λ page. class_told (holding_of hs (segment_of_page page)) (page % 16)) size wanted
+      (page_of place)
+      (λ q e. ap (λ s. class_told (holding_of hs s) (q % 16)) (e ∙ same)))
       ∙ ap (λ (o : Option Holding). told policy arena size wanted o place (segment_of place))
       (holding_in segments (segment_of place))
       ∙ told_by policy segments arena size wanted place

@@ -1,5 +1,5 @@
 -- The order of choice: which place of a heap is given out next.
-use Rattle.std.specs.Prelude.{ℕ, ◌+◌, ◌*◌, ◌%◌, ◌==◌, List, [], ◌∷◌, Option, Some}
+use Rattle.std.specs.Prelude.{ℕ, ◌+◌, ◌*◌, ◌%◌, ◌==◌, Bool, true, false, List, [], ◌∷◌, Option, Some}
 use Rattle.std.specs.Prelude.{None, find, option_map, option_and_then, slice_get}
 use Rattle.std.specs.Prelude.{if◌then◌else◌}
 use Rattle.std.specs.Option.{option_or}
@@ -8,6 +8,7 @@ use Rattle.hg_place.specs.declared.standing.Standing.{Standing}
 use Rattle.hg_place.specs.Places.{segment_of_page}
 use Rattle.hg_size.specs.Sizes.{number_of_size, places_of}
 use Rattle.hg_size.specs.SizeLaws.{key_of}
+use Rattle.hg_size.specs.Runs.{may_begin}
 use Rattle.hg_page.specs.PageLists.{PageLists, fresh}
 use Rattle.hg_queue.specs.Queues.{queue_of}
 use Rattle.hg_segment.specs.Kept.{Kept, refilled}
@@ -25,16 +26,17 @@ begun_or [] lists = lists
 begun_or (x ∷ xs) lists = fresh (x ∷ xs)
 
 module _ {S : Type 0} (number : S → ℕ) (records : S → List Standing) where
-  -- the places of a page without a class in a segment of the arena that a block of this size may
-  -- take, rising: those that are home and not worn; of another page none
-  abbrev pub blank_of : ℕ → ℕ → ℕ → Kept S → Option ℕ → List ℕ
-  blank_of arena size page k None =
+  -- the places that a block of this size may take of a page that may get its class, in a segment of
+  -- the arena, rising: those that are home and not worn; of another page none
+  abbrev pub blank_of : ℕ → ℕ → ℕ → Kept S → Bool → List ℕ
+  blank_of arena size page k true =
       if k.arena == arena then vacant_in k.greatest (records k.slots) page (places_of size) else []
-  blank_of arena size page k (Some other) = []
+  blank_of arena size page k false = []
 
   abbrev pub blank_by : ℕ → ℕ → Option (Kept S) → ℕ → List ℕ
   blank_by arena size None page = []
-  blank_by arena size (Some k) page = blank_of arena size page k (class_in k.classes page)
+  blank_by arena size (Some k) page =
+      blank_of arena size page k (may_begin (class_in k.classes) size page)
 
   abbrev pub blank_on : List (Kept S) → ℕ → ℕ → ℕ → List ℕ
   blank_on segments arena size page =
@@ -45,7 +47,7 @@ module _ {S : Type 0} (number : S → ℕ) (records : S → List Standing) where
   front_page held arena size =
       slice_get (queue_of held.queues (key_of arena (number_of_size size))) 0
 
-  -- the first page, by segment and page, that has no class and a place for a block of the size
+  -- the first page, by segment and page, that may get the class of the size and has a place for it
   abbrev pub blank_page : Held S → ℕ → ℕ → Option ℕ
   blank_page held arena size =
       find (λ page. is_some_place (blank_on held.segments arena size page)) all_pages

@@ -33,8 +33,8 @@ unfoldable pub all_pages : List ℕ
 all_pages = range_with_len 0 PAGES
 
 -- the pages of a segment by their numbers, rising
-unfoldable pub pages_of : ℕ → List ℕ
-pages_of segment = range_with_len (segment * SEGMENT_PAGES) SEGMENT_PAGES
+unfoldable pub pages_in : ℕ → List ℕ
+pages_in segment = range_with_len (segment * SEGMENT_PAGES) SEGMENT_PAGES
 
 module _ {S : Type 0} (number : S → ℕ) where
   abbrev pub is_of : ℕ → Kept S → Bool

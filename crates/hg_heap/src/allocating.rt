@@ -15,7 +15,7 @@ ghost use Rattle.hg_machine.specs.declared.Answer.TheVariants as Answer;
 ghost use Rattle.hg_agreement.specs.Views.{Shown};
 ghost use Rattle.hg_page.specs.PageLists.{fresh};
 ghost use Rattle.hg_queue.specs.Queues.{queue_of};
-ghost use Rattle.hg_heap.specs.Held.{lists_on, class_on, has_place, is_some_place, pages_of};
+ghost use Rattle.hg_heap.specs.Held.{lists_on, class_on, has_place, is_some_place, pages_in};
 ghost use Rattle.hg_heap.specs.Held.{KeepsOtherLists};
 ghost use Rattle.hg_heap.specs.Begun.{Begun};
 ghost use Rattle.hg_heap.specs.Opened.{Opened};
@@ -114,8 +114,8 @@ impl<S: SlotWords> Heap<S> {
         Some(self.give_out(arena, class, page, owner))
     }
 
-    /// The page to give a place out of: the front of the queue, else the first without a class that
-    /// has room for a block of this one, which it gets now.
+    /// The page to give a place out of: the front of the queue, else the first at which a block may
+    /// begin and finds a place, which gets the class now.
     fn page_for(&mut self, arena: u8, class: Class) -> Option<u16>
         requires { arena < ARENAS }
         ensures none { IfNone result ((self.new ≡ self.old)
@@ -135,7 +135,7 @@ impl<S: SlotWords> Heap<S> {
         Some(page)
     }
 
-    /// The first page, by segment and page, that has no class and a place for a block of this one.
+    /// The first page, by segment and page, that may get the class and has a place for its blocks.
     fn blank_page(&self, arena: u8, class: Class) -> Option<u16>
         ensures first { result ≡ blank_page S.number S.records self.now arena class }
         ensures below { IfSome result (λ page. page < PAGES) }
@@ -154,44 +154,25 @@ impl<S: SlotWords> Heap<S> {
     fn blank_in(&self, segment: u8, arena: u8, class: Class) -> Option<u16>
         requires { segment < MAX_SEGMENTS }
         ensures first { result ≡ find (λ page. is_some_place
-            (blank_on S.number S.records self.now.segments arena class page)) (pages_of segment) }
+            (blank_on S.number S.records self.now.segments arena class page)) (pages_in segment) }
         ensures below { IfSome result (λ page. page < PAGES) }
         ensures blank { IfSome result (λ page. is_some_place
             (blank_on S.number S.records self.now.segments arena class page) ≡ true) }
     {
-        if !self.holds(segment) {
+        let Some(found) = self.found(segment) else {
+            return None;
+        };
+        let held = &self.segments[found as usize];
+        if held.arena() != arena {
             return None;
         }
-        let first = u16::from(segment) * SEGMENT_PAGES as u16;
-        for page in 0..SEGMENT_PAGES as u16 {
-            if self.is_blank(first + page, arena, class) {
-                return Some(first + page);
-            }
-        }
-        None
-    }
-
-    /// Whether a page has no class, and a place for a block of this one.
-    fn is_blank(&self, page: u16, arena: u8, class: Class) -> bool
-        requires { page < PAGES }
-        ensures { result ≡ is_some_place
-            (blank_on S.number S.records self.now.segments arena class page) }
-    {
-        let Some(found) = self.found((page / SEGMENT_PAGES as u16) as u8) else {
-            return false;
+        let Some(page) = held.first_begin(class) else {
+            return None;
         };
-        let segment = &self.segments[found as usize];
-        let page = (page % SEGMENT_PAGES as u16) as u8;
-        if segment.arena() != arena {
-            return false;
-        }
-        if segment.class_of(page).is_some() {
-            return false;
-        }
-        segment.has_vacant(page, class)
+        Some(u16::from(segment) * SEGMENT_PAGES as u16 + u16::from(page))
     }
 
-    /// Gives a page without a class this one, and puts it to the front of its queue.
+    /// Gives a page that may get this class the class, and puts it to the front of its queue.
     fn begin(&mut self, arena: u8, class: Class, page: u16)
         requires page { page < PAGES }
         requires blank { is_some_place
@@ -206,6 +187,8 @@ impl<S: SlotWords> Heap<S> {
         ensures queued { Contains
             (queue_of self.new.queues (key_of arena (number_of_size class))) page }
     {
+        // a class is a size of the table
+        let _size = block_words(class);
         let Some(found) = self.found((page / SEGMENT_PAGES as u16) as u8) else {
             unreachable!()
         };

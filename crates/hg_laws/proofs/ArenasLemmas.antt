@@ -24,7 +24,7 @@ use Rattle.hg_machine.specs.Request.{size_of}
 use Rattle.hg_machine.specs.Refusal.{refusal, alloc_refusal}
 use Rattle.hg_machine.specs.Steps.{Step}
 use Rattle.hg_machine.proofs.Cases.{refused_changes_nothing}
-use Rattle.hg_machine.proofs.Gives.{number_some}
+use Rattle.hg_machine.proofs.Suits.{number_some}
 use Rattle.hg_machine.proofs.Preserves.{steps_keep_policy}
 use Rattle.hg_laws.specs.Asked.{actor_of, IsDenied}
 use Rattle.hg_laws.specs.Along.{AtEach}

@@ -12,7 +12,7 @@ use Rattle.hg_machine.specs.State.{State, record_at, class_at}
 use Rattle.hg_machine.specs.declared.Answer.{Answer}
 use Rattle.hg_machine.specs.declared.Answer.TheVariants as answer
 use Rattle.hg_machine.specs.Holders.{holds, is_in_arena}
-use Rattle.hg_machine.specs.Room.{is_class, is_open_to, has_open, is_room}
+use Rattle.hg_machine.specs.Room.{suits, is_open_to, has_open, is_room}
 use Rattle.hg_machine.specs.Denial.{is_admitted, denial_on, denial, slot_at}
 use Rattle.hg_machine.proofs.Allowed.{step}
 use Rattle.std.proofs.Common.{Bool, false, if◌then◌else◌}
@@ -73,7 +73,7 @@ open_home : (s : State) (worker arena size : ℕ) (wanted : Option ℕ) (p : ℕ
 open_home s worker arena size wanted p e =
     let a = and_parts (holds s worker (segment_of p)) _ e in
     let b = and_parts (is_in_arena s arena (segment_of p)) _ a.1 in
-    let c = and_parts (is_class (class_at s (page_of p)) wanted) _ b.1 in
+    let c = and_parts (suits (class_at s) size wanted (page_of p)) _ b.1 in
     let d = and_parts _ _ c.1 in
     (and_parts (is_home (record_at s p).life) _ d.1).0
 

@@ -25,7 +25,7 @@ use Rattle.hg_machine.specs.Served.{IsServed}
 use Rattle.hg_machine.specs.Steps.{successor, Step, Run}
 use Rattle.hg_machine.specs.Sweeps.{is_sent_to}
 use Rattle.hg_machine.proofs.Cases.{step_cases}
-use Rattle.hg_machine.proofs.Gives.{number_some}
+use Rattle.hg_machine.proofs.Suits.{number_some}
 use Rattle.hg_machine.proofs.Keeps.{set_cases}
 use Rattle.hg_machine.proofs.Opening.{all_same}
 use Rattle.hg_machine.proofs.Preserves.{steps_keep_policy}

@@ -34,7 +34,9 @@ use Rattle.hg_machine.specs.Holders.{next_of}
 use Rattle.hg_machine.specs.Changes.{given_out, part, write, with_life}
 use Rattle.hg_machine.specs.Denial.{denial}
 use Rattle.hg_machine.specs.Request.{size_of}
-use Rattle.hg_machine.specs.Room.{is_class, is_open_to, has_open, is_room}
+use Rattle.hg_machine.specs.Holders.{is_number}
+use Rattle.hg_machine.proofs.Suits.{number_some}
+use Rattle.hg_machine.specs.Room.{is_open_to, has_open, is_room}
 use Rattle.hg_machine.specs.Refusal.{refusal, denial_or}
 use Rattle.hg_machine.specs.Served.{IsServed}
 use Rattle.hg_machine.specs.Steps.{successor}
@@ -256,15 +258,11 @@ workers_keep_apart s w e a new sound h = elim (step_cases s w e a new h) as (λ 
   | inr is ↦ same_leaves s w e a new is.same
 ]
 
-wanted_class : (c : Option ℕ) (size : ℕ) → is_class c (Some size) ≡ true → c ≡ Some size
-wanted_class None size e = absurd (cc)
-wanted_class (Some n) size e = ap Some (eqb-true n size e)
-
 open_class : (s : State) (worker arena size p : ℕ) → is_open_to s worker arena size (Some size) p ≡ true → class_at s (page_of p) ≡ Some size
 open_class s worker arena size p e =
     let a = and_parts (holds s worker (segment_of p)) _ e in
     let b = and_parts (is_in_arena s arena (segment_of p)) _ a.1 in
-    wanted_class _ size (and_parts (is_class (class_at s (page_of p)) (Some size)) _ b.1).0
+    number_some size _ (and_parts (is_number size (class_at s (page_of p))) _ b.1).0
 
 none_open : (s : State) (worker arena size : ℕ) (place : ℕ) → has_open s worker arena size (Some size) ≡ false → place < length s.records → is_open_to s worker arena size (Some size) place ≡ false
 none_open s worker arena size place none below = false_from_ne_true _ (λ t.

@@ -17,4 +17,5 @@ pub mod Listed
 pub mod Looks
 pub mod ShownLemmas
 pub mod Serves
+pub mod Suits
 pub mod Unforbidden

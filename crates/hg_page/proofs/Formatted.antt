@@ -6,6 +6,7 @@ use Rattle.std.proofs.lemmas.Bool.{cases_lt}
 use Rattle.std.proofs.lemmas.List.Elements.{Contains-append_left}
 use Rattle.hg_lists.specs.Chains.{chain}
 use Rattle.hg_lists.specs.Repeats.{Lacks}
+use Rattle.hg_size.specs.Sizes.{pages_of}
 use Rattle.hg_page.specs.Links.{last_of}
 use Rattle.hg_page.specs.Shapes.{Shape, shape_of, start_of}
 use Rattle.hg_page.specs.PageLists.{PageLists, listed, unworn, fresh}
@@ -29,12 +30,12 @@ pub unset_all : (used : List Bool) → used ≡ replicate 512 false → (i : ℕ
 unset_all used e i = rw e (unset 512 i)
 
 -- a page takes another size, loses its lists, and nothing is used
-pub emptied : (p : Page) (words : List ℕ) (size places : ℕ) → IsLinked p words → 1 ≤ size → size * places ≤ 512 → places ≤ 512 → Links (empty_page p size places) words [] []
-emptied p words size places h sized inside count = record {
+pub emptied : (p : Page) (words : List ℕ) (size places : ℕ) → IsLinked p words → 1 ≤ size → size * places ≤ pages_of size * 512 → p.base + pages_of size * 512 ≤ 8192 → places ≤ 512 → Links (empty_page p size places) words [] []
+emptied p words size places h sized inside within count = record {
   sized = sized;
   count = count;
   fits = inside;
-  within = h.within;
+  within = within;
   whole = h.whole;
   freed = refl;
   locals = refl;
@@ -190,8 +191,8 @@ pub new_links : (p : Page) (words : List ℕ) → p.size ≡ 1 → p.places ≡ 
 new_links p words size places base free local idle all unset whole = record {
   sized = omega arith;
   count = omega arith;
-  fits = rw places (omega arith);
-  within = base;
+  fits = rw (places, size) (omega arith);
+  within = rw size (omega (arith, base));
   whole = whole;
   freed = free;
   locals = local;

@@ -7,6 +7,7 @@ use Rattle.std.proofs.lemmas.Bool.{cases_eq}
 use Rattle.std.proofs.lemmas.List.Sums.{sum_by-set}
 use Rattle.hg_lists.specs.Chains.{chain}
 use Rattle.hg_lists.specs.Repeats.{HasNoRepeats}
+use Rattle.hg_size.specs.Sizes.{pages_of}
 use Rattle.hg_page.specs.Links.{last_of}
 use Rattle.hg_page.specs.Shapes.{shape_of, start_of}
 use Rattle.hg_page.specs.Links.{link_at, IsSpare, Links, IsLinked}
@@ -25,7 +26,7 @@ pub linked : (p : Page) (words free local : List ℕ) → Links p words free loc
 linked p words free local h = rw (free-is p words free local h, local-is p words free local h) h
 
 -- a block begins inside the page
-pub block_begins : (size places index : ℕ) → index < places → 1 ≤ size → size * places ≤ 512 → size * index < 512
+pub block_begins : (size places index : ℕ) → index < places → 1 ≤ size → size * places ≤ pages_of size * 512 → size * index < 512
 block_begins size places index below sized fits = omega (arith, mul-le-mul_left size (let h : index + 1 ≤ places = omega arith in h))
 
 -- two blocks begin apart

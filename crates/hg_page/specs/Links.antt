@@ -6,6 +6,7 @@ use Rattle.hg_place.specs.declared.geometry.TheConstants.{PAGE_WORDS, PAGE_PLACE
 use Rattle.hg_lists.specs.Chains.{chain, IsChain}
 use Rattle.hg_lists.specs.Repeats.{HasNoRepeats}
 use Rattle.hg_page.specs.declared.page.Page.{Page}
+use Rattle.hg_size.specs.Sizes.{pages_of}
 use Rattle.hg_page.specs.Shapes.{shape_of, start_of}
 use Rattle.hg_page.specs.PageLists.{PageLists}
 
@@ -30,13 +31,14 @@ last_of before (x ∷ xs) = last_of x xs
 abbrev pub IsSpare : Page → ℕ → Type 0
 IsSpare p index = (index < p.places) × (slice_index_or p.used index true ≡ false)
 
--- what a page keeps of its lists: its blocks lie in the page and the page in the segment, both
--- lists are linked to their ends, no index stands on them twice, and none that is used
+-- what a page keeps of its lists: its blocks lie in the pages that they may lie over, and these in
+-- the segment; both lists are linked to their ends, no index stands on them twice, and none that is
+-- used
 pub record Links (p : Page) (words free local_free : List ℕ) : Type 0 where
   pub sized : 1 ≤ p.size
   pub count : p.places ≤ PAGE_PLACES
-  pub fits : p.size * p.places ≤ PAGE_WORDS
-  pub within : p.base + PAGE_WORDS ≤ SEGMENT_WORDS
+  pub fits : p.size * p.places ≤ pages_of p.size * PAGE_WORDS
+  pub within : p.base + pages_of p.size * PAGE_WORDS ≤ SEGMENT_WORDS
   pub whole : length words ≡ SEGMENT_WORDS
   pub freed : IsChain (link_at p words) p.free free
   pub locals : IsChain (link_at p words) p.local local_free

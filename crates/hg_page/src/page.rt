@@ -5,7 +5,7 @@ ghost use Rattle.std.specs.Prelude.{MatchOption, IfSome};
 ghost use Rattle.hg_place.specs.declared.geometry.TheConstants.{PAGE_PLACES, PAGE_WORDS};
 ghost use Rattle.hg_place.specs.declared.geometry.TheConstants.{SEGMENT_PAGES, SEGMENT_WORDS};
 ghost use Rattle.hg_lists.specs.Repeats.{Lacks};
-ghost use Rattle.hg_size.specs.Sizes.{places_of};
+ghost use Rattle.hg_size.specs.Sizes.{pages_of, places_of};
 ghost use Rattle.hg_page.specs.Shapes.{shape_of, start_of};
 ghost use Rattle.hg_page.specs.PageLists.{listed, unworn, IsUsed, IsIdle, Pops};
 ghost use Rattle.hg_page.specs.PageLists.{unused, pushed, spliced, freed, fresh};
@@ -66,9 +66,11 @@ impl Page {
     }
 
     /// Gives the page blocks of a class, whatever was on its lists or used. The places that aren't
-    /// worn are free, in rising order, and none is used.
+    /// worn are free, in rising order, and none is used. A block of several pages is to end in the
+    /// segment.
     pub fn format(&mut self, memory: &mut WordMemory, class: Class, worn: &Worn)
-        requires { IsLinked self.old memory.old }
+        requires linked { IsLinked self.old memory.old }
+        requires inside { (shape_of self.old).base + pages_of class * PAGE_WORDS ≤ SEGMENT_WORDS }
         ensures linked { IsLinked self.new memory.new }
         ensures formatted { lists_of self.new memory.new
             ≡ fresh (unworn worn.now 0 (places_of class)) }
@@ -224,7 +226,8 @@ impl Page {
     fn resize(&mut self, memory: &WordMemory, size: u16, places: u16)
         requires linked { IsLinked self.old memory.now }
         requires sized { 1 ≤ size }
-        requires inside { size * places ≤ PAGE_WORDS }
+        requires inside { size * places ≤ pages_of size * PAGE_WORDS }
+        requires within { self.old.base + pages_of size * PAGE_WORDS ≤ SEGMENT_WORDS }
         requires count { places ≤ PAGE_PLACES }
         ensures linked { IsLinked self.new memory.now }
         ensures emptied { lists_of self.new memory.now ≡ fresh [] }

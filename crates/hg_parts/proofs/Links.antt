@@ -26,6 +26,7 @@ settled_right policy s arena greatest h = record {
   holding = record {
     number = slice_get_within policy.segments s.slots.segment s.arena arena;
     sizes = h.sizes;
+    runs = h.runs;
     whole = h.words;
     bounded =
         λ at. subst (λ k. standing_generation (standing_at (plain_records s.slots) at) ≤ k) greatest

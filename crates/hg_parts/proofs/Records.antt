@@ -8,7 +8,7 @@ use Rattle.std.proofs.lemmas.Bool.Decides.{nat_tests}
 use Rattle.std.proofs.lemmas.List.{get_or_past}
 use Rattle.std.proofs.lemmas.List.Elements.{recursion_from_All}
 use Rattle.std.proofs.lemmas.List.FromFn.{length-map-range_with_len}
-use Rattle.hg_size.specs.Sizes.{places_of}
+use Rattle.hg_size.specs.Sizes.{pages_of, places_of}
 use Rattle.hg_place.specs.declared.standing.Standing.{Standing}
 use Rattle.hg_place.specs.declared.standing.Standing.TheVariants.{Home, Open}
 use Rattle.hg_place.specs.Words.{bit_of}
@@ -58,7 +58,8 @@ sound_of b (Open g o) max index words class low out f =
 
 -- its words are as many as its class says
 block_class : (st : Standing) (ws : List ℕ) (page index : ℕ) (class : Option ℕ) → is_home st ≡ false
-    → length ws ≡ 8192 → page < 16 → IsBlockPlace class index
+    → length ws ≡ 8192 → ((n : ℕ) → class ≡ Some n → page + pages_of n ≤ 16)
+    → IsBlockPlace class index
     → (class ≡ Some (length (block_by st (block_of_class ws page index class))))
     × (index < places_of (length (block_by st (block_of_class ws page index class))))
 block_class (Home g) ws page index class away whole low on = absurd (cc)
@@ -127,7 +128,8 @@ module _ (parts : Parts) (h : AreSegmentsRight parts) where
       (at % 512) (block_of one.holding at) (class_of one.holding (at / 512))
       (r.holding.bounded at) (r.holding.given_out at)
       (λ away. block_class st one.holding.words (at / 512) (at % 512)
-      (class_of one.holding (at / 512)) away r.holding.whole (omega (arith, low))
+      (class_of one.holding (at / 512)) away r.holding.whole
+      (λ n e. let fit = (r.holding.runs (at / 512)).inside n e in omega (arith, fit, low))
       (r.holding.placed (at / 512) (at % 512) (omega (arith, low)) (omega arith)
       (subst (λ (k : ℕ). is_home (standing_at one.holding.standings k) ≡ false) (sym at-is) away)))
 

@@ -8,6 +8,10 @@ use Rattle.std.proofs.lemmas.Bool.{cases_lt}
 use Rattle.std.proofs.lemmas.Bool.Decides.{nat_tests}
 use Rattle.std.proofs.lemmas.List.{get_or_past}
 use Rattle.std.proofs.lemmas.List.FromFn.{length-map-range_with_len}
+use Rattle.std.proofs.lemmas.Option.{none-some}
+use Rattle.hg_size.specs.Runs.{AreRuns, IsRunAt}
+use Rattle.hg_size.proofs.Covers.{run_small}
+use Rattle.hg_size.proofs.Within.{run_within}
 use Rattle.hg_size.specs.Sizes.{sizes}
 use Rattle.hg_place.specs.Words.{bit_of}
 use Rattle.hg_place.specs.Places.{segment_of_page}
@@ -15,6 +19,7 @@ use Rattle.hg_machine.specs.State.{Holder, fresh, orphan, held, class_at, holder
 use Rattle.hg_machine.specs.Holders.{is_orphan}
 use Rattle.hg_machine.specs.Soundness.{IsWhole}
 use Rattle.hg_agreement.specs.Parts.{Plain, Parts, is_of, record_of, class_by, page_class}
+use Rattle.hg_agreement.specs.Holdings.{class_of}
 use Rattle.hg_agreement.specs.Parts.{holder_of, state_of}
 use Rattle.hg_agreement.proofs.Firsts.{count_cons, count_append}
 use Rattle.hg_agreement.proofs.Openings.{count_numbers}
@@ -25,7 +30,7 @@ use Rattle.hg_parts.specs.Accounted.{AccountedPartsAreSound}
 use Rattle.hg_parts.specs.Tidy.{TidyPartsAreSound}
 use Rattle.hg_parts.proofs.Flat.{E, plain_in, holder_in, plain_is, holder_is as spot_is}
 use Rattle.hg_parts.proofs.Founds.{found_each, each_append, each_map, each_held, orphan_found}
-use Rattle.hg_parts.proofs.Records.{right, class_past}
+use Rattle.hg_parts.proofs.Records.{found, right, class_here, class_past}
 use Rattle.hg_parts.proofs.Accounted.{accounted}
 
 -- segments of one holder count as they do without it
@@ -54,6 +59,20 @@ module _ (parts : Parts) (h : AreSegmentsRight parts) where
         (sym (class_is parts page lt ∙ ap (λ (x : Option Plain). class_by x (page % 16))
         (plain_is parts (segment_of_page page))) ∙ e)
     | inr ge ↦ absurd (let none = class_past parts h page ge in cc)
+  ]
+
+  -- blocks lie apart over pages
+  pub runs : AreRuns (class_at (state_of parts))
+  runs page = elim (cases_lt page (length parts.policy.segments * 16))
+  as (λ _. IsRunAt (class_at (state_of parts)) page) [
+    | inl lt ↦ (let f = found parts h (segment_of_page page) (omega (arith, lt)) in
+        run_within (class_of f.0.1.holding) (class_at (state_of parts)) page
+        (λ q same. class_here parts h q f.0 (omega (arith, lt, same))
+        (ap (found_in parts) same ∙ f.1))
+        ((right parts h (segment_of_page page) f.0 f.1).holding.runs (page % 16)))
+    | inr ge ↦ run_small (class_at (state_of parts)) page
+        (λ q size same is. absurd (none-some size
+        (sym (class_past parts h q (omega (arith, ge, same))) ∙ is)))
   ]
 
   -- holders are workers
@@ -158,6 +177,7 @@ accounted_sound parts policy right whole = (
     whole = complete parts right;
     places = λ place. (whole place).sound;
     classes = classes parts right;
+    runs = runs parts right;
     workers = workers parts right;
     orphans = orphans parts right;
   },

@@ -69,7 +69,7 @@ fn pool_keeps_segments(rt: HostRuntime) {
     let mut pool = Pool::new(rt.alloc()).expect(&rt, "memory");
     let mut held = segment(&rt, rt.alloc(), 7, 3);
     let class = class_of(512).expect(&rt, "a class");
-    assert!(&rt; held.class_of(2).is_none());
+    assert!(&rt; held.may_begin(2, class));
     held.assign_page(2, class);
     let handle = held.open_in(2, 5).expect(&rt, "a place");
     put(&rt, &mut pool, held, true);
@@ -127,7 +127,7 @@ fn live() -> u64
 fn with_block(rt: &impl Abort, alloc: Global, number: u8) -> (Segment<PlainWords>, Place) {
     let mut one = segment(rt, alloc, number, 0);
     let class = class_of(512).expect(rt, "a class");
-    assert!(rt; one.class_of(0).is_none());
+    assert!(rt; one.may_begin(0, class));
     one.assign_page(0, class);
     let block = one.open_in(0, 7).expect(rt, "a place");
     (one, block.place)

@@ -1,12 +1,13 @@
 -- The worked grants.
 use Rattle.std.proofs.Common.{refl}
 use Rattle.hg_size.specs.Sizes as sizes
+use Rattle.hg_size.specs.Runs as runs
 use Rattle.hg_rows.proofs.Computed.{answered}
 use Rattle.hg_rows.specs.Shorthand.{block}
 use Rattle.hg_rows.specs.Granting.{row_of_eight, EachRightServesItsOwn}
 
 pub each_right_serves_its_own : EachRightServesItsOwn
-unfolding sizes.size_for
+unfolding sizes.size_for runs.may_begin runs.is_covered
 each_right_serves_its_own = record {
   none = answered (((0, refl, refl), refl), (((block, refl, record { room = refl; next = refl }), refl), ((refl, refl), ((refl, refl), ((refl, refl), ((refl, refl), tt))))));
   to_read = answered (((0, refl, refl), refl), (((block, refl, record { room = refl; next = refl }), refl), ((refl, refl), ((refl, refl), ((refl, refl), ((refl, refl), tt))))));

@@ -1,6 +1,7 @@
 -- The worked verdicts.
 use Rattle.std.proofs.Common.{refl}
 use Rattle.hg_size.specs.Sizes as sizes
+use Rattle.hg_size.specs.Runs as runs
 use Rattle.hg_rows.proofs.Computed.{answered}
 use Rattle.hg_rows.specs.Shorthand.{block, next_page}
 use Rattle.hg_rows.specs.Judging.{StaleThenFreedThenArena}
@@ -9,7 +10,7 @@ use Rattle.hg_rows.specs.Judging.{GrantThenHolderThenLength, NoSuchSegment}
 use Rattle.hg_rows.specs.Judging.{LooksShowWhatMayBeListed}
 
 pub stranger_then_stale_then_grant : StrangerThenStaleThenGrant
-unfolding sizes.size_for
+unfolding sizes.size_for runs.may_begin runs.is_covered
 stranger_then_stale_then_grant =
     answered (
       ((0, refl, refl), refl),
@@ -26,7 +27,7 @@ stranger_then_stale_then_grant =
     )
 
 pub grant_then_holder_then_length : GrantThenHolderThenLength
-unfolding sizes.size_for
+unfolding sizes.size_for runs.may_begin runs.is_covered
 grant_then_holder_then_length =
     answered (
       ((0, refl, refl), refl),
@@ -49,11 +50,11 @@ grant_then_holder_then_length =
     )
 
 pub no_such_segment : NoSuchSegment
-unfolding sizes.size_for
+unfolding sizes.size_for runs.may_begin runs.is_covered
 no_such_segment = answered ((refl, refl), ((refl, refl), ((refl, refl), ((refl, refl), tt))))
 
 pub looks_show_what_may_be_listed : LooksShowWhatMayBeListed
-unfolding sizes.size_for
+unfolding sizes.size_for runs.may_begin runs.is_covered
 looks_show_what_may_be_listed =
     answered (
       ((0, refl, refl), refl),
@@ -79,6 +80,6 @@ looks_show_what_may_be_listed =
     )
 
 pub stale_then_freed_then_arena : StaleThenFreedThenArena
-unfolding sizes.size_for
+unfolding sizes.size_for runs.may_begin runs.is_covered
 stale_then_freed_then_arena =
     answered (((0, refl, refl), refl), (((block, refl, record { room = refl; next = refl }), refl), ((refl, refl), ((refl, refl), ((refl, refl), ((refl, refl), tt))))))

@@ -18,7 +18,7 @@ RefillThenAlloc =
 abbrev pub ExactFitThenOverLimit : Type 0
 ExactFitThenOverLimit =
     Answers (start 1 1)
-    (refills 0 0 ∷ allocs 0 bob 64 ∷ allocs 0 bob 1 ∷ allocs 0 bob 4097 ∷ [])
+    (refills 0 0 ∷ allocs 0 bob 64 ∷ allocs 0 bob 1 ∷ allocs 0 bob 65537 ∷ [])
     (answer.Refilled 0 ∷ answer.Block block ∷ answer.Denied rule.OverLimit ∷ answer.TooLarge ∷ [])
 
 -- the limit is told before there is a question of room, also where the worker holds nothing

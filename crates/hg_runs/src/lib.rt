@@ -7,6 +7,8 @@ mod deny_rows;
 #[cfg(test)]
 mod event_rows;
 #[cfg(test)]
+mod large_rows;
+#[cfg(test)]
 mod policies;
 #[cfg(test)]
 mod text_secrets;

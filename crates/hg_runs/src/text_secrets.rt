@@ -29,7 +29,7 @@ static ACTORS: [&str; 4] = ["alice", "bob", "carol", "eve"];
 static ARENAS: [&str; 2] = ["main", "vault"];
 
 /// The bytes that are asked for.
-static BYTES: [u64; 8] = [1, 8, 24, 64, 200, 512, 2000, 4096];
+static BYTES: [u64; 9] = [1, 8, 24, 64, 200, 512, 2000, 4096, 16384];
 
 /// What a served line has in it, and how its answer begins.
 static SERVED: [(&str, &str); 11] = [

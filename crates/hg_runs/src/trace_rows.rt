@@ -55,8 +55,8 @@ range
     )
 }
 
-/// What no class holds, and a limit of a tenant.
-fn large_and_limited(rt: &impl Abort, a: Global, policy: &str) -> Result<(), Fail> {
+/// Limits of tenants, for a block of one page and for one of several.
+fn limits_by_page_and_run(rt: &impl Abort, a: Global, policy: &str) -> Result<(), Fail> {
     answers(
         rt,
         a,
@@ -70,8 +70,8 @@ w0 alloc alice main 1
 ",
         b"segment 0
 ok @0.0.0.1
-large
-large
+denied limit
+denied limit
 ok @0.1.0.1
 denied limit
 ",
@@ -207,7 +207,7 @@ unbound
 /// What one worker alone can ask for.
 fn rows_of_one_worker(rt: &impl Abort, a: Global, policy: &str) -> Result<(), Fail> {
     written_and_read(rt, a, policy)?;
-    large_and_limited(rt, a, policy)?;
+    limits_by_page_and_run(rt, a, policy)?;
     limit_of_classes(rt, a, policy)?;
     charged_by_class(rt, a, policy)?;
     closed_arena(rt, a, policy)?;

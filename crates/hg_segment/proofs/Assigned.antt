@@ -1,8 +1,8 @@
 -- A page without a class is given one.
-use Rattle.std.proofs.Common.{◌≡◌, ℕ, zero, suc, ◌+◌, ◌*◌, ◌<◌, ◌≤◌, Bool, true, false, not, cond, List, ◌∷◌, slice_index, slice_index_or, slice_set, map, refl, sym, ap, ◌∙◌, arith, subst, ◌⊎◌}
+use Rattle.std.proofs.Common.{◌≡◌, ℕ, zero, suc, ◌+◌, ◌*◌, ◌<◌, ◌≤◌, Bool, true, false, not, cond, List, ◌∷◌, slice_index, slice_index_or, slice_set, map, refl, sym, ap, ◌∙◌, arith, subst, inl, inr, ⊎_elim, ◌⊎◌, get_or-set_other, get_or-set_same}
 use Rattle.std.specs.Prelude.{Contains, Option, Some, None, filter}
 use Rattle.std.specs.List.{range_with_len}
-use Rattle.hg_size.specs.Sizes.{sizes, places_of}
+use Rattle.hg_size.specs.Sizes.{sizes, pages_of, places_of}
 use Rattle.hg_page.specs.Shapes.{shape_of}
 use Rattle.hg_page.specs.PageLists.{listed, IsIdle, fresh, unworn}
 use Rattle.hg_page.specs.Links.{lists_of, IsLinked}
@@ -18,7 +18,10 @@ use Rattle.hg_segment.specs.Kept.{class_at}
 use Rattle.hg_segment.specs.Blocks.{KeepsBlocks}
 use Rattle.hg_segment.specs.Retires.{IsIdlePage}
 use Rattle.hg_segment.specs.Right.{is_vacant, is_worn, vacant_in, AreListsRight, IsPageRight, IsRight}
-use Rattle.hg_segment.proofs.Turned.{places_small}
+use Rattle.hg_size.specs.Runs.{may_begin, AreRuns}
+use Rattle.hg_size.proofs.Table.{places_small}
+use Rattle.hg_size.proofs.Covers.{begins, runs_more}
+use Rattle.hg_segment.proofs.Beside.{AreBeside, KeepsPages, beside_begun, kept_pages}
 use Rattle.hg_segment.proofs.Changed.{lists_set, others_shown}
 use Rattle.hg_segment.proofs.KeptBlocks.{outside_new, blocks_kept}
 use Rattle.hg_segment.proofs.Retirings.{idle_home, page_read, right_assigned}
@@ -35,13 +38,30 @@ freed_is p q from (suc n) h =
     ap (λ (b : Bool). cond b (from ∷ filter p (range_with_len (from + 1) n)) (filter p (range_with_len (from + 1) n))) (h from (omega arith))
     ∙ ap (λ (xs : List ℕ). cond (q from) (from ∷ xs) xs) rest
 
+-- the blocks of a page that may get a class end in the segment
+pub begins_inside : (g : ℕ) (rs : List Standing) (ws : List ℕ) (pages : List Page)
+    (classes : List (Option ℕ)) (cs : List ℕ) (page size : ℕ) (p : Page)
+    → IsRight g rs ws pages classes cs → page < 16
+    → may_begin (class_at classes) size page ≡ true → p ≡ slice_index_or pages page p
+    → (shape_of p).base + pages_of size * 512 ≤ 8192
+begins_inside g rs ws pages classes cs page size p h below may is =
+    omega (
+      arith,
+      below,
+      (begins (class_at classes) size page may).inside,
+      (page_read g rs ws pages classes cs page p h below is).base,
+    )
+
 module _ (g : ℕ) (rs : List Standing) (ws new : List ℕ) (pages : List Page) (classes : List (Option ℕ)) (cs : List ℕ) (page size : ℕ) (worn : List Bool) (p q : Page)
-    (h : IsRight g rs ws pages classes cs) (below : page < 16) (none : class_at classes page ≡ None) (is : p ≡ slice_index_or pages page p)
+    (h : IsRight g rs ws pages classes cs) (below : page < 16) (may : may_begin (class_at classes) size page ≡ true) (is : p ≡ slice_index_or pages page p)
     (sized : Contains sizes size)
     (marked : (i : ℕ) → i < 512 → slice_index_or worn i false ≡ is_worn g (standing_at rs (page * 512 + i)))
     (linked : IsLinked q new) (shown : lists_of q new ≡ fresh (unworn worn 0 (places_of size)))
     (others : KeepsOthers (shape_of q) (listed (lists_of q new)) ws new)
     (shape : shape_of q ≡ record (shape_of p) { size = size; places = places_of size }) where
+  none : class_at classes page ≡ None
+  none = (begins (class_at classes) size page may).none page (omega arith) (omega arith)
+
   mine : IsPageRight g rs ws page None p
   mine = subst (λ (c : Option ℕ). IsPageRight g rs ws page c p) none (page_read g rs ws pages classes cs page p h below is)
 
@@ -92,14 +112,29 @@ module _ (g : ℕ) (rs : List Standing) (ws new : List ℕ) (pages : List Page) 
   out : (w : ℕ) → (w < page * 512) ⊎ (page * 512 + 512 ≤ w) → slice_index new w ≡ slice_index ws w
   out = outside_new q ws new page linked right_page.base others
 
+  beside : AreBeside classes page (pages_of size)
+  beside = beside_begun classes page size below may
+
+  out_of : (w : ℕ) → (w < page * 512) ⊎ (page * 512 + pages_of size * 512 ≤ w)
+      → slice_index new w ≡ slice_index ws w
+  out_of w o = out w (⊎_elim (λ lt. inl lt) (λ ge. inr (omega (arith, ge))) o)
+
+  pages_kept : KeepsPages classes ws new page
+  pages_kept = kept_pages classes ws new page (pages_of size) beside out_of
+
+  runs : AreRuns (class_at (slice_set classes page (Some size)))
+  runs = runs_more (class_at classes) (class_at (slice_set classes page (Some size))) size page may
+      (get_or-set_same classes page (Some size) None (omega (arith, below, h.classes_all)))
+      (λ k ne. get_or-set_other classes page k (Some size) None ne) h.runs
+
   pub right : IsRight g rs new (slice_set pages page q) (slice_set classes page (Some size)) cs
-  right = right_assigned g rs ws new pages classes cs page (Some size) q h below home linked.whole out right_page
+  right = right_assigned g rs ws new pages classes cs page (Some size) q h below home linked.whole pages_kept runs right_page
 
   pub lists : map (λ x. lists_of x new) (slice_set pages page q) ≡ slice_set (map (λ x. lists_of x ws) pages) page (fresh (vacant_in g rs page (places_of size)))
-  lists = lists_set ws new pages page p q (others_shown g rs ws new pages classes cs page p h linked.whole out)
+  lists = lists_set ws new pages page p q (others_shown g rs ws new pages classes cs page p h linked.whole pages_kept)
       ∙ ap (slice_set (map (λ x. lists_of x ws) pages) page) (shown
       ∙ ap fresh (freed_is (λ i. not (slice_index_or worn i false)) (λ i. is_vacant g (standing_at rs (page * 512 + i))) 0 (places_of size) (λ i lt. vacancy i (small i (omega (arith, lt))))))
 
   pub blocks : KeepsBlocks rs classes ws new
-  blocks other i low lt away = blocks_kept g rs rs ws new pages classes page p linked.whole h.each out other i low lt away
+  blocks other i low lt away = blocks_kept g rs rs ws new pages classes page (pages_of size) p beside linked.whole h.each out_of other i low lt away
       (λ e. absurd (let a = home i lt in let b : is_home (standing_at rs (page * 512 + i)) ≡ false = subst (λ (k : ℕ). is_home (standing_at rs (k * 512 + i)) ≡ false) e away in let c : true ≡ false = sym a ∙ b in cc))

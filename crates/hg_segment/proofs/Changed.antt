@@ -15,13 +15,14 @@ use Rattle.hg_segment.specs.Kept.{class_at, lists_at, no_lists}
 use Rattle.hg_segment.specs.Charges.{charge_of}
 use Rattle.hg_segment.specs.Right.{AreListsRight, IsPageRight, IsRight}
 use Rattle.hg_segment.proofs.Turned.{page_turned, page_beside}
+use Rattle.hg_segment.proofs.Beside.{KeepsPages, page_same}
 
 -- each page, where page `page` is another and words outside it are the same
 pub pages_changed : (g : ℕ) (rs new-rs : List Standing) (ws new : List ℕ) (pages : List Page) (classes new-classes : List (Option ℕ)) (page : ℕ) (q : Page)
     → length pages ≡ 16 → page < 16 → length new ≡ SEGMENT_WORDS
     → ((k : ℕ) → k < 16 → (d : Page) → IsPageRight g rs ws k (class_at classes k) (slice_index_or pages k d))
     → ((k : ℕ) → k ≢ page → class_at new-classes k ≡ class_at classes k)
-    → ((at : ℕ) → (at < page * 512) ⊎ (page * 512 + 512 ≤ at) → slice_index new at ≡ slice_index ws at)
+    → KeepsPages classes ws new page
     → ((k i : ℕ) → k ≢ page → i < 512 → standing_at new-rs (k * 512 + i) ≡ standing_at rs (k * 512 + i))
     → IsPageRight g new-rs new page (class_at new-classes page) q
     → (k : ℕ) → k < 16 → (d : Page) → IsPageRight g new-rs new k (class_at new-classes k) (slice_index_or (slice_set pages page q) k d)
@@ -29,7 +30,7 @@ pages_changed g rs new-rs ws new pages classes new-classes page q long below who
   | inl e ↦ rw (e, get_or-set_same pages page q d (omega arith)) mine
   | inr ne ↦ subst (λ (c : Option ℕ). IsPageRight g new-rs new k c (slice_index_or (slice_set pages page q) k d)) (sym (kept k ne))
       (subst (λ (p : Page). IsPageRight g new-rs new k (class_at classes k) p) (sym (get_or-set_other pages page k q d ne))
-      (page_beside g rs new-rs ws new page k (class_at classes k) (slice_index_or pages k d) ne whole (each k lt d) others (λ i l. records k i ne l)))
+      (page_beside g rs new-rs ws new page k classes (slice_index_or pages k d) ne whole (each k lt d) others (λ i l. records k i ne l)))
 ]
 
 -- generations stay at most the greatest
@@ -45,7 +46,7 @@ pub right_changed : (g : ℕ) (rs : List Standing) (ws new : List ℕ) (pages : 
     → class_at classes page ≡ Some size
     → p ≡ slice_index_or pages page p
     → IsLinked q new → shape_of q ≡ shape_of p
-    → ((at : ℕ) → (at < page * 512) ⊎ (page * 512 + 512 ≤ at) → slice_index new at ≡ slice_index ws at)
+    → KeepsPages classes ws new page
     → AreListsRight g (slice_set rs (page * 512 + index) st) page (Some size) (lists_of q new)
     → standing_generation st ≤ g
     → length new-cs ≡ 64
@@ -62,6 +63,7 @@ right_changed g rs ws new pages classes cs new-cs page index size st p q h below
       each = pages_changed g rs (slice_set rs at st) ws new pages classes classes page q h.pages_all below linked.whole h.each (λ k ne. refl) others
           (λ k i ne l. get_or-set_other rs at (k * 512 + i) st (Home 0) (λ e. ne (omega (arith, e, l, small))))
           (subst (λ (c : Option ℕ). IsPageRight g (slice_set rs at st) new page c q) (sym class) (page_turned g rs (slice_set rs at st) ws new page size p q mine linked shape lists));
+      runs = h.runs;
       bounded = bounded_set g rs at st (omega (arith, long, below, small)) low h.bounded;
       charged = charged;
     }
@@ -96,11 +98,7 @@ lists_set ws new pages page p q same =
 -- other pages' lists, where words outside one page are the same
 pub others_shown : (g : ℕ) (rs : List Standing) (ws new : List ℕ) (pages : List Page) (classes : List (Option ℕ)) (cs : List ℕ) (page : ℕ) (p : Page)
     → IsRight g rs ws pages classes cs → length new ≡ SEGMENT_WORDS
-    → ((at : ℕ) → (at < page * 512) ⊎ (page * 512 + 512 ≤ at) → slice_index new at ≡ slice_index ws at)
+    → KeepsPages classes ws new page
     → (k : ℕ) → k < length pages → k ≢ page → lists_of (slice_index_or pages k p) new ≡ lists_of (slice_index_or pages k p) ws
 others_shown g rs ws new pages classes cs page p h whole others k lt ne =
-    let it = h.each k (omega (arith, lt, h.pages_all)) p in
-    (same_in_page (slice_index_or pages k p) ws new it.linked whole (λ at low high. others at (elim (cases_lt k page) [
-      | inl l ↦ inl (omega (arith, l, it.base))
-      | inr ge ↦ inr (omega (arith, ge, ne, it.base))
-    ]))).shown
+    (page_same g rs ws new k (class_at classes k) (slice_index_or pages k p) (h.each k (omega (arith, lt, h.pages_all)) p) whole (others k ne)).shown

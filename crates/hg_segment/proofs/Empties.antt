@@ -14,6 +14,7 @@ use Rattle.hg_place.specs.declared.standing.Standing.TheVariants.{Home}
 use Rattle.hg_place.specs.Standings.{standing_at, is_home}
 use Rattle.hg_segment.specs.Kept.{class_at, lists_at, no_lists}
 use Rattle.hg_segment.specs.Empty.{IsEmptyPage}
+use Rattle.std.proofs.lemmas.Option.{none-some}
 use Rattle.hg_segment.specs.Right.{AreListsRight, IsPageRight, IsRight}
 use Rattle.hg_segment.proofs.Charged.{charge_none}
 
@@ -53,6 +54,7 @@ right_new g rs ws pages classes cs pl cl sl wl empty none zero home = record {
     unused = it.idle ws;
     lists = lists_empty g rs k (lists_of (slice_index_or pages k d) ws) (it.unlisted ws) (it.idle ws) (λ i l. ap is_home (home (k * 512 + i)));
   });
+  runs = λ k. record { inside = λ n e. absurd (none-some n (sym (none k) ∙ e)); covered = λ e. none k };
   bounded = λ at. rw (home at) (omega arith);
   charged = λ t lt. zero t ∙ sym (charge_none rs classes t (λ at l. ap is_home (home at)));
 }

@@ -5,7 +5,9 @@ use Rattle.std.proofs.lemmas.Bool.{cases_eq, cases_lt}
 use Rattle.std.proofs.Math.Nat.{mul-le-mul_left, mul-div-le}
 use Rattle.hg_place.specs.declared.geometry.TheConstants.{SEGMENT_WORDS}
 use Rattle.hg_words.proofs.Ranges.{block_of-same}
-use Rattle.hg_size.specs.Sizes.{places_of}
+use Rattle.hg_size.specs.Sizes.{pages_of, places_of}
+use Rattle.hg_size.proofs.Table.{fits_in_pages}
+use Rattle.hg_segment.proofs.Beside.{AreBeside}
 use Rattle.hg_page.specs.Shapes.{shape_of}
 use Rattle.hg_page.specs.PageLists.{listed, IsUsed}
 use Rattle.hg_page.specs.Links.{lists_of, IsLinked}
@@ -37,39 +39,38 @@ outside_new q old new page h base others at out = outside_kept q old new at h ot
 pub open_used : (g : ℕ) (rs : List Standing) (ws : List ℕ) (page index : ℕ) (class : Option ℕ) (p : Page) → IsPageRight g rs ws page class p → index < 512 → is_home (standing_at rs (page * 512 + index)) ≡ false → IsUsed (lists_of p ws) index
 open_used g rs ws page index class p h below away = h.lists.used index below ∙ ap not away
 
-pub fits_in_page : (size index : ℕ) → index < places_of size → size * index + size ≤ 512
-fits_in_page size index lt =
-    let k : size * (index + 1) ≤ size * places_of size = mul-le-mul_left size (let more : index + 1 ≤ places_of size = omega arith in more) in
-    let whole : size * places_of size ≤ 512 = mul-div-le 512 size in
-    omega (arith, k, whole)
-
-pub open_inside : (g : ℕ) (rs : List Standing) (ws : List ℕ) (page index size : ℕ) (p : Page) → IsPageRight g rs ws page (Some size) p → index < 512 → is_home (standing_at rs (page * 512 + index)) ≡ false → size * index + size ≤ 512
+pub open_inside : (g : ℕ) (rs : List Standing) (ws : List ℕ) (page index size : ℕ) (p : Page) → IsPageRight g rs ws page (Some size) p → index < 512 → is_home (standing_at rs (page * 512 + index)) ≡ false → (page + pages_of size ≤ 16) × (size * index + size ≤ pages_of size * 512)
 open_inside g rs ws page index size p h below away =
-    fits_in_page size index (omega (arith, used_below p ws index h.linked (open_used g rs ws page index (Some size) p h below away), h.shape.2))
+    let sized : (shape_of p).size ≡ size = h.shape.1 in
+    let pages : pages_of (shape_of p).size ≡ pages_of size = ap pages_of sized in
+    let used = used_below p ws index h.linked (open_used g rs ws page index (Some size) p h below away) in
+    let fits = fits_in_pages size index (omega (arith, used, h.shape.2)) in
+    (omega (arith, h.base, pages, h.linked.within), omega (arith, fits))
 
 -- an open block whose words are the same
 pub block_same : (g : ℕ) (rs : List Standing) (ws new : List ℕ) (page index : ℕ) (class : Option ℕ) (p : Page) → page < 16 → length new ≡ SEGMENT_WORDS → IsPageRight g rs ws page class p → index < 512 → is_home (standing_at rs (page * 512 + index)) ≡ false
-    → ((size at : ℕ) → class ≡ Some size → size * index + size ≤ 512 → page * 512 + size * index ≤ at → at < page * 512 + size * index + size → slice_index new at ≡ slice_index ws at)
+    → ((size at : ℕ) → class ≡ Some size → size * index + size ≤ pages_of size * 512 → page * 512 + size * index ≤ at → at < page * 512 + size * index + size → slice_index new at ≡ slice_index ws at)
     → block_of_class new page index class ≡ block_of_class ws page index class
 block_same g rs ws new page index None p low whole h below away same = refl
 block_same g rs ws new page index (Some size) p low whole h below away same =
     let inside = open_inside g rs ws page index size p h below away in
-    block_of-same ws new (page * 512 + size * index) size (omega (arith, inside, low, h.linked.whole)) (omega (arith, inside, low, whole)) (λ at l r. same size at refl inside l r)
+    block_of-same ws new (page * 512 + size * index) size (omega (arith, inside.0, inside.1, h.linked.whole)) (omega (arith, inside.0, inside.1, whole)) (λ at l r. same size at refl inside.1 l r)
 
 -- all open blocks but one, where words outside a page are the same and so are those of this page's other open blocks
-pub blocks_kept : (g : ℕ) (rs new-rs : List Standing) (ws new : List ℕ) (pages : List Page) (classes : List (Option ℕ)) (page : ℕ) (d : Page)
+pub blocks_kept : (g : ℕ) (rs new-rs : List Standing) (ws new : List ℕ) (pages : List Page) (classes : List (Option ℕ)) (page count : ℕ) (d : Page)
+    → AreBeside classes page count
     → length new ≡ SEGMENT_WORDS
     → ((k : ℕ) → k < 16 → (d : Page) → IsPageRight g rs ws k (class_at classes k) (slice_index_or pages k d))
-    → ((at : ℕ) → (at < page * 512) ⊎ (page * 512 + 512 ≤ at) → slice_index new at ≡ slice_index ws at)
+    → ((at : ℕ) → (at < page * 512) ⊎ (page * 512 + count * 512 ≤ at) → slice_index new at ≡ slice_index ws at)
     → (other at : ℕ) → other < 16 → at < 512 → is_home (standing_at rs (other * 512 + at)) ≡ false
     → (other ≡ page → (size w : ℕ) → class_at classes page ≡ Some size → page * 512 + size * at ≤ w → w < page * 512 + size * at + size → slice_index new w ≡ slice_index ws w)
     → block_at new classes other at ≡ block_at ws classes other at
-blocks_kept g rs new-rs ws new pages classes page d whole each out other at low below away mine =
+blocks_kept g rs new-rs ws new pages classes page count d beside whole each out other at low below away mine =
     block_same g rs ws new other at (class_at classes other) (slice_index_or pages other d) low whole (each other low d) below away (λ size w is inside l r. elim (cases_eq other page) [
       | inl e ↦ mine e size w (subst (λ (k : ℕ). class_at classes k ≡ Some size) e is) (omega (arith, l, e)) (omega (arith, r, e))
-      | inr ne ↦ out w (elim (cases_lt other page) [
-        | inl lt ↦ inl (omega (arith, lt, r, inside))
-        | inr ge ↦ inr (omega (arith, ge, ne, l))
+      | inr ne ↦ out w (elim (beside other size ne is) as (λ _. (w < page * 512) ⊎ (page * 512 + count * 512 ≤ w)) [
+        | inl before ↦ inl (omega (arith, before, r, inside))
+        | inr behind ↦ inr (omega (arith, behind, l))
       ])
     ])
 

@@ -15,6 +15,10 @@ use Rattle.hg_segment.specs.Kept.{class_at, lists_at}
 use Rattle.hg_segment.specs.Charges.{charge_of}
 use Rattle.hg_segment.specs.Retires.{IsIdlePage}
 use Rattle.hg_segment.specs.Right.{IsPageRight, IsRight}
+use Rattle.std.proofs.lemmas.Option.{none-some}
+use Rattle.hg_size.specs.Runs.{AreRuns}
+use Rattle.hg_size.proofs.Covers.{runs_fewer}
+use Rattle.hg_segment.proofs.Beside.{KeepsPages}
 use Rattle.hg_segment.proofs.Changed.{pages_changed, lists_set, list_is}
 use Rattle.hg_segment.proofs.Charged.{charge_kept}
 use Rattle.hg_segment.proofs.Empties.{lists_empty}
@@ -43,10 +47,12 @@ charge_same rs classes page class tenant home = charge_kept rs classes (slice_se
 -- the segment, where a page without open places has another class
 pub right_assigned : (g : ℕ) (rs : List Standing) (ws new : List ℕ) (pages : List Page) (classes : List (Option ℕ)) (cs : List ℕ) (page : ℕ) (class : Option ℕ) (q : Page)
     → IsRight g rs ws pages classes cs → page < 16 → IsIdlePage rs page → length new ≡ SEGMENT_WORDS
-    → ((at : ℕ) → (at < page * 512) ⊎ (page * 512 + 512 ≤ at) → slice_index new at ≡ slice_index ws at)
+    → KeepsPages classes ws new page
+    → AreRuns (class_at (slice_set classes page class))
     → IsPageRight g rs new page class q
     → IsRight g rs new (slice_set pages page q) (slice_set classes page class) cs
-right_assigned g rs ws new pages classes cs page class q h below home whole out mine = record {
+right_assigned g rs ws new pages classes cs page class q h below home whole out runs mine = record {
+  runs = runs;
   pages_all = length-set pages page q ∙ h.pages_all;
   classes_all = length-set classes page class ∙ h.classes_all;
   charges_all = h.charges_all;
@@ -68,6 +74,16 @@ page_retired g rs ws page class p q h idle linked shown shape =
       unused = now-idle;
       lists = lists_empty g rs page (lists_of q ws) (ap listed shown) now-idle (idle_home g rs ws page class p h idle);
     }
+
+-- a class fewer
+runs_retired : (classes : List (Option ℕ)) (page : ℕ) → page < length classes
+    → AreRuns (class_at classes) → AreRuns (class_at (slice_set classes page None))
+runs_retired classes page below = runs_fewer (class_at classes) _ (λ k n e.
+    elim (cases_eq k page) as (λ _. class_at classes k ≡ Some n) [
+      | inl same ↦ absurd (none-some n (sym (ap (class_at (slice_set classes page None)) same
+          ∙ get_or-set_same classes page None None below) ∙ e))
+      | inr ne ↦ sym (get_or-set_other classes page k None None ne) ∙ e
+    ])
 
 some_not : (found : Option ℕ) (b : Bool) → is_some found ≡ not b → b ≡ false → found ≢ None
 some_not None b e f n = let g : false ≡ true = e ∙ ap not f in cc
@@ -99,6 +115,8 @@ retiring g rs ws pages classes cs page p q r h below was idle is linked shown sh
     let idle-here : IsIdle (lists_of p ws) = subst (λ (x : Page). IsIdle (lists_of x ws)) (same_page pages page p r in-range is was) idle in
     let home = idle_home g rs ws page (class_at classes page) p mine idle-here in record {
       idle = home;
-      right = right_assigned g rs ws ws pages classes cs page None q h below home linked.whole (λ at o. refl) (page_retired g rs ws page (class_at classes page) p q mine idle-here linked shown shape);
+      right = right_assigned g rs ws ws pages classes cs page None q h below home linked.whole
+          (λ k ne. inr (λ w l r. refl)) (runs_retired classes page (omega (arith, below, h.classes_all)) h.runs)
+          (page_retired g rs ws page (class_at classes page) p q mine idle-here linked shown shape);
       lists = lists_set ws ws pages page p q (λ k lt ne. refl) ∙ ap (slice_set (map (λ x. lists_of x ws) pages) page) (shown ∙ ap (λ (l : PageLists). freed l []) (sym (list_is ws pages page p in-range is)));
     }

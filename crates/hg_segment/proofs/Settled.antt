@@ -53,4 +53,4 @@ module _ (g : ℕ) (rs : List Standing) (ws : List ℕ) (pages : List Page) (cla
   pub block_length : (page index size : ℕ) → page < 16 → index < 512 → is_home (standing_at rs (page * 512 + index)) ≡ false → class_at classes page ≡ Some size → length (block_at ws classes page index) ≡ size
   block_length page index size lt small away class = let d = any_page g rs ws pages classes cs h in
       let fits = open_inside g rs ws page index size (slice_index_or pages page d) (subst (λ (c : Option ℕ). IsPageRight g rs ws page c (slice_index_or pages page d)) class (h.each page lt d)) small away in
-      ap (λ (c : Option ℕ). length (block_of_class ws page index c)) class ∙ length-block_of ws (page * 512 + size * index) size (omega (arith, fits, lt, words_all))
+      ap (λ (c : Option ℕ). length (block_of_class ws page index c)) class ∙ length-block_of ws (page * 512 + size * index) size (omega (arith, fits.0, fits.1, words_all))

@@ -5,6 +5,7 @@ use Rattle.std.proofs.lemmas.Bool.{cases_eq, cases_lt}
 use Rattle.std.proofs.Math.Nat.{div-le_self}
 use Rattle.hg_place.specs.declared.geometry.TheConstants.{SEGMENT_WORDS}
 use Rattle.hg_size.specs.Sizes.{places_of}
+use Rattle.hg_size.proofs.Table.{places_small}
 use Rattle.hg_lists.specs.Repeats.{HasNoRepeats}
 use Rattle.hg_page.specs.Shapes.{shape_of}
 use Rattle.hg_page.specs.PageLists.{PageLists, listed, Pops}
@@ -15,7 +16,8 @@ use Rattle.hg_page.proofs.Frames.{Same, same_in_page}
 use Rattle.hg_place.specs.declared.standing.Standing.{Standing}
 use Rattle.hg_place.specs.declared.standing.Standing.TheVariants.{Home}
 use Rattle.hg_place.specs.Standings.{standing_at, is_home}
-use Rattle.hg_segment.specs.Kept.{refilled, returned}
+use Rattle.hg_segment.specs.Kept.{refilled, returned, class_at}
+use Rattle.hg_segment.proofs.Beside.{KeepsPages, page_same}
 use Rattle.hg_segment.specs.Right.{is_vacant, HasVacant, AreListsRight, IsUnused, IsPageRight}
 use Rattle.hg_segment.proofs.Heads.{listed-refilled, used-refilled}
 
@@ -90,9 +92,6 @@ page_turned g rs new-rs ws new page size p q h k e l = record {
   lists = l;
 }
 
-pub places_small : (size : ℕ) → places_of size ≤ 512
-places_small size = div-le_self 512 size
-
 vacant_kept : (g : ℕ) (rs new-rs : List Standing) (page : ℕ) (lists : PageLists)
     → ((i : ℕ) → i < 512 → standing_at new-rs (page * 512 + i) ≡ standing_at rs (page * 512 + i))
     → (class : Option ℕ) → HasVacant g rs page lists class → HasVacant g new-rs page lists class
@@ -127,13 +126,10 @@ page_kept g rs new-rs ws new page class p h s e = record {
 }
 
 -- words that are the same but on one page show the other pages' lists
-pub page_beside : (g : ℕ) (rs new-rs : List Standing) (ws new : List ℕ) (page k : ℕ) (class : Option ℕ) (p : Page)
-    → k ≢ page → length new ≡ SEGMENT_WORDS → IsPageRight g rs ws k class p
-    → ((at : ℕ) → (at < page * 512) ⊎ (page * 512 + 512 ≤ at) → slice_index new at ≡ slice_index ws at)
+pub page_beside : (g : ℕ) (rs new-rs : List Standing) (ws new : List ℕ) (page k : ℕ) (classes : List (Option ℕ)) (p : Page)
+    → k ≢ page → length new ≡ SEGMENT_WORDS → IsPageRight g rs ws k (class_at classes k) p
+    → KeepsPages classes ws new page
     → ((i : ℕ) → i < 512 → standing_at new-rs (k * 512 + i) ≡ standing_at rs (k * 512 + i))
-    → IsPageRight g new-rs new k class p
-page_beside g rs new-rs ws new page k class p ne whole h others e =
-    page_kept g rs new-rs ws new k class p h (same_in_page p ws new h.linked whole (λ at low high. others at (elim (cases_lt k page) [
-      | inl lt ↦ inl (omega (arith, lt, h.base))
-      | inr ge ↦ inr (omega (arith, ge, ne, h.base))
-    ]))) e
+    → IsPageRight g new-rs new k (class_at classes k) p
+page_beside g rs new-rs ws new page k classes p ne whole h others e =
+    page_kept g rs new-rs ws new k (class_at classes k) p h (page_same g rs ws new k (class_at classes k) p h whole (others k ne)) e

@@ -1,5 +1,5 @@
 -- A place goes home: its page lists it, unless it is worn.
-use Rattle.std.proofs.Common.{◌≡◌, ◌≢◌, ℕ, ◌+◌, ◌-◌, ◌*◌, ◌/◌, ◌<◌, ◌≤◌, Bool, true, false, not, nat_eq, List, length, slice_index, slice_index_or, slice_set, map, refl, sym, ap, ◌∙◌, arith, subst, inl, inr, ◌⊎◌, get_or-set_other, get_or-set_same}
+use Rattle.std.proofs.Common.{◌≡◌, ◌≢◌, ℕ, ◌+◌, ◌-◌, ◌*◌, ◌/◌, ◌<◌, ◌≤◌, Bool, true, false, not, nat_eq, List, length, slice_index, slice_index_or, slice_set, map, refl, sym, ap, ◌∙◌, arith, subst, inl, inr, ◌⊎◌, ⊎_elim, get_or-set_other, get_or-set_same}
 use Rattle.std.specs.Prelude.{Contains, Option, Some}
 use Rattle.std.proofs.lemmas.Bool.{cases_eq}
 use Rattle.std.proofs.lemmas.List.{length-set}
@@ -19,6 +19,9 @@ use Rattle.hg_segment.specs.Kept.{class_at, lists_at, returned}
 use Rattle.hg_segment.specs.Charges.{block_bytes}
 use Rattle.hg_segment.specs.Blocks.{KeepsBlocks}
 use Rattle.hg_segment.specs.Right.{is_vacant, AreListsRight, IsPageRight, IsRight}
+use Rattle.hg_size.specs.Sizes.{pages_of}
+use Rattle.hg_size.proofs.Table.{size_bounds}
+use Rattle.hg_segment.proofs.Beside.{AreBeside, KeepsPages, beside_classed, kept_pages}
 use Rattle.hg_segment.proofs.Turned.{Turns, turns_returned, turned}
 use Rattle.hg_segment.proofs.Changed.{right_changed, lists_set, others_shown, list_is}
 use Rattle.hg_segment.proofs.Charged.{charge_down, charge_holds}
@@ -79,6 +82,18 @@ module _ (g : ℕ) (rs : List Standing) (ws new : List ℕ) (pages : List Page) 
   out : (w : ℕ) → (w < page * 512) ⊎ (page * 512 + 512 ≤ w) → slice_index new w ≡ slice_index ws w
   out = outside_new q ws new page linked based others
 
+  beside : AreBeside classes page (pages_of size)
+  beside = beside_classed classes page size h.runs class
+
+  one : 1 ≤ pages_of size
+  one = (let b = (size_bounds size mine.shape.0).0 in omega arith)
+
+  out_of : (w : ℕ) → (w < page * 512) ⊎ (page * 512 + pages_of size * 512 ≤ w) → slice_index new w ≡ slice_index ws w
+  out_of w o = out w (⊎_elim (λ lt. inl lt) (λ ge. inr (omega (arith, ge, one))) o)
+
+  pages_kept : KeepsPages classes ws new page
+  pages_kept = kept_pages classes ws new page (pages_of size) beside out_of
+
   off : ¬ Contains (listed (lists_of p ws)) index
   off = used_unlisted p ws index mine.linked used
 
@@ -97,7 +112,7 @@ module _ (g : ℕ) (rs : List Standing) (ws new : List ℕ) (pages : List Page) 
   charge_left = charge_holds cs rs classes at n owner (8 * size) inside owned bytes_here was h.charged
 
   pub right : IsRight g new-rs new (slice_set pages page q) classes (slice_set cs owner (slice_index cs owner - 8 * size))
-  right = right_changed g rs ws new pages classes cs (slice_set cs owner (slice_index cs owner - 8 * size)) page index size (Home n) p q h below small long class is linked shape out right_lists
+  right = right_changed g rs ws new pages classes cs (slice_set cs owner (slice_index cs owner - 8 * size)) page index size (Home n) p q h below small long class is linked shape pages_kept right_lists
       (subst (λ (s : Standing). standing_generation s ≤ g) was (h.bounded at))
       (length-set cs owner (slice_index cs owner - 8 * size) ∙ h.charges_all)
       (charge_down cs rs classes at n owner (8 * size) n h.charges_all inside owned bytes_here was h.charged)
@@ -105,7 +120,7 @@ module _ (g : ℕ) (rs : List Standing) (ws new : List ℕ) (pages : List Page) 
   pub blocks : KeepsBlocks new-rs classes ws new
   blocks other i low under away =
       let before = still_open rs at n (other * 512 + i) inside away in
-      blocks_kept g rs new-rs ws new pages classes page p linked.whole h.each out other i low under before.1 (λ e size-here w is-here l r.
+      blocks_kept g rs new-rs ws new pages classes page (pages_of size) p beside linked.whole h.each out_of other i low under before.1 (λ e size-here w is-here l r.
       let same : size-here ≡ size = (let both : Some size-here ≡ Some size = sym is-here ∙ class in grind (arith, both)) in
       let m : (shape_of q).size * i ≡ size-here * i = ap (λ (k : ℕ). k * i) (sized ∙ sym same) in
       let i-used : IsUsed (lists_of q new) i = right_lists.used i under ∙ ap not (subst (λ (k : ℕ). is_home (standing_at new-rs (k * 512 + i)) ≡ false) e away) in
@@ -113,7 +128,7 @@ module _ (g : ℕ) (rs : List Standing) (ws new : List ℕ) (pages : List Page) 
       (record { low = omega (arith, l, m, based); high = omega (arith, r, m, based, sized, same) }))
 
   pub lists : map (λ x. lists_of x new) (slice_set pages page q) ≡ slice_set (map (λ x. lists_of x ws) pages) page (returned (nat_eq n g) (lists_at (map (λ x. lists_of x ws) pages) page) index)
-  lists = lists_set ws new pages page p q (others_shown g rs ws new pages classes cs page p h linked.whole out)
+  lists = lists_set ws new pages page p q (others_shown g rs ws new pages classes cs page p h linked.whole pages_kept)
       ∙ ap (slice_set (map (λ x. lists_of x ws) pages) page) (shown ∙ ap (λ (l : PageLists). returned (nat_eq n g) l index) (sym (list_is ws pages page p (omega (arith, below, h.pages_all)) is)))
 
 -- what a call that brings a place home needs, at the values of its body

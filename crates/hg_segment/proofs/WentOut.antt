@@ -7,7 +7,7 @@ use Rattle.hg_place.specs.declared.geometry.TheConstants.{SEGMENT_WORDS}
 use Rattle.hg_words.proofs.Ranges.{block_of-zero}
 use Rattle.hg_lists.specs.Repeats.{HasNoRepeats}
 use Rattle.hg_lists.proofs.RepeatsLemmas.{nat_eq-same}
-use Rattle.hg_size.proofs.Table.{size_bounds}
+use Rattle.hg_size.proofs.Table.{size_bounds, fits_in_pages}
 use Rattle.hg_page.specs.Shapes.{Shape, shape_of, start_of}
 use Rattle.hg_page.specs.PageLists.{PageLists, listed, IsUsed, Pops}
 use Rattle.hg_page.specs.Links.{lists_of, IsLinked}
@@ -27,7 +27,9 @@ use Rattle.hg_segment.proofs.Heads.{listed-refilled, used-refilled}
 use Rattle.hg_segment.proofs.Turned.{Turns, turns_popped, turned}
 use Rattle.hg_segment.proofs.Changed.{right_changed, lists_set, others_shown, list_is}
 use Rattle.hg_segment.proofs.Charged.{charge_up, charge_small}
-use Rattle.hg_segment.proofs.KeptBlocks.{outside, blocks_kept, words_apart, fits_in_page}
+use Rattle.hg_segment.proofs.KeptBlocks.{outside, blocks_kept, words_apart}
+use Rattle.hg_size.specs.Sizes.{pages_of}
+use Rattle.hg_segment.proofs.Beside.{AreBeside, KeepsPages, beside_classed, kept_pages}
 
 pub vacant_home : (g : ℕ) (st : Standing) → is_vacant g st ≡ true → is_home st ≡ true
 vacant_home g (Home n) v = refl
@@ -45,14 +47,14 @@ pub was_open : (rs : List Standing) (at : ℕ) (st : Standing) (k : ℕ) → k �
 was_open rs at st k ne away = sym (ap is_home (get_or-set_other rs at k st (Home 0) ne)) ∙ away
 
 -- no class has blocks of more bytes
-bytes_small : (g : ℕ) (rs : List Standing) (ws : List ℕ) (k : ℕ) (class : Option ℕ) (p : Page) → IsPageRight g rs ws k class p → block_bytes class ≤ 4096
+bytes_small : (g : ℕ) (rs : List Standing) (ws : List ℕ) (k : ℕ) (class : Option ℕ) (p : Page) → IsPageRight g rs ws k class p → block_bytes class ≤ 65536
 bytes_small g rs ws k None p h = omega arith
 bytes_small g rs ws k (Some size) p h = let b = size_bounds size h.shape.0 in omega (arith, b.1)
 
-classes_small : (g : ℕ) (rs : List Standing) (ws : List ℕ) (pages : List Page) (classes : List (Option ℕ)) (cs : List ℕ) (d : Page) → IsRight g rs ws pages classes cs → (page : ℕ) → block_bytes (class_at classes page) ≤ 4096
+classes_small : (g : ℕ) (rs : List Standing) (ws : List ℕ) (pages : List Page) (classes : List (Option ℕ)) (cs : List ℕ) (d : Page) → IsRight g rs ws pages classes cs → (page : ℕ) → block_bytes (class_at classes page) ≤ 65536
 classes_small g rs ws pages classes cs d h page = elim (cases_lt page 16) [
   | inl lt ↦ bytes_small g rs ws page (class_at classes page) (slice_index_or pages page d) (h.each page lt d)
-  | inr ge ↦ subst (λ (c : Option ℕ). block_bytes c ≤ 4096) (sym (get_or_past classes page None (omega (arith, ge, h.classes_all)))) (omega arith)
+  | inr ge ↦ subst (λ (c : Option ℕ). block_bytes c ≤ 65536) (sym (get_or_past classes page None (omega (arith, ge, h.classes_all)))) (omega arith)
 ]
 
 -- what comes off the head of a page's lists
@@ -87,8 +89,13 @@ module _ (g : ℕ) (rs : List Standing) (ws mid : List ℕ) (pages : List Page) 
   pub low : standing_generation (standing_at rs at) < g
   low = vacant_low g (standing_at rs at) vacant (h.bounded at)
 
-  pub fits : size * index + size ≤ 512
-  fits = fits_in_page size index (omega (arith, listed_below p ws index mine.linked was_listed, mine.shape.2))
+  pub fits : (page + pages_of size ≤ 16) × (size * index + size ≤ pages_of size * 512)
+  fits =
+      let same : (shape_of p).size ≡ size = mine.shape.1 in
+      let same_pages : pages_of (shape_of p).size ≡ pages_of size = ap pages_of same in
+      let below = listed_below p ws index mine.linked was_listed in
+      let in_pages = fits_in_pages size index (omega (arith, below, mine.shape.2)) in
+      (omega (arith, mine.base, same_pages, mine.linked.within), omega (arith, in_pages))
 
   pub charge_room : (owner : ℕ) → owner < 64 → slice_index cs owner + 8 * size < 18446744073709551616
   charge_room owner lt = let least = charge_small rs classes owner (classes_small g rs ws pages classes cs p h) in let b = size_bounds size mine.shape.0 in omega (arith, least, long, h.charged owner lt, b.1)
@@ -118,9 +125,19 @@ module _ (g : ℕ) (rs : List Standing) (ws mid : List ℕ) (pages : List Page) 
     same : Same q mid new
     same = same_but_used q mid new index linked used whole (λ w out. rest w (⊎_elim (λ lt. inl (omega (arith, lt, starts))) (λ ge. inr (omega (arith, ge, starts, sized))) out))
 
-    out : (w : ℕ) → (w < page * 512) ⊎ (page * 512 + 512 ≤ w) → slice_index new w ≡ slice_index ws w
-    out w o = rest w (⊎_elim (λ lt. inl (omega (arith, lt))) (λ ge. inr (omega (arith, ge, fits))) o)
-        ∙ outside p ws mid page mine.linked mine.base (subst (λ (s : Shape). KeepsOthers s (listed (lists_of p ws)) ws mid) shape others) w o
+    one : 1 ≤ pages_of size
+    one = (let b = (size_bounds size mine.shape.0).0 in omega arith)
+
+    out : (w : ℕ) → (w < page * 512) ⊎ (page * 512 + pages_of size * 512 ≤ w) → slice_index new w ≡ slice_index ws w
+    out w o = rest w (⊎_elim (λ lt. inl (omega (arith, lt))) (λ ge. inr (omega (arith, ge, fits.1))) o)
+        ∙ outside p ws mid page mine.linked mine.base (subst (λ (s : Shape). KeepsOthers s (listed (lists_of p ws)) ws mid) shape others) w
+        (⊎_elim (λ lt. inl lt) (λ ge. inr (omega (arith, ge, one))) o)
+
+    beside : AreBeside classes page (pages_of size)
+    beside = beside_classed classes page size h.runs class
+
+    pages_kept : KeepsPages classes ws new page
+    pages_kept = kept_pages classes ws new page (pages_of size) beside out
 
     right_lists : AreListsRight g new-rs page (Some size) (lists_of q new)
     right_lists = turned g rs page index (Open n owner) size (lists_of p ws) (lists_of q new) mine.lists small inside
@@ -135,7 +152,7 @@ module _ (g : ℕ) (rs : List Standing) (ws mid : List ℕ) (pages : List Page) 
     bytes_here = ap (λ (k : ℕ). block_bytes (class_at classes k)) (let e : at / 512 ≡ page = omega (arith, small) in e) ∙ ap block_bytes class
 
     pub right : IsRight g new-rs new (slice_set pages page q) classes (slice_set cs owner (slice_index cs owner + 8 * size))
-    right = right_changed g rs ws new pages classes cs (slice_set cs owner (slice_index cs owner + 8 * size)) page index size (Open n owner) p q h below small long class is same.linked shape out right_lists
+    right = right_changed g rs ws new pages classes cs (slice_set cs owner (slice_index cs owner + 8 * size)) page index size (Open n owner) p q h below small long class is same.linked shape pages_kept right_lists
         (omega (arith, next, low))
         (length-set cs owner (slice_index cs owner + 8 * size) ∙ h.charges_all)
         (charge_up cs rs classes at n owner (8 * size) h.charges_all inside owned bytes_here home h.charged)
@@ -144,7 +161,7 @@ module _ (g : ℕ) (rs : List Standing) (ws mid : List ℕ) (pages : List Page) 
     blocks other i lower under away ne =
         let apart : other * 512 + i ≢ at = λ e. ⊎_elim (λ f. f (omega (arith, e, under, small))) (λ f. f (omega (arith, e, under, small))) ne in
         let before = was_open rs at (Open n owner) (other * 512 + i) apart away in
-        blocks_kept g rs new-rs ws new pages classes page p whole h.each out other i lower under before (λ e size-here w is-here l r.
+        blocks_kept g rs new-rs ws new pages classes page (pages_of size) p beside whole h.each out other i lower under before (λ e size-here w is-here l r.
         let alike : size-here ≡ size = (let both : Some size-here ≡ Some size = sym is-here ∙ class in grind (arith, both)) in
         let m : (shape_of q).size * i ≡ size-here * i = ap (λ (k : ℕ). k * i) (sized ∙ sym alike) in
         let m2 : size * i ≡ size-here * i = ap (λ (k : ℕ). k * i) (sym alike) in
@@ -155,10 +172,10 @@ module _ (g : ℕ) (rs : List Standing) (ws mid : List ℕ) (pages : List Page) 
         (record { low = omega (arith, l, m, based); high = omega (arith, r, m, based, sized, alike) }))
 
     pub zeroed : block_at new classes page index ≡ replicate size 0
-    zeroed = ap (block_of_class new page index) class ∙ block_of-zero new (page * 512 + size * index) size (omega (arith, fits, below, whole)) zero
+    zeroed = ap (block_of_class new page index) class ∙ block_of-zero new (page * 512 + size * index) size (omega (arith, fits.0, fits.1, whole)) zero
 
     pub lists : map (λ x. lists_of x new) (slice_set pages page q) ≡ slice_set (map (λ x. lists_of x ws) pages) page (lists_at (map (λ x. lists_of x new) (slice_set pages page q)) page)
-    lists = lists_set ws new pages page p q (others_shown g rs ws new pages classes cs page p h whole out)
+    lists = lists_set ws new pages page p q (others_shown g rs ws new pages classes cs page p h whole pages_kept)
         ∙ ap (slice_set (map (λ x. lists_of x ws) pages) page) (sym shown_new)
       where
         shown_new : lists_at (map (λ x. lists_of x new) (slice_set pages page q)) page ≡ lists_of q new

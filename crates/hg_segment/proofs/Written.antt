@@ -14,6 +14,8 @@ use Rattle.hg_place.specs.Standings.{standing_at, is_home}
 use Rattle.hg_segment.specs.Kept.{class_at, no_lists}
 use Rattle.hg_segment.specs.Blocks.{block_at, KeepsOtherBlocks}
 use Rattle.hg_segment.specs.Right.{IsPageRight, IsRight}
+use Rattle.hg_size.specs.Sizes.{pages_of}
+use Rattle.hg_segment.proofs.Beside.{AreBeside, beside_classed, kept_pages, page_same}
 use Rattle.hg_segment.proofs.Turned.{page_kept}
 use Rattle.hg_segment.proofs.KeptBlocks.{open_used, open_inside, blocks_kept, words_apart}
 
@@ -23,7 +25,7 @@ module _ (g : ℕ) (rs : List Standing) (ws : List ℕ) (pages : List Page) (cla
   mine : (e : Page) → IsPageRight g rs ws page (Some size) (slice_index_or pages page e)
   mine e = subst (λ (c : Option ℕ). IsPageRight g rs ws page c (slice_index_or pages page e)) class (h.each page below e)
 
-  fits : size * index + size ≤ 512
+  fits : (page + pages_of size ≤ 16) × (size * index + size ≤ pages_of size * 512)
   fits = open_inside g rs ws page index size (slice_index_or pages page d) (mine d) small away
 
   whole : length ws ≡ SEGMENT_WORDS
@@ -33,7 +35,7 @@ module _ (g : ℕ) (rs : List Standing) (ws : List ℕ) (pages : List Page) (cla
   in_block = inside
 
   pub in_words : page * 512 + size * index + at < 8192
-  in_words = omega (arith, in_block, fits, below)
+  in_words = omega (arith, in_block, fits.0, fits.1)
 
   module _ (value : ℕ) where
     abbrev new : List ℕ
@@ -45,8 +47,8 @@ module _ (g : ℕ) (rs : List Standing) (ws : List ℕ) (pages : List Page) (cla
     rest : (w : ℕ) → (w < page * 512 + size * index) ⊎ (page * 512 + size * index + size ≤ w) → slice_index new w ≡ slice_index ws w
     rest w out = get_or-set_other ws (page * 512 + size * index + at) w value 0 (λ e. ⊎_elim (λ lt. absurd (omega (arith, lt, e))) (λ ge. absurd (omega (arith, ge, e, in_block))) out)
 
-    out : (w : ℕ) → (w < page * 512) ⊎ (page * 512 + 512 ≤ w) → slice_index new w ≡ slice_index ws w
-    out w o = rest w (⊎_elim (λ lt. inl (omega (arith, lt))) (λ ge. inr (omega (arith, ge, fits))) o)
+    out : (w : ℕ) → (w < page * 512) ⊎ (page * 512 + pages_of size * 512 ≤ w) → slice_index new w ≡ slice_index ws w
+    out w o = rest w (⊎_elim (λ lt. inl (omega (arith, lt))) (λ ge. inr (omega (arith, ge, fits.1))) o)
 
     same_here : (e : Page) → Same (slice_index_or pages page e) ws new
     same_here e = let p = slice_index_or pages page e in let k = mine e in
@@ -54,11 +56,11 @@ module _ (g : ℕ) (rs : List Standing) (ws : List ℕ) (pages : List Page) (cla
         same_but_used p ws new index k.linked (open_used g rs ws page index (Some size) p k small away) full
         (λ w o. rest w (⊎_elim (λ lt. inl (omega (arith, lt, m, k.base))) (λ ge. inr (omega (arith, ge, m, k.base, k.shape.1))) o))
 
+    beside : AreBeside classes page (pages_of size)
+    beside = beside_classed classes page size h.runs class
+
     same_there : (k : ℕ) → k < 16 → k ≢ page → (e : Page) → Same (slice_index_or pages k e) ws new
-    same_there k lt ne e = let it = h.each k lt e in same_in_page (slice_index_or pages k e) ws new it.linked full (λ w low high. out w (elim (cases_lt k page) [
-      | inl l ↦ inl (omega (arith, l, high, it.base))
-      | inr ge ↦ inr (omega (arith, ge, ne, low, it.base))
-    ]))
+    same_there k lt ne e = page_same g rs ws new k (class_at classes k) (slice_index_or pages k e) (h.each k lt e) full (kept_pages classes ws new page (pages_of size) beside out k ne)
 
     same_each : (k : ℕ) → k < 16 → (e : Page) → Same (slice_index_or pages k e) ws new
     same_each k lt e = elim (cases_eq k page) [
@@ -72,6 +74,7 @@ module _ (g : ℕ) (rs : List Standing) (ws : List ℕ) (pages : List Page) (cla
       classes_all = h.classes_all;
       charges_all = h.charges_all;
       each = λ k lt e. page_kept g rs rs ws new k (class_at classes k) (slice_index_or pages k e) (h.each k lt e) (same_each k lt e) (λ i l. refl);
+      runs = h.runs;
       bounded = h.bounded;
       charged = h.charged;
     }
@@ -83,11 +86,11 @@ module _ (g : ℕ) (rs : List Standing) (ws : List ℕ) (pages : List Page) (cla
         get_or-map (λ (x : Page). lists_of x new) pages k d no_lists l ∙ ((same_each k (omega (arith, l, h.pages_all)) d).shown ∙ sym (get_or-map (λ (x : Page). lists_of x ws) pages k d no_lists l)))
 
     pub written : block_at new classes page index ≡ slice_set (block_at ws classes page index) at value
-    written = rw class (block_of-set ws (page * 512 + size * index) size at value (omega (arith, fits, below, whole)) in_block)
+    written = rw class (block_of-set ws (page * 512 + size * index) size at value (omega (arith, fits.0, fits.1, whole)) in_block)
 
     pub blocks : KeepsOtherBlocks rs classes page index ws new
     blocks other i lower under open-there ne =
-        blocks_kept g rs rs ws new pages classes page d full h.each out other i lower under open-there (λ e size-here w is-here l r.
+        blocks_kept g rs rs ws new pages classes page (pages_of size) d beside full h.each out other i lower under open-there (λ e size-here w is-here l r.
         let alike : size-here ≡ size = (let both : Some size-here ≡ Some size = sym is-here ∙ class in grind (arith, both)) in
         let m : size * i ≡ size-here * i = ap (λ (k : ℕ). k * i) (sym alike) in
         let apart : i ≢ index = ⊎_elim (λ f. absurd (f e)) (λ f. f) ne in

@@ -6,6 +6,7 @@ use Rattle.std.specs.List.{range_with_len}
 use Rattle.hg_place.specs.declared.geometry.TheConstants.{SEGMENT_PAGES, PAGE_PLACES, PAGE_WORDS}
 use Rattle.hg_segment.specs.declared.charges.TheConstants.{TENANTS}
 use Rattle.hg_size.specs.Sizes.{sizes, places_of}
+use Rattle.hg_size.specs.Runs.{AreRuns}
 use Rattle.hg_lists.specs.Repeats.{HasNoRepeats}
 use Rattle.hg_page.specs.PageLists.{PageLists, listed}
 use Rattle.hg_page.specs.Shapes.{Shape, shape_of}
@@ -83,7 +84,8 @@ abbrev pub IsBlockPlace : Option ℕ → ℕ → Type 0
 IsBlockPlace None index = ⊥
 IsBlockPlace (Some size) index = index < places_of size
 
--- what a segment keeps: its pages right, no generation above the greatest, and each charge the sum
+-- what a segment keeps: its pages right, no generation above the greatest, blocks that end in it and
+-- no class at a covered page, and each charge the sum
 pub record IsRight (greatest : ℕ) (records : List Standing) (words : List ℕ) (pages : List Page)
     (classes : List (Option ℕ)) (charges : List ℕ) : Type 0 where
   pub pages_all : length pages ≡ SEGMENT_PAGES
@@ -93,6 +95,7 @@ pub record IsRight (greatest : ℕ) (records : List Standing) (words : List ℕ)
       (k : ℕ) → k < SEGMENT_PAGES → (d : Page)
       → IsPageRight greatest records words k (class_at classes k) (slice_index_or pages k d)
   pub bounded : (at : ℕ) → standing_generation (standing_at records at) ≤ greatest
+  pub runs : AreRuns (class_at classes)
   pub charged :
       (tenant : ℕ) → tenant < TENANTS
       → slice_index charges tenant ≡ charge_of records classes tenant

@@ -4,6 +4,7 @@ use Rattle.hg_place.specs.declared.geometry.TheConstants.{SEGMENT_PAGES, PAGE_PL
 use Rattle.hg_place.specs.declared.geometry.TheConstants.{SEGMENT_WORDS}
 use Rattle.hg_place.specs.declared.standing.Standing.{Standing}
 use Rattle.hg_place.specs.Standings.{standing_at, is_home, standing_generation}
+use Rattle.hg_size.specs.Runs.{AreRuns}
 use Rattle.hg_size.specs.Sizes.{sizes}
 use Rattle.hg_page.specs.PageLists.{listed}
 use Rattle.hg_segment.specs.Kept.{Kept, slot, class_at, lists_at}
@@ -19,6 +20,7 @@ module _ {S : Type 0} (records : S → List Standing) where
         (lists_at k.lists page)
     pub sizes :
         (page size : ℕ) → class_at k.classes page ≡ Some size → Contains sizes size
+    pub runs : AreRuns (class_at k.classes)
     pub bounded :
         (at : ℕ) → standing_generation (standing_at (records k.slots) at) ≤ k.greatest
     pub opened :

@@ -5,23 +5,24 @@ ghost use Rattle.std.specs.Prelude.{slice_set, IsTrue, IsFalse, true};
 ghost use Rattle.hg_place.specs.declared.geometry.TheConstants.{SEGMENT_PAGES, PAGE_PLACES};
 ghost use Rattle.hg_place.specs.Standings.{standing_at};
 ghost use Rattle.hg_size.specs.Sizes.{places_of};
+ghost use Rattle.hg_size.specs.Runs.{may_begin};
 ghost use Rattle.hg_page.specs.PageLists.{fresh};
 ghost use Rattle.hg_segment.specs.Kept.{slot, class_at};
-ghost use Rattle.hg_segment.specs.Right.{is_worn, is_vacant, vacant_in};
+ghost use Rattle.hg_segment.specs.Right.{is_worn, vacant_in};
 ghost use Rattle.hg_segment.specs.Retires.{Retired, Stayed, Retires};
 ghost use Rattle.hg_segment.specs.Blocks.{KeepsBlocks};
 
 use crate::Segment;
 use hg_page::Worn;
 use hg_place::{PAGE_PLACES, Place, SEGMENT_PAGES, SlotWords, Standing};
-use hg_size::{Class, block_words, per_page};
+use hg_size::{Class, block_words};
 
 impl<S: SlotWords> Segment<S> {
-    /// Gives a page without a class this one. Its places that are not worn are free, in rising
-    /// order.
+    /// Gives a page this class, where it and the other pages of its blocks are without one. Its
+    /// places that are not worn are free, in rising order.
     pub fn assign_page(&mut self, page: u8, class: Class)
         requires page { page < SEGMENT_PAGES }
-        requires unassigned { class_at self.old.classes page ≡ None }
+        requires begins { may_begin (class_at self.old.classes) class page ≡ true }
         ensures assigned { self.new ≡ record self.old {
           words = self.new.words;
           classes = slice_set self.old.classes page (Some class);
@@ -36,24 +37,7 @@ impl<S: SlotWords> Segment<S> {
         let _size = block_words(class);
         let lists = &mut self.pages[page as usize];
         lists.format(&mut self.memory, class, &worn);
-        self.classes.set(page, Some(class));
-    }
-
-    /// Whether a page has a place, of those that a block of this class may take, that is home and
-    /// not worn.
-    pub fn has_vacant(&self, page: u8, class: Class) -> bool
-        requires { page < SEGMENT_PAGES }
-        ensures some { IsTrue result → (index : ℕ) × (index < places_of class) × (is_vacant
-            self.now.greatest (standing_at (S.records self.now.slots) (slot page index)) ≡ true) }
-        ensures none { IsFalse result → (index : ℕ) → index < places_of class → is_vacant
-            self.now.greatest (standing_at (S.records self.now.slots) (slot page index)) ≡ false }
-    {
-        for index in 0..per_page(class) {
-            if is_vacant(self.standing(page, index), self.greatest) {
-                return true;
-            }
-        }
-        false
+        self.classes.assign(page, class);
     }
 
     /// Takes the class from each page that has no open place, and tells from how many.
@@ -83,7 +67,7 @@ impl<S: SlotWords> Segment<S> {
         }
         let lists = &mut self.pages[page as usize];
         lists.retire(&self.memory);
-        self.classes.set(page, None);
+        self.classes.clear(page);
         true
     }
 }
@@ -114,16 +98,6 @@ fn is_worn(standing: Standing, greatest: u32) -> bool
 {
     match standing {
         Standing::Home(generation) => generation == greatest,
-        Standing::Open(_, _) => false,
-    }
-}
-
-/// Whether a place is home and may be given out again.
-fn is_vacant(standing: Standing, greatest: u32) -> bool
-    ensures { result ≡ is_vacant greatest standing }
-{
-    match standing {
-        Standing::Home(generation) => generation != greatest,
         Standing::Open(_, _) => false,
     }
 }

@@ -1,6 +1,7 @@
 //! A segment over slot words of any kind: pages of blocks, their words, what tenants are charged.
 #![tactic(auto)]
 
+mod begins;
 mod blocks;
 mod charges;
 mod classes;

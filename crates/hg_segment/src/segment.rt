@@ -7,6 +7,7 @@ ghost use Rattle.hg_place.specs.declared.geometry.TheConstants.{SEGMENT_WORDS};
 ghost use Rattle.hg_place.specs.Standings.{standing_at, is_home, standing_generation};
 ghost use Rattle.hg_place.specs.declared.standing.Standing.TheVariants.{Home};
 ghost use Rattle.hg_size.specs.Sizes.{sizes};
+ghost use Rattle.hg_size.specs.Runs.{AreRuns};
 ghost use Rattle.hg_page.specs.PageLists.{listed};
 ghost use Rattle.hg_segment.specs.declared.charges.TheConstants.{TENANTS};
 ghost use Rattle.hg_segment.specs.Kept.{slot, class_at, lists_at};
@@ -163,6 +164,7 @@ impl<S: SlotWords> Segment<S> {
             (lists_at self.now.lists page) }
         ensures sizes { (page size : ℕ) → class_at self.now.classes page ≡ Some size
             → Contains sizes size }
+        ensures runs { AreRuns (class_at self.now.classes) }
         ensures bounded { (at : ℕ)
             → standing_generation (standing_at (S.records self.now.slots) at) ≤ self.now.greatest }
         ensures open { (page index : ℕ) → page < SEGMENT_PAGES → index < PAGE_PLACES

@@ -69,7 +69,7 @@ fn free<S: SlotWords>(
 /// The calls of one block's life, and the first of the next.
 fn life<S: SlotWords>(segment: &mut Segment<S>) -> Option<Answers> {
     let class = class_of(2)?;
-    if segment.class_of(3).is_some() {
+    if !segment.may_begin(3, class) {
         return None;
     }
     segment.assign_page(3, class);

@@ -6,8 +6,12 @@ mod both_words;
 #[cfg(test)]
 mod heap_meets;
 #[cfg(test)]
+mod plain;
+#[cfg(test)]
 mod policies;
 #[cfg(test)]
 mod refused;
+#[cfg(test)]
+mod seeded;
 #[cfg(test)]
 mod two_parts;

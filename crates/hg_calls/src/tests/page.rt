@@ -1,10 +1,12 @@
-ghost use Rattle.std.specs.Prelude.{◌≡◌, ◌<◌, length};
-ghost use Rattle.hg_place.specs.declared.geometry.TheConstants.{SEGMENT_PAGES, SEGMENT_WORDS};
+ghost use Rattle.std.specs.Prelude.{◌≡◌, ◌<◌, ◌*◌, length};
+ghost use Rattle.hg_place.specs.declared.geometry.TheConstants.{PAGE_WORDS, SEGMENT_PAGES};
+ghost use Rattle.hg_place.specs.declared.geometry.TheConstants.{SEGMENT_WORDS};
 ghost use Rattle.hg_page.specs.Links.{IsLinked};
+ghost use Rattle.hg_page.specs.Shapes.{shape_of};
 
 use hg_page::{Page, Worn};
 use hg_place::{SEGMENT_PAGES, SEGMENT_WORDS};
-use hg_size::{Class, block_words, class_of, per_page};
+use hg_size::{Class, block_words, class_of, pages_of, per_page};
 use hg_words::WordMemory;
 use std::alloc::Global;
 use std::process::Abort;
@@ -17,6 +19,25 @@ fn push(rt: &impl Abort, page: &mut Page, memory: &mut WordMemory, index: u16)
     assert!(rt; index < 512);
     assert!(rt; page.is_used(memory, index));
     page.push_local(memory, index);
+}
+
+/// A page of a class, of which few places may be worn.
+fn formatted(
+    rt: &impl Abort,
+    memory: &mut WordMemory,
+    number: u8,
+    class: Class,
+    worn: &Worn,
+) -> Page
+    requires words { length memory.old ≡ SEGMENT_WORDS }
+    ensures linked { IsLinked result memory.new }
+    ensures base { (shape_of result).base ≡ number * PAGE_WORDS }
+{
+    assert!(rt; (number as usize) < SEGMENT_PAGES);
+    assert!(rt; pages_of(class) as usize <= SEGMENT_PAGES - number as usize);
+    let mut page = Page::new(number);
+    page.format(memory, class, worn);
+    page
 }
 
 /// A page gives these places next, in rising order.
@@ -34,8 +55,7 @@ fn check_pops(rt: &impl Abort, page: &mut Page, memory: &WordMemory, first: u16,
 fn page_links(rt: HostRuntime) {
     let mut memory = WordMemory::new(rt.alloc()).expect(&rt, "memory");
     let class = class_of(10).expect(&rt, "a class");
-    let mut page = Page::new(0);
-    page.format(&mut memory, class, &Worn::none());
+    let mut page = formatted(&rt, &mut memory, 0, class, &Worn::none());
     for index in 0..50usize {
         assert_eq!(&rt; memory.get(10 * index), index as u64 + 2);
     }
@@ -66,8 +86,8 @@ fn worn_places(rt: HostRuntime) {
     let mut generations = [3u32; 512];
     generations[0] = 7;
     generations[2] = 7;
-    let mut page = Page::new(0);
-    page.format(&mut memory, class, &Worn::of_generations(&generations, 7));
+    let worn = Worn::of_generations(&generations, 7);
+    let mut page = formatted(&rt, &mut memory, 0, class, &worn);
     assert_eq!(&rt; memory.get(10), 4);
     assert_eq!(&rt; page.pop(&memory), Some(1));
     assert_eq!(&rt; page.pop(&memory), Some(3));
@@ -86,14 +106,14 @@ fn worn_places(rt: HostRuntime) {
 fn formats_a_page_in_use(rt: HostRuntime) {
     let mut memory = WordMemory::new(rt.alloc()).expect(&rt, "memory");
     let class = class_of(10).expect(&rt, "a class");
-    let mut page = Page::new(3);
-    page.format(&mut memory, class, &Worn::none());
+    let mut page = formatted(&rt, &mut memory, 3, class, &Worn::none());
     check_pops(&rt, &mut page, &memory, 0, 20);
     push(&rt, &mut page, &mut memory, 4);
     push(&rt, &mut page, &mut memory, 19);
     let greater = class_of(100).expect(&rt, "a class");
     let mut worn = Worn::none();
     worn.mark(1);
+    assert!(&rt; pages_of(greater) as usize <= SEGMENT_PAGES - 3);
     page.format(&mut memory, greater, &worn);
     assert!(&rt; page.is_idle(&memory));
     for index in 0..512u16 {
@@ -241,8 +261,7 @@ fn many_steps(
         random = next(random);
         worn.mark(((random >> 33) % 512) as u16);
     }
-    let mut page = Page::new(number);
-    page.format(memory, class, &worn);
+    let mut page = formatted(rt, memory, number, class, &worn);
     let mut plain = Plain::new(rt, alloc, class, &worn);
     let base = number as u16 * 512;
     for _ in 0..1000u16 {
@@ -258,7 +277,7 @@ fn many_steps(
 #[test]
 fn page_as_vectors(rt: HostRuntime) {
     let mut memory = WordMemory::new(rt.alloc()).expect(&rt, "memory");
-    for (number, words) in [(0, 1), (5, 3), (15, 10), (3, 160), (8, 512)] {
+    for (number, words) in [(0, 1), (5, 3), (15, 10), (3, 160), (8, 512), (12, 2048)] {
         let class = class_of(words).expect(&rt, "a class");
         many_steps(&rt, rt.alloc(), &mut memory, number, class, words);
     }

@@ -61,7 +61,15 @@ fn queues_refused_in_turn(rt: HostRuntime) {
 }
 
 /// The arenas and the words of the classes that many calls are made on.
-static KEYS: [(u8, u64); 6] = [(0, 1), (0, 512), (1, 1), (7, 24), (15, 1), (15, 512)];
+static KEYS: [(u8, u64); 7] = [
+    (0, 1),
+    (0, 512),
+    (0, 8192),
+    (1, 1),
+    (7, 24),
+    (15, 1),
+    (15, 8192),
+];
 
 /// The queues of those keys as vectors, the front of each last.
 #[derive(Drop)]

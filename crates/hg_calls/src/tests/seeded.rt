@@ -16,7 +16,16 @@ const PAGES: usize = 3;
 const OWNERS: usize = 3;
 
 /// The words of a block of each class that pages get.
-static SIZES: [u16; 4] = [3, 96, 160, 512];
+static SIZES: [u16; 6] = [3, 96, 160, 512, 1024, 2048];
+
+/// How many pages a block of so many words lies over.
+fn pages(words: u16) -> u8 {
+    match words {
+        0..=512 => 1,
+        513..=1024 => 2,
+        _ => 4,
+    }
+}
 
 /// A page as a model: the words of its blocks, 0 where it has no class, its lists with the front
 /// last, and by index the generations.
@@ -78,6 +87,17 @@ impl Plain {
     fn page(&mut self, rt: &impl Abort, page: u8) -> &mut PlainPage {
         assert!(rt; (page as usize) < self.pages.len());
         &mut self.pages[page as usize]
+    }
+
+    /// Whether a page and the other pages that a block of so many words would lie over have no
+    /// class, and no block of an earlier page lies over the page.
+    fn may_begin(&mut self, rt: &impl Abort, page: u8, words: u16) -> bool {
+        let end = page.wrapping_add(pages(words)).min(PAGES as u8);
+        (page..end).all(|under| self.page(rt, under).words == 0)
+            && (0..page).all(|earlier| {
+                let words = self.page(rt, earlier).words;
+                words == 0 || pages(words) <= page - earlier
+            })
     }
 
     /// Charges an owner for a block of a page more, or less.
@@ -242,7 +262,7 @@ fn retire(rt: &impl Abort, segment: &mut Segment<PlainWords>, plain: &mut Plain)
     assert_eq!(rt; segment.retire_idle(), count);
 }
 
-/// A page gets a class that a number picks, where it has none.
+/// A page gets a class that a number picks, where it may.
 fn give_class(
     rt: &impl Abort,
     segment: &mut Segment<PlainWords>,
@@ -250,11 +270,14 @@ fn give_class(
     page: u8,
     number: usize,
 ) {
-    if plain.page(rt, page).words > 0 {
-        return;
-    }
+    assert!(rt; (page as usize) < SEGMENT_PAGES);
     let words = SIZES[number % SIZES.len()];
     let class = class_of(u64::from(words)).expect(rt, "a class");
+    let begins = plain.may_begin(rt, page, words);
+    assert_eq!(rt; segment.may_begin(page, class), begins);
+    if !begins {
+        return;
+    }
     assign(rt, segment, page, class);
     plain.page(rt, page).assign(rt, words, per_page(class));
 }

@@ -22,10 +22,10 @@ pub fn segment(rt: &impl Abort, alloc: Global, greatest: u32) -> Segment<PlainWo
     Segment::new(alloc, 5, 1, greatest, slots).expect(rt, "memory")
 }
 
-/// Gives a page that has none a class.
+/// Gives a page a class that it may have.
 pub fn assign(rt: &impl Abort, segment: &mut Segment<PlainWords>, page: u8, class: Class) {
     assert!(rt; (page as usize) < SEGMENT_PAGES);
-    assert!(rt; segment.class_of(page).is_none());
+    assert!(rt; segment.may_begin(page, class));
     segment.assign_page(page, class);
 }
 
@@ -72,6 +72,30 @@ fn until_worn(rt: HostRuntime) {
     assert_eq!(&rt; free(&rt, &mut segment, first.place, word), Ok(()));
     assert_eq!(&rt; segment.charge(7), 0);
     worn_then(&rt, &mut segment, first.place);
+}
+
+// A block of four pages: these have no other class, and each has the next one's where it is gone.
+#[test]
+fn over_four_pages(rt: HostRuntime) {
+    let mut segment = segment(&rt, rt.alloc(), 2);
+    let class = class_of(1025).expect(&rt, "a class");
+    assert!(&rt; segment.may_begin(12, class) && !segment.may_begin(13, class));
+    assign(&rt, &mut segment, 3, class);
+    let block = segment.open_in(3, 7).expect(&rt, "a place");
+    assert_eq!(&rt; segment.charge(7), 16384);
+    assert!(&rt; segment.open_in(3, 7).is_none() && segment.open_in(4, 7).is_none());
+    for page in 0..SEGMENT_PAGES as u8 {
+        assert_eq!(&rt; segment.covered(page), matches!(page, 4..7));
+        assert_eq!(&rt; segment.class_of(page).is_some(), page == 3);
+        assert_eq!(&rt; segment.may_begin(page, class), matches!(page, 7..13));
+    }
+    let word = live(&rt, 1, 7);
+    assert_eq!(&rt; free(&rt, &mut segment, block.place, word), Ok(()));
+    assert_eq!(&rt; segment.charge(7), 0);
+    assert_eq!(&rt; segment.retire_idle(), 1);
+    for page in 0..SEGMENT_PAGES as u8 {
+        assert_eq!(&rt; segment.may_begin(page, class), page < 13);
+    }
 }
 
 /// The second life of the one place of page 0, after which it is worn.
@@ -125,6 +149,6 @@ fn met_and_handed_back(rt: HostRuntime) {
 // What is handed on by value is small.
 #[test]
 fn small_to_move(rt: HostRuntime) {
-    assert!(&rt; size_of::<Segment<PlainWords>>() <= 128);
+    assert!(&rt; size_of::<Segment<PlainWords>>() <= 136);
     assert_eq!(&rt; PAGE_PLACES, 512);
 }

@@ -1,4 +1,4 @@
-use hg_size::{CLASSES, block_words, class_number, class_of, per_page, words_of};
+use hg_size::{CLASSES, block_words, class_number, class_of, pages_of, per_page, words_of};
 
 /// The words of each class, and the places of a page of it, as the table of the documentation
 /// has them.
@@ -35,7 +35,22 @@ static CLASS_ROWS: [(u16, u16); CLASSES] = [
     (384, 1),
     (448, 1),
     (512, 1),
+    (1024, 1),
+    (2048, 1),
+    (4096, 1),
+    (8192, 1),
 ];
+
+/// How many pages a block of so many words lies over.
+fn pages(words: u16) -> u8 {
+    match words {
+        1024 => 2,
+        2048 => 4,
+        4096 => 8,
+        8192 => 16,
+        _ => 1,
+    }
+}
 
 /// Every number of words from 1 on takes the first class that holds it.
 #[test]
@@ -48,6 +63,7 @@ fn classes(rt: HostRuntime) {
                     assert_eq!(rt; block_words(class), *size, "words for {wanted}");
                     assert_eq!(rt; usize::from(class_number(class)), number, "for {wanted}");
                     assert_eq!(rt; per_page(class), *places, "places for {wanted}");
+                    assert_eq!(rt; pages_of(class), pages(*size), "pages for {wanted}");
                 }
                 None => assert!(rt; false, "no class for {wanted} words"),
             }
@@ -58,7 +74,7 @@ fn classes(rt: HostRuntime) {
 }
 
 /// Bytes of a request, and its words.
-static REQUESTS: [(u64, u64); 9] = [
+static REQUESTS: [(u64, u64); 11] = [
     (0, 1),
     (1, 1),
     (8, 1),
@@ -67,6 +83,8 @@ static REQUESTS: [(u64, u64); 9] = [
     (65, 9),
     (4_096, 512),
     (4_097, 513),
+    (65_536, 8_192),
+    (65_537, 8_193),
     (u64::MAX, 2_305_843_009_213_693_952),
 ];
 
@@ -75,6 +93,6 @@ fn requests(rt: HostRuntime) {
     for (bytes, words) in &REQUESTS {
         assert_eq!(rt; words_of(*bytes), *words, "words for {bytes} bytes");
     }
-    assert!(rt; class_of(words_of(4_097)).is_none());
+    assert!(rt; class_of(words_of(65_537)).is_none());
     assert!(rt; class_of(words_of(u64::MAX)).is_none());
 }

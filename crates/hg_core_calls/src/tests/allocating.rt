@@ -54,17 +54,22 @@ impl Machine {
         (0..places(words)).any(|index| self.is_vacant(number_at(page, index)))
     }
 
-    /// Whether some page of this class, or of none, has room for a block of so many words.
-    fn has_open(&self, worker: u8, arena: u8, words: u16, class: Option<u16>) -> bool {
-        for (page, of) in self.classes.iter().enumerate() {
-            if *of == class
+    /// Whether some page of this class has room for a block of so many words, or some page that may
+    /// get it.
+    fn has_open(
+        &self,
+        rt: &impl Abort,
+        worker: u8,
+        arena: u8,
+        words: u16,
+        class: Option<u16>,
+    ) -> bool {
+        (0..self.classes.len()).any(|page| {
+            self.class_at(rt, page) == class
                 && self.is_in_reach(worker, arena, page)
                 && self.has_vacant(page, words)
-            {
-                return true;
-            }
-        }
-        false
+                && (class.is_some() || self.may_begin(rt, page, words))
+        })
     }
 
     /// How many words the block of a request has, or why it is refused.
@@ -90,8 +95,8 @@ impl Machine {
         if self.charge(rt, worker, actor.0).wrapping_add(bytes) as u64 > limit {
             return Err(Answer::Denied(Rule::OverLimit));
         }
-        if self.has_open(worker, arena, words, Some(words))
-            || self.has_open(worker, arena, words, None)
+        if self.has_open(rt, worker, arena, words, Some(words))
+            || self.has_open(rt, worker, arena, words, None)
         {
             return Ok(words);
         }
@@ -108,7 +113,8 @@ impl Machine {
         let generation = self.record_at(rt, number).generation;
         assert_eq!(rt; handle.generation, generation.wrapping_add(1));
         let class = self.class_at(rt, page);
-        let is_begun = class.is_none() && !self.has_open(worker, arena, words, Some(words));
+        let is_begun = self.may_begin(rt, page, words)
+            && !self.has_open(rt, worker, arena, words, Some(words));
         assert!(rt; class == Some(words) || is_begun);
     }
 

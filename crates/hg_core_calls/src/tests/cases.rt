@@ -1,9 +1,9 @@
 //! What is rare, and must come about in a run.
 
-use crate::tests::machine::{Holder, Life, Machine, number_at};
+use crate::tests::machine::{Holder, Life, Machine, number_at, pages};
 use crate::tests::reached::Reached;
 use hg_machine::{Answer, Event};
-use hg_place::{Handle, PAGE_PLACES, SEGMENT_PLACES};
+use hg_place::{Handle, PAGE_PLACES, SEGMENT_PAGES, SEGMENT_PLACES};
 use hg_size::{block_words, class_of, words_of};
 use std::process::Abort;
 
@@ -34,6 +34,16 @@ pub enum Case {
     WithBlocks,
     /// An orphan was taken to which places had been sent.
     WithSent,
+    /// A block of several pages was given out.
+    Run,
+    /// A block of several pages was given out behind pages without a class that are too few for it.
+    BehindGap,
+    /// A block of several pages was given out behind pages that have room for it, but a worn place.
+    BehindWorn,
+    /// A block of several pages had no room, and some page had no class.
+    TooFewPages,
+    /// A page of a block of several pages lost its class.
+    RunCleared,
 }
 
 /// What has to come about in each run.
@@ -50,6 +60,19 @@ pub static CASES: [Case; 11] = [
     Case::WithBlocks,
     Case::WithSent,
 ];
+
+/// What has to come about where many blocks lie over several pages.
+pub static RUNS: [Case; 4] = [
+    Case::Run,
+    Case::BehindGap,
+    Case::TooFewPages,
+    Case::RunCleared,
+];
+
+/// The words of the block that a request would get.
+fn words_for(bytes: u64) -> Option<u16> {
+    class_of(words_of(bytes)).map(block_words)
+}
 
 impl Machine {
     /// Whether each place of a page is out.
@@ -100,14 +123,61 @@ impl Machine {
         if handle.generation > 1 {
             reached.add_case(rt, Case::FurtherLife);
         }
-        let Some(class) = class_of(words_of(bytes)) else {
+        let Some(words) = words_for(bytes) else {
             return;
         };
-        if self.has_full(rt, worker, arena, block_words(class)) {
+        if self.has_full(rt, worker, arena, words) {
             reached.add_case(rt, Case::BesideFull);
         }
-        if self.has_worn(rt, handle.place.number() / PAGE_PLACES) {
+        let page = handle.place.number() / PAGE_PLACES;
+        if self.has_worn(rt, page) {
             reached.add_case(rt, Case::BesideWorn);
+        }
+        if pages(words) > 1 && self.class_at(rt, page).is_none() {
+            self.note_run(rt, reached, page, words);
+        }
+    }
+
+    /// The cases of a block of several pages that is about to begin at a page.
+    fn note_run(&self, rt: &impl Abort, reached: &mut Reached, page: usize, words: u16) {
+        reached.add_case(rt, Case::Run);
+        for earlier in page - page % SEGMENT_PAGES..page {
+            if self.may_begin(rt, earlier, words) {
+                reached.add_case(rt, Case::BehindWorn);
+            } else if self.is_blank(rt, earlier) {
+                reached.add_case(rt, Case::BehindGap);
+            }
+        }
+    }
+
+    /// The case of a block for which there is no room.
+    fn note_no_room(
+        &self,
+        rt: &impl Abort,
+        reached: &mut Reached,
+        worker: u8,
+        arena: u8,
+        bytes: u64,
+    ) {
+        let lies_over = words_for(bytes).map_or(0, pages);
+        let mut all = 0..self.classes.len();
+        if lies_over > 1
+            && all.any(|page| self.is_in_reach(worker, arena, page) && self.is_blank(rt, page))
+        {
+            reached.add_case(rt, Case::TooFewPages);
+        }
+    }
+
+    /// The cases of pages that are about to lose their classes.
+    fn note_collect(&self, rt: &impl Abort, reached: &mut Reached, worker: u8) {
+        reached.add_case(rt, Case::Cleared);
+        let is_run = |page: usize| {
+            self.holder(page / SEGMENT_PAGES) == Holder::Held(worker)
+                && self.class_at(rt, page).map_or(0, pages) > 1
+                && self.is_idle(rt, page)
+        };
+        if (0..self.classes.len()).any(is_run) {
+            reached.add_case(rt, Case::RunCleared);
         }
     }
 
@@ -160,7 +230,10 @@ impl Machine {
                     reached.add_case(rt, Case::InHand);
                 }
             }
-            (Event::Collect, Answer::Pages(1..)) => reached.add_case(rt, Case::Cleared),
+            (Event::Alloc { arena, bytes, .. }, Answer::NoRoom) => {
+                self.note_no_room(rt, reached, worker, arena, bytes);
+            }
+            (Event::Collect, Answer::Pages(1..)) => self.note_collect(rt, reached, worker),
             (Event::Refill { .. }, Answer::Refilled(segment)) => {
                 self.note_refill(rt, reached, segment);
             }

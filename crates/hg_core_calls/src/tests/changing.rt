@@ -2,7 +2,7 @@
 
 use crate::tests::machine::{Holder, Life, Machine};
 use hg_machine::{Answer, Row};
-use hg_place::{Actor, Handle, Place, Right, WORD_BYTES};
+use hg_place::{Actor, Handle, Place, Right, SEGMENT_WORDS, WORD_BYTES};
 use std::process::Abort;
 
 impl Machine {
@@ -117,7 +117,7 @@ impl Machine {
         Answer::Listed(Row {
             handle,
             owner: record.owner,
-            bytes: (record.words.len().min(512) * WORD_BYTES) as u32,
+            bytes: (record.words.len().min(SEGMENT_WORDS) * WORD_BYTES) as u32,
         })
     }
 

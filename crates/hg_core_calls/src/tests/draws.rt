@@ -4,7 +4,7 @@ ghost use Rattle.std.specs.Prelude.{◌<◌};
 
 use crate::tests::machine::{Holder, Machine};
 use hg_machine::Event;
-use hg_place::{Actor, Handle, MAX_SEGMENTS, PAGE_PLACES, Place, SEGMENT_PAGES};
+use hg_place::{Actor, Handle, MAX_SEGMENTS, PAGE_PLACES, Place, SEGMENT_PAGES, SEGMENT_WORDS};
 use std::alloc::Global;
 use std::process::Abort;
 
@@ -18,9 +18,11 @@ const SEGMENTS: usize = 5;
 /// A number that no arena has, and no segment.
 const NOWHERE: u8 = 255;
 
-/// The bytes that are asked for.
-static BYTES: [u64; 13] = [
-    0, 1, 8, 9, 24, 200, 512, 700, 1300, 2000, 4096, 4097, 1000000,
+/// The bytes that are asked for: those of each class, and few that no class holds.
+static BYTES: [u64; 40] = [
+    0, 8, 16, 24, 32, 40, 48, 56, 64, 80, 96, 112, 128, 160, 192, 224, 256, 320, 384, 448, 512,
+    640, 768, 896, 1024, 1280, 1536, 1792, 2048, 2560, 3072, 3584, 4096, 4097, 8192, 16384, 32768,
+    65536, 65537, 1000000,
 ];
 
 /// Numbers from a seed.
@@ -146,7 +148,8 @@ impl Draws {
     fn index(&mut self, machine: &Machine, handle: Handle) -> u32 {
         match machine.records.get(handle.place.number()) {
             Some(record) if self.numbers.below(32) > 0 => {
-                self.numbers.below(record.words.len().min(512) + 1) as u32
+                self.numbers
+                    .below(record.words.len().min(SEGMENT_WORDS) + 1) as u32
             }
             _ => u32::MAX,
         }

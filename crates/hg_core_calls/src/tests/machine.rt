@@ -45,9 +45,14 @@ pub struct Machine {
     hands: Vec<Option<usize>>,
 }
 
-/// How many blocks of so many words a page has room for.
+/// How many pages a block of so many words lies over.
+pub fn pages(words: u16) -> usize {
+    (usize::from(words.max(1)) - 1) / PAGE_WORDS + 1
+}
+
+/// How many blocks of so many words begin at a page: one, where it lies over several pages.
 pub fn places(words: u16) -> usize {
-    PAGE_WORDS / usize::from(words.max(1))
+    (PAGE_WORDS / usize::from(words.max(1))).max(1)
 }
 
 /// The number of a place of a page.
@@ -116,6 +121,28 @@ impl Machine {
             Some(words) => places(words),
             None => 0,
         }
+    }
+
+    /// Whether a block of an earlier page of the segment lies over the page too.
+    pub fn is_covered(&self, rt: &impl Abort, page: usize) -> bool {
+        let first = page - page % SEGMENT_PAGES;
+        (first..page).any(|earlier| match self.class_at(rt, earlier) {
+            Some(words) => page - earlier < pages(words),
+            None => false,
+        })
+    }
+
+    /// Whether a page has no class, and no block lies over it.
+    pub fn is_blank(&self, rt: &impl Abort, page: usize) -> bool {
+        self.class_at(rt, page).is_none() && !self.is_covered(rt, page)
+    }
+
+    /// Whether a block of so many words may begin at a page: its pages are blank, and of one
+    /// segment.
+    pub fn may_begin(&self, rt: &impl Abort, page: usize, words: u16) -> bool {
+        let last = page.wrapping_add(pages(words) - 1);
+        page / SEGMENT_PAGES == last / SEGMENT_PAGES
+            && (page..=last).all(|under| self.is_blank(rt, under))
     }
 
     /// Who holds a segment.

@@ -1,6 +1,6 @@
 //! How often each event was answered in each way, and how often what is rare came about.
 
-use crate::tests::cases::{CASES, Case};
+use crate::tests::cases::{CASES, Case, RUNS};
 use hg_machine::{Answer, Event, Rule};
 use std::alloc::Global;
 use std::process::Abort;
@@ -225,6 +225,13 @@ impl Reached {
     pub fn check_served(&self, rt: &impl Abort) {
         for (call, kind) in SERVED {
             self.check_answer(rt, call, kind);
+        }
+    }
+
+    /// Blocks of several pages came and went, and some had no room.
+    pub fn check_runs(&self, rt: &impl Abort) {
+        for case in RUNS {
+            self.check_case(rt, case);
         }
     }
 

@@ -6,7 +6,7 @@ use crate::tests::machine::Machine;
 use crate::tests::reached::Reached;
 use hg_core::Core;
 use hg_machine::{Answer, Event};
-use hg_place::{Actor, Handle, MAX_SEGMENTS, PAGE_PLACES, PAGE_WORDS, SEGMENT_PLACES, place_at};
+use hg_place::{Actor, Handle, MAX_SEGMENTS, PAGE_PLACES, SEGMENT_PLACES, SEGMENT_WORDS, place_at};
 use hg_policy::read_policy;
 use std::alloc::Global;
 use std::process::Abort;
@@ -46,7 +46,19 @@ deny = [ {owner = \"guests\", to = \"alice\", rights = [\"read\", \"free\"]},
   {owner = \"guests\", to = \"guests\", rights = [\"list\"]} ]
 ";
 
-/// The workers of both, and of the tenants and arenas of both the first.
+/// As many of each, with room for several blocks of a whole segment; each place is given out once.
+pub static LARGE: &str = "version = 1
+workers = 4
+max_generation = 1
+tenant = [ {name = \"alice\", limit = 400000}, {name = \"bob\", limit = 200000},
+  {name = \"carol\", limit = 50000} ]
+arena = [ {name = \"main\", segments = 3},
+  {name = \"vault\", segments = 2, exclusive = [\"alice\", \"bob\"]} ]
+grant = [ {owner = \"alice\", to = \"bob\", rights = [\"read\", \"free\"]},
+  {owner = \"bob\", to = \"alice\", rights = [\"list\", \"write\", \"free\"]} ]
+";
+
+/// The workers of all, and of the tenants and arenas of all the first.
 pub const WORKERS: u8 = 4;
 
 const ALICE: Actor = Actor(0);
@@ -130,7 +142,7 @@ impl Run {
         handle: Handle,
     ) {
         let record = self.machine.record_at(rt, handle.place.number());
-        for index in 0..record.words.len().min(PAGE_WORDS) as u32 {
+        for index in 0..record.words.len().min(SEGMENT_WORDS) as u32 {
             let event = Event::Read {
                 actor,
                 handle,
@@ -194,6 +206,17 @@ fn core_as_machine_few_lives(rt: HostRuntime) {
         let reached = run_from(&rt, rt.alloc(), FEW_LIVES, seed);
         reached.check(&rt);
         reached.check_case(&rt, Case::BesideWorn);
+    }
+}
+
+// The core does as the plain machine does, where many blocks lie over several pages and each place
+// is worn after its first block.
+#[test]
+fn core_as_machine_one_life(rt: HostRuntime) {
+    for seed in [3, 1729] {
+        let reached = run_from(&rt, rt.alloc(), LARGE, seed);
+        reached.check_runs(&rt);
+        reached.check_case(&rt, Case::BehindWorn);
     }
 }
 

@@ -38,7 +38,7 @@ impl Machine {
     }
 
     /// Whether each place of a page is home.
-    fn is_idle(&self, rt: &impl Abort, page: usize) -> bool {
+    pub fn is_idle(&self, rt: &impl Abort, page: usize) -> bool {
         (0..self.count_places(rt, page)).all(|index| self.record_at(rt, number_at(page, index)).life
             == Life::Home)
     }

@@ -2,7 +2,7 @@
 //! and the blocks that are out.
 
 use crate::tests::heaps::{ALICE, VAULT};
-use crate::tests::order::places;
+use crate::tests::order::{pages, places};
 use crate::tests::seeded::{GREATEST, LIMITS};
 use hg_heap::Refused;
 use hg_machine::Rule;
@@ -175,12 +175,30 @@ impl Machine {
         self.generation_at(rt, number) < GREATEST && !self.blocks.iter().any(is_out)
     }
 
-    /// Whether a page of held segments of the arena and of this class, 0 for none, has room for a
-    /// block of so many words.
+    /// Whether a page has no class, and no block of an earlier page of the segment lies over it.
+    fn is_blank(&self, rt: &impl Abort, page: usize) -> bool {
+        let first = page - page % SEGMENT_PAGES;
+        self.class(rt, page) == 0
+            && (first..page).all(|earlier| {
+                let words = self.class(rt, earlier);
+                words == 0 || pages(words) <= page - earlier
+            })
+    }
+
+    /// Whether a page may get the class of blocks of so many words.
+    fn may_begin(&self, rt: &impl Abort, page: usize, words: u16) -> bool {
+        let last = page.wrapping_add(pages(words) - 1);
+        page / SEGMENT_PAGES == last / SEGMENT_PAGES
+            && (page..=last).all(|under| self.is_blank(rt, under))
+    }
+
+    /// Whether a page of held segments of the arena has room for a block of so many words: one of
+    /// this class; or, where it is 0, one that may get the class.
     fn has_room_in(&self, rt: &impl Abort, arena: u8, class: u16, words: u16) -> bool {
         for page in 0..self.classes.len() {
             if self.arena_of(rt, page / SEGMENT_PAGES) == Some(arena)
                 && self.class(rt, page) == class
+                && (class > 0 || self.may_begin(rt, page, words))
                 && (0..places(words)).any(|index| self.is_vacant(rt, page, index))
             {
                 return true;
@@ -238,7 +256,8 @@ impl Machine {
         assert!(rt; place.index < places(words) && self.is_vacant(rt, page, place.index));
         self.is_next(rt, handle);
         let class = self.class(rt, page);
-        let is_begun = class == 0 && !self.has_room_in(rt, arena, words, words);
+        let is_begun = self.may_begin(rt, page, words)
+            && !self.has_room_in(rt, arena, words, words);
         assert!(rt; class == words || is_begun);
     }
 

@@ -73,7 +73,8 @@ fn class_bytes_count(rt: HostRuntime) {
     given(&rt, &mut tried, ALICE, 1, 0, 0, 1);
     given(&rt, &mut tried, ALICE, 3585, 1, 0, 1);
     tried.allocs(&rt, ALICE, MAIN, 3585, denied(Rule::OverLimit));
-    tried.allocs(&rt, ALICE, MAIN, 4097, Err(Refused::TooLarge));
+    tried.allocs(&rt, ALICE, MAIN, 4097, denied(Rule::OverLimit));
+    tried.allocs(&rt, ALICE, MAIN, 65537, Err(Refused::TooLarge));
     tried.charges(&rt, 0, 4104);
     drop(tried);
 }

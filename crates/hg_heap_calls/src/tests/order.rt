@@ -40,12 +40,17 @@ pub struct Next {
     pub generation: u32,
 }
 
-/// How many blocks of so many words a page has.
+/// How many pages a block of so many words lies over.
+pub fn pages(words: u16) -> usize {
+    (usize::from(words.max(1)) - 1) / PAGE_WORDS + 1
+}
+
+/// How many blocks of so many words begin at a page: one, where it lies over several pages.
 pub fn places(words: u16) -> u16 {
     if words == 0 {
         return 0;
     }
-    PAGE_WORDS as u16 / words
+    (PAGE_WORDS as u16 / words).max(1)
 }
 
 impl PlainPage {
@@ -204,11 +209,24 @@ impl Order {
         }
     }
 
+    /// Whether a block of so many words may begin at a page: its pages are of one segment and have
+    /// no class, and no block of an earlier page lies over the first of them.
+    fn may_begin(&mut self, rt: &impl Abort, page: usize, words: u16) -> bool {
+        let last = page.wrapping_add(pages(words) - 1);
+        let first = page - page % SEGMENT_PAGES;
+        page / SEGMENT_PAGES == last / SEGMENT_PAGES
+            && (page..=last).all(|under| self.page(rt, under).words == 0)
+            && (first..page).all(|earlier| {
+                let words = self.page(rt, earlier).words;
+                words == 0 || pages(words) <= page - earlier
+            })
+    }
+
     /// The first page without a class that has room for a block.
     fn blank(&mut self, rt: &impl Abort, arena: u8, words: u16) -> Option<usize> {
         for page in 0..self.pages.len() {
             if self.arena_of(rt, page) == Some(arena)
-                && self.page(rt, page).words == 0
+                && self.may_begin(rt, page, words)
                 && self.page(rt, page).has_vacant(rt, words)
             {
                 return Some(page);

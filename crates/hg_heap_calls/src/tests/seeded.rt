@@ -10,7 +10,7 @@ use hg_heap::{Heap, Refused};
 use hg_machine::{Row, Rule};
 use hg_place::{
     Actor, Handle, PAGE_PLACES, Place, PlainWords, Right, SEGMENT_PAGES, SEGMENT_PLACES,
-    word_generation,
+    SEGMENT_WORDS, word_generation,
 };
 use hg_remote::RemoteList;
 use hg_segment::Segment;
@@ -21,14 +21,14 @@ use std::process::Abort;
 /// The greatest generation of the places, and the limits, as `SEEDED` has them.
 pub const GREATEST: u32 = 4;
 
-pub const LIMITS: [u64; 2] = [90000, 9000];
+pub const LIMITS: [u64; 2] = [120000, 40000];
 
 /// Two tenants, two arenas and three segments. What is denied stands in no grant, in one, and in a
 /// line on each tenant's own blocks.
 static SEEDED: &str = "version = 2
 workers = 1
 max_generation = 4
-tenant = [ {name = \"alice\", limit = 90000}, {name = \"bob\", limit = 9000} ]
+tenant = [ {name = \"alice\", limit = 120000}, {name = \"bob\", limit = 40000} ]
 arena = [ {name = \"main\", segments = 2},
   {name = \"vault\", segments = 1, exclusive = [\"alice\"]} ]
 group = [ {name = \"both\", members = [\"alice\", \"bob\"]} ]
@@ -38,8 +38,12 @@ deny = [ {owner = \"both\", to = \"alice\", rights = [\"free\"]},
   {owner = \"alice\", to = \"both\", rights = [\"write\"]} ]
 ";
 
-/// The bytes that are asked for.
-static BYTES: [u64; 9] = [0, 24, 200, 512, 700, 1300, 2000, 4096, 5000];
+/// The bytes that are asked for: those of each class, and few that no class holds.
+static BYTES: [u64; 38] = [
+    0, 16, 24, 32, 40, 48, 56, 64, 80, 96, 112, 128, 160, 192, 224, 256, 320, 384, 448, 512, 640,
+    768, 896, 1024, 1280, 1536, 1792, 2048, 2560, 3072, 3584, 4096, 4097, 16384, 32768, 65536,
+    5000, 65537,
+];
 
 /// A heap, its models, and the handles that were given out; what was sent to segment 1, once for
 /// the heap and once for the models; and how often a right was forbidden.
@@ -231,7 +235,7 @@ impl Run {
             Some(at) => self.machine.block(rt, at).words.len(),
             None => 1,
         };
-        let index = pick(number, 40, many.min(512) + 1) as u32;
+        let index = pick(number, 40, many.min(SEGMENT_WORDS) + 1) as u32;
         if is_write {
             self.write(rt, actor, handle, index, number);
         } else {
@@ -289,7 +293,7 @@ impl Run {
         }
         let at = self.machine.block_at(handle.place).expect(rt, "a block");
         let block = self.machine.block(rt, at);
-        let bytes = 8 * block.words.len().min(512) as u32;
+        let bytes = 8 * block.words.len().min(SEGMENT_WORDS) as u32;
         let owner = block.owner;
         Some(Row {
             handle,
@@ -349,7 +353,7 @@ impl Run {
         random
     }
 
-    /// Segment 1 with pages of three classes, as another heap left it: of two pages all blocks are
+    /// Segment 1 with pages of five classes, as another heap left it: of three pages all blocks are
     /// out, of two others some; some are home again, and some were freed and sent.
     fn used(&mut self, rt: &impl Abort, alloc: Global) -> Segment<PlainWords> {
         let mut segment = fresh(rt, alloc, &self.tried.policy, 1);
@@ -357,6 +361,7 @@ impl Run {
         self.use_page(rt, alloc, &mut segment, 3, 512, 1);
         self.use_page(rt, alloc, &mut segment, 4, 25, 512);
         self.use_page(rt, alloc, &mut segment, 6, 3, 50);
+        self.use_page(rt, alloc, &mut segment, 9, 2048, 1);
         segment
     }
 
@@ -384,8 +389,8 @@ impl Run {
         words: u16,
         many: u16,
     ) {
-        assert!(rt; (page as usize) < SEGMENT_PAGES && segment.class_of(page).is_none());
         let class = class_of(u64::from(words)).expect(rt, "a class");
+        assert!(rt; (page as usize) < SEGMENT_PAGES && segment.may_begin(page, class));
         let words = block_words(class);
         let number = SEGMENT_PAGES + page as usize;
         segment.assign_page(page, class);

@@ -47,8 +47,8 @@ impl Sent {
 
     /// A page gets the class of blocks of so many words, and alice so many of them.
     fn open(&mut self, rt: &impl Abort, page: u8, words: u64, many: u16) {
-        assert!(rt; (page as usize) < SEGMENT_PAGES && self.segment.class_of(page).is_none());
         let class = class_of(words).expect(rt, "a class");
+        assert!(rt; (page as usize) < SEGMENT_PAGES && self.segment.may_begin(page, class));
         self.segment.assign_page(page, class);
         for _ in 0..many {
             assert!(rt; self.segment.open_in(page, 0).is_some());
@@ -178,6 +178,6 @@ fn nothing_was_sent(rt: HostRuntime) {
     sent.open(&rt, 0, 512, 1);
     let mut tried = sent.take(&rt, 0);
     tried.charges(&rt, 0, 4096);
-    tried.allocs(&rt, ALICE, MAIN, 5000, Err(Refused::TooLarge));
+    tried.allocs(&rt, ALICE, MAIN, 65537, Err(Refused::TooLarge));
     drop(tried);
 }

@@ -72,7 +72,7 @@ fn answers_are_judged(rt: HostRuntime) -> Result<(), Fail> {
         &rt,
         a,
         POLICY,
-        b"w0 refill main\nw0 alloc alice main 4097\nw0 alloc alice nowhere 8\n",
+        b"w0 refill main\nw0 alloc alice main 65537\nw0 alloc alice nowhere 8\n",
         (Status::Done, "segment 0\nlarge\ndenied arena\n", ""),
     )
 }

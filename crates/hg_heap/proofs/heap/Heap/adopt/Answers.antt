@@ -22,6 +22,7 @@ add_charges-requires-clause-room g c =
     record {
       lists = s.lists;
       sizes = s.sizes;
+      runs = s.runs;
       bounded = s.bounded;
       opened = s.open;
       listed =
@@ -56,6 +57,7 @@ invariant_of-self g c =
     record {
       lists = s.lists;
       sizes = s.sizes;
+      runs = s.runs;
       bounded = s.bounded;
       opened = s.open;
       listed =

@@ -1,12 +1,12 @@
 use Rattle.hg_heap.specs.Settled.{IsSettled}
 use Rattle.hg_heap.proofs.Founds.{found_of}
-use Rattle.hg_heap.proofs.Beginning.{Begins, unclassed, arena_begun, own_begun, queued_begun}
+use Rattle.hg_heap.proofs.Beginning.{Begins, begun_there, arena_begun, own_begun, queued_begun}
 use Rattle.hg_heap.proofs.Beginning.{right_begun, begun, class_begun, lists_begun, others_begun}
 use Rattle.hg_heap.proofs.heap.Heap.begin.Goals as goal
 
-pub assign_page-requires-clause-unassigned : goal.assign_page-requires-clause-unassigned
-assign_page-requires-clause-unassigned g c =
-    unclassed g.S.SlotWords.number g.S.SlotWords.records c.self.inside.segments.items
+pub assign_page-requires-clause-begins : goal.assign_page-requires-clause-begins
+assign_page-requires-clause-begins g c =
+    begun_there g.S.SlotWords.number g.S.SlotWords.records c.self.inside.segments.items
     c.in-Some.found c.args.arena c.args.class c.args.page c.index_mut-segment.result.now
     (found_of g.S.SlotWords.number c.self.inside.segments.items _ c.in-Some.found
     c.index_mut-segment.result.now
@@ -58,6 +58,7 @@ invariant_of-self g c =
     let after : IsSettled g.S.SlotWords.records c.assign_page.new.self = record {
       lists = c.settled.ensures.lists;
       sizes = c.settled.ensures.sizes;
+      runs = c.settled.ensures.runs;
       bounded = c.settled.ensures.bounded;
       opened = c.settled.ensures.«open»;
       listed = c.settled.ensures.listed;
@@ -141,6 +142,7 @@ returns-clause-queued g c =
     let after : IsSettled g.S.SlotWords.records c.assign_page.new.self = record {
       lists = c.settled.ensures.lists;
       sizes = c.settled.ensures.sizes;
+      runs = c.settled.ensures.runs;
       bounded = c.settled.ensures.bounded;
       opened = c.settled.ensures.«open»;
       listed = c.settled.ensures.listed;

@@ -41,6 +41,7 @@ invariant_of-self g c = let w = g.S.SlotWords in let d = c.in-Err.ensures.denied
     (record {
       lists = s.lists;
       sizes = s.sizes;
+      runs = s.runs;
       bounded = s.bounded;
       opened = s.«open»;
       listed =
@@ -228,6 +229,7 @@ invariant_of-self-2 g c = let w = g.S.SlotWords in let k = c.in-Ok.ensures.close
     (record {
       lists = s.lists;
       sizes = s.sizes;
+      runs = s.runs;
       bounded = s.bounded;
       opened = s.«open»;
       listed =

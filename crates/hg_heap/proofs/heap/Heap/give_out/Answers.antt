@@ -72,6 +72,7 @@ invariant_of-self g c =
     let after : IsSettled g.S.SlotWords.records c.open_in.new.self = record {
       lists = c.settled.ensures.lists;
       sizes = c.settled.ensures.sizes;
+      runs = c.settled.ensures.runs;
       bounded = c.settled.ensures.bounded;
       opened = c.settled.ensures.«open»;
       listed = c.settled.ensures.listed;

@@ -16,6 +16,7 @@ invariant_of-self g c = let w = g.S.SlotWords in let r = c.row_of-row.ensures in
     (record {
       lists = s.lists;
       sizes = s.sizes;
+      runs = s.runs;
       bounded = s.bounded;
       opened = s.open;
       listed =

@@ -25,6 +25,7 @@ invariant_of-self g c = let w = g.S.SlotWords in let m = c.meet-word.ensures in 
     (record {
       lists = s.lists;
       sizes = s.sizes;
+      runs = s.runs;
       bounded = s.bounded;
       opened = s.open;
       listed = s.listed;

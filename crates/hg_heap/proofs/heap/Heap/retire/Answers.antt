@@ -31,6 +31,7 @@ invariant_of-self-2 g c =
     let settled : IsSettled w.records after = record {
       lists = s.lists;
       sizes = s.sizes;
+      runs = s.runs;
       bounded = s.bounded;
       opened = s.open;
       listed = s.listed;

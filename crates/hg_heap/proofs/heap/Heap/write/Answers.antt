@@ -17,6 +17,7 @@ invariant_of-self g c = let w = g.S.SlotWords in let r = c.write_word-written.en
     (record {
       lists = s.lists;
       sizes = s.sizes;
+      runs = s.runs;
       bounded = s.bounded;
       opened = s.open;
       listed =

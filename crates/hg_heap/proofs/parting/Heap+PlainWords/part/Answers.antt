@@ -24,6 +24,7 @@ invariant_of-self c = let s = c.settled.ensures in
     (record {
       lists = s.lists;
       sizes = s.sizes;
+      runs = s.runs;
       bounded = s.bounded;
       opened = s.open;
       listed = s.listed;

@@ -10,11 +10,17 @@ returns-then-not-is_idle-clause-stayed g c _ = record {
 }
 
 pub invariant_of-self : goal.invariant_of-self
-invariant_of-self g c = rw c.set.ensures ((retiring _ _ _ _ _ _ _ _ _ _ c.self.invariant c.requires c.index.ensures (c.is_idle.ensures.0 c.if-not-is_idle.false) c.index_mut-lists.ensures.value c.retire.ensures.linked c.retire.ensures.retired c.retire.ensures.shape).right)
+invariant_of-self g c = rw c.clear.ensures ((retiring _ _ _ _ _ _ _ _ _ _ c.self.invariant c.requires c.index.ensures (c.is_idle.ensures.0 c.if-not-is_idle.false) c.index_mut-lists.ensures.value c.retire.ensures.linked c.retire.ensures.retired c.retire.ensures.shape).right)
 
 pub returns-clause-retired : goal.returns-clause-retired
 returns-clause-retired g c _ = let it = (retiring _ _ _ _ _ _ _ _ _ _ c.self.invariant c.requires c.index.ensures (c.is_idle.ensures.0 c.if-not-is_idle.false) c.index_mut-lists.ensures.value c.retire.ensures.linked c.retire.ensures.retired c.retire.ensures.shape) in rw (← c.self.view_is) (record {
   classed = class_some c.self.inside.classes c.args.page c.get.result c.is_none.result c.get.ensures c.is_none.ensures c.if-is_none.false;
   idle = it.idle;
-  changed = rw (c.set.ensures, it.lists) refl;
+  changed = rw (c.clear.ensures, it.lists) refl;
 })
+
+pub clear-requires-clause-classed : goal.clear-requires-clause-classed
+clear-requires-clause-classed g c = class_some c.self.inside.classes c.args.page c.get.result c.is_none.result c.get.ensures c.is_none.ensures c.if-is_none.false
+
+pub clear-requires-clause-runs : goal.clear-requires-clause-runs
+clear-requires-clause-runs g c = c.self.invariant.runs

@@ -20,3 +20,6 @@ returns-clause-listed g c = rw (← c.self.view_is) (listed_placed _ _ _ _ _ _ c
 
 pub returns-clause-blocks : goal.returns-clause-blocks
 returns-clause-blocks g c = rw (← c.self.view_is) (block_length _ _ _ _ _ _ c.self.invariant)
+
+pub returns-clause-runs : goal.returns-clause-runs
+returns-clause-runs g c = rw (← c.self.view_is) c.self.invariant.runs

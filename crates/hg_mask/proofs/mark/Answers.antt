@@ -1,0 +1,15 @@
+use Rattle.std.proofs.Common.{◌≡◌, ◌+◌, ℕ, arith, ap, ◌∙◌, ⊎_elim, bit_or, max}
+use Rattle.std.specs.Int.{bit_at}
+use Rattle.std.proofs.lemmas.Nat.Bits.{bit_at_or, bit_at-lt}
+use Rattle.hg_mask.proofs.MarksLemmas.{run_inside, run_outside}
+use Rattle.hg_mask.proofs.mark.Goals as goal
+
+pub returns-clause-inside : goal.returns-clause-inside
+returns-clause-inside c page low high =
+    bit_at_or c.args.marks c.run.result page
+    ∙ (omega (arith, bit_at-lt c.args.marks page, run_inside c.args.from c.args.count c.run.result page c.run.ensures low high))
+
+pub returns-clause-outside : goal.returns-clause-outside
+returns-clause-outside c page out =
+    bit_at_or c.args.marks c.run.result page
+    ∙ (omega (arith, bit_at-lt c.args.marks page, run_outside c.args.from c.args.count c.run.result page c.run.ensures out))
