@@ -29,8 +29,23 @@
 #include <stddef.h>
 #include <stdint.h>
 
+/* The release of this header. HG_VERSION is a status. */
+#define HG_VERSION_MAJOR 0
+#define HG_VERSION_MINOR 1
+#define HG_VERSION_PATCH 0
+
+/* Where the reply is dropped, what it names is lost: a compiler that can says so. */
+#if defined(__GNUC__)
+#define HG_MUST_USE __attribute__((warn_unused_result))
+#else
+#define HG_MUST_USE
+#endif
+
 #ifdef __cplusplus
+#define HG_AS(type, value) static_cast<type>(value)
 extern "C" {
+#else
+#define HG_AS(type, value) ((type)(value))
 #endif
 
 /* A core. Its fields are the library's. */
@@ -103,8 +118,8 @@ typedef struct hg_reply {
 
 /* Opens a core by the text of its policy: HG_DONE, or the first fault, with as much of its line in
  * the room as there is room for. The line has no newline and no zero behind it. */
-hg_reply hg_open(hg_core *core, const char *policy, size_t policy_length,
-                 char *room, size_t room_length);
+HG_MUST_USE hg_reply hg_open(hg_core *core, const char *policy, size_t policy_length,
+                             char *room, size_t room_length);
 
 /* Closes a core, and frees its memory. */
 hg_reply hg_close(hg_core *core);
@@ -112,7 +127,8 @@ hg_reply hg_close(hg_core *core);
 /* The ten events. `worker` is who serves, a number below that of hg_workers. `actor` is who asks,
  * by the number of a tenant; a number that no tenant has is a stranger's, and 255 always is. */
 /* At most 65536 bytes; the words of the block are 0. Above 4096 it has 8, 16, 32 or 64 KiB. */
-hg_reply hg_alloc(hg_core *core, uint8_t worker, uint8_t actor, uint8_t arena, uint64_t bytes);
+HG_MUST_USE hg_reply hg_alloc(hg_core *core, uint8_t worker, uint8_t actor, uint8_t arena,
+                              uint64_t bytes);
 hg_reply hg_free(hg_core *core, uint8_t worker, uint8_t actor, hg_handle block);
 hg_reply hg_deliver(hg_core *core, uint8_t worker);
 hg_reply hg_take(hg_core *core, uint8_t worker, uint8_t segment);
@@ -139,20 +155,25 @@ hg_reply hg_tenant_name(hg_core *core, uint8_t tenant, char *room, size_t room_l
 #endif
 
 /* The place of a block, which hg_look takes. */
-static inline uint32_t hg_place_of(hg_handle block) { return (uint32_t)(block >> 32); }
+static inline uint32_t hg_place_of(hg_handle block) { return HG_AS(uint32_t, block >> 32); }
 
 /* The four numbers of a handle, which is written @segment.page.index.generation. */
 static inline uint32_t hg_segment_of(hg_handle block) { return hg_place_of(block) / 8192; }
 static inline uint32_t hg_page_of(hg_handle block) { return hg_place_of(block) / 512 % 16; }
 static inline uint32_t hg_index_of(hg_handle block) { return hg_place_of(block) % 512; }
-static inline uint32_t hg_generation_of(hg_handle block) { return (uint32_t)block; }
+static inline uint32_t hg_generation_of(hg_handle block) { return HG_AS(uint32_t, block); }
 
-/* A handle of its four numbers. */
+/* A handle of its four numbers, or 0, which is none, where one of them is out of range: a segment
+ * is below 64, a page below 16, an index below 512, and a generation at least 1. */
 static inline hg_handle hg_handle_of(uint32_t segment, uint32_t page, uint32_t index,
                                      uint32_t generation)
 {
-    return (hg_handle)(segment * 8192 + page * 512 + index) << 32 | generation;
+    if (segment > 63 || page > 15 || index > 511 || generation == 0) return 0;
+    return HG_AS(hg_handle, segment * 8192 + page * 512 + index) << 32 | generation;
 }
+
+/* Whether a status, of this release or a later one, is of what was served, as 1 or 0. */
+static inline int hg_is_served(unsigned status) { return status >= 1 && status <= 15; }
 
 /* A few words for a status. Those of an event are the ones that heapguard prints. */
 static inline const char *hg_status_text(unsigned status)
@@ -197,5 +218,8 @@ static inline const char *hg_status_text(unsigned status)
     default: return "unknown status";
     }
 }
+
+#undef HG_AS
+#undef HG_MUST_USE
 
 #endif

@@ -4,6 +4,10 @@
 #ifndef HEAPGUARD_HPP
 #define HEAPGUARD_HPP
 
+#if __cplusplus < 201703L
+#error "heapguard.hpp is for C++17: compile with -std=c++17 or later, or include heapguard.h"
+#else
+
 #include "heapguard.h"
 
 #include <cstddef>
@@ -75,7 +79,7 @@ public:
 
     /// Opens a closed one by the text of a policy; with a fault, `line` is the line that tells it,
     /// as far as 1,024 bytes go.
-    Reply open(std::string_view policy, std::string &line)
+    [[nodiscard]] Reply open(std::string_view policy, std::string &line)
     {
         char room[1024];
         Reply opened = hg_open(&core_, policy.data(), policy.size(), room, sizeof room);
@@ -85,7 +89,8 @@ public:
 
     Reply close() noexcept { return hg_close(&core_); }
 
-    Reply alloc(std::uint8_t worker, std::uint8_t actor, std::uint8_t arena, std::uint64_t bytes)
+    [[nodiscard]] Reply alloc(std::uint8_t worker, std::uint8_t actor, std::uint8_t arena,
+                              std::uint64_t bytes)
     {
         return hg_alloc(&core_, worker, actor, arena, bytes);
     }
@@ -168,5 +173,7 @@ private:
 };
 
 } // namespace heapguard
+
+#endif // C++17
 
 #endif

@@ -9,6 +9,17 @@ fn main() {
         || PathBuf::from(env::var_os("CARGO_MANIFEST_DIR").unwrap()).join("../../out/lib"),
         PathBuf::from,
     );
+    for file in ["libhg.a", "libhg_malloc.a"] {
+        let it = folder.join(file);
+        if !it.is_file() {
+            eprintln!(
+                "heapguard: no {}: run bin/build-lib at the top of the repository, or name the \
+                 folder that it left the library in by HEAPGUARD_LIB",
+                it.display()
+            );
+            std::process::exit(1);
+        }
+    }
     println!("cargo:rerun-if-env-changed=HEAPGUARD_LIB");
     println!(
         "cargo:rerun-if-changed={}",

@@ -36,7 +36,8 @@ impl Place {
 }
 
 /// One life of a place: its generation, 1 for the first. Written `@segment.page.index.generation`.
-#[derive(Clone, Copy, Debug, PartialEq, Eq, Hash, PartialOrd, Ord)]
+/// `Debug` gives that text too.
+#[derive(Clone, Copy, PartialEq, Eq, Hash, PartialOrd, Ord)]
 pub struct Handle(NonZeroU64);
 
 impl Handle {
@@ -79,6 +80,12 @@ impl fmt::Display for Handle {
             place.index(),
             self.generation()
         )
+    }
+}
+
+impl fmt::Debug for Handle {
+    fn fmt(&self, f: &mut fmt::Formatter<'_>) -> fmt::Result {
+        fmt::Display::fmt(self, f)
     }
 }
 
@@ -129,6 +136,7 @@ mod tests {
         for text in ["@0.0.0.1", "@63.15.511.4294967295", "@5.1.3.7"] {
             let handle: Handle = text.parse().unwrap();
             assert_eq!(handle.to_string(), text);
+            assert_eq!(format!("{handle:?}"), text);
             assert_eq!(Handle::from_u64(handle.to_u64()), Some(handle));
         }
         assert_eq!(

@@ -104,9 +104,9 @@ witness view shown =
     }
 
 -- What holds of every worker: its segments are the policy's and their classes sizes, of blocks that
--- end in their segment and of no covered page; a generation is no greater than the greatest; an open
--- place was given out, and is a block place of a page of its block's class; a place at home has no
--- words
+-- end in their segment and of no covered page; a generation is no greater than the greatest; an
+-- open place was given out, and is a block place of a page of its block's class; a place at home
+-- has no words
 pub record IsHeapView (view : View) : Type 0 where
   pub policy : IsSoundPolicy view.policy
   pub worker : view.worker < view.policy.workers

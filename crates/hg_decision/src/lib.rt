@@ -102,6 +102,3 @@ pub fn judge_alloc(
         AllocVerdict::Denied(Rule::OverLimit)
     }
 }
-
-#[cfg(test)]
-mod tests;

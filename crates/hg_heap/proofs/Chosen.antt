@@ -143,7 +143,8 @@ module _ {S : Type 0} (number : S → ℕ) (records : S → List Standing) where
         let f = found_one number records held.segments (segment_of_page page) k on.is in
         let s = settled k f.0 in
         let low : page % 16 < 16 = omega arith in
-        let here = listed_all k (page % 16) index (class_at k.classes (page % 16)) (number_some size _ on.class)
+        let here = listed_all k (page % 16) index (class_at k.classes (page % 16))
+        (number_some size _ on.class)
         (s.lists (page % 16) low).all on.below on.vacant in
         let lists : lists_on number held.segments page ≡ lists_at k.lists (page % 16) =
         ap (λ (o : Option (Kept S)). lists_by number o (page % 16)) on.is in

@@ -29,8 +29,8 @@ place_of (event.Write actor handle index value) = Some handle.place
 place_of (event.Look actor place) = Some place
 place_of event = None
 
--- after any run a right that is forbidden to the actor on blocks of the block's owner is denied, and
--- nothing changes
+-- after any run a right that is forbidden to the actor on blocks of the block's owner is denied,
+-- and nothing changes
 abbrev pub ForbiddenIsNeverServed : Type 0
 ForbiddenIsNeverServed =
     (old : State) (events : List (ℕ × Event)) (answers : List Answer) (s next : State)

@@ -1,5 +1,5 @@
 -- Runs of marks, by one shift more.
-use Rattle.std.proofs.Common.{◌≡◌, ◌<◌, ◌≤◌, ◌+◌, ◌-◌, ◌⊎◌, ◌*◌, ◌/◌, ◌%◌, ◌^◌, ◌↔◌, ℕ, suc, min, inl, inr, sym, ap, ◌∙◌, arith, bit_and}
+use Rattle.std.proofs.Common.{◌≡◌, ◌<◌, ◌≤◌, ◌+◌, ◌-◌, ◌⊎◌, ◌/◌, ◌%◌, ◌^◌, ◌↔◌, ℕ, min, inl, inr, sym, ap, ◌∙◌, arith, bit_and}
 use Rattle.std.specs.Int.{bit_at}
 use Rattle.std.proofs.lemmas.Nat.{shr-shr}
 use Rattle.std.proofs.lemmas.Bool.{cases_eq}
@@ -22,7 +22,8 @@ both a b x y e = (omega (arith, x, y, e), omega (arith, x, y, e))
 pub one_more : (marks starts ahead page : ℕ) → ((p : ℕ) → (bit_at starts p ≡ 1) ↔ IsRunOf marks ahead p)
     → (bit_at (bit_and starts (marks / 2 ^ ahead)) page ≡ 1) ↔ IsRunOf marks (ahead + 1) page
 one_more marks starts ahead page h =
-    let is = bit_at_and starts (marks / 2 ^ ahead) page ∙ ap (min (bit_at starts page)) (shifted marks ahead page) in (
+    let is = bit_at_and starts (marks / 2 ^ ahead) page
+    ∙ ap (min (bit_at starts page)) (shifted marks ahead page) in (
       λ on a low. (let two = both (bit_at starts page) (bit_at marks (page + ahead)) (bit_at-lt starts page) (bit_at-lt marks (page + ahead)) (sym is ∙ on) in
           elim (cases_eq a ahead) as (λ _. bit_at marks (page + a) ≡ 1) [
             | inl e ↦ ap (λ n. bit_at marks (page + n)) e ∙ two.1

@@ -1,5 +1,5 @@
 -- Marks of pages, one bit each.
-use Rattle.std.specs.Prelude.{◌≡◌, ◌<◌, ◌≤◌, ◌+◌, ℕ}
+use Rattle.std.specs.Prelude.{◌≡◌, ◌<◌, ◌+◌, ℕ}
 use Rattle.std.specs.Int.{bit_at}
 
 -- so many pages from one on are marked

@@ -64,16 +64,16 @@ module _ (parts : Parts) (h : AreSegmentsRight parts) where
   -- blocks lie apart over pages
   pub runs : AreRuns (class_at (state_of parts))
   runs page = elim (cases_lt page (length parts.policy.segments * 16))
-  as (λ _. IsRunAt (class_at (state_of parts)) page) [
-    | inl lt ↦ (let f = found parts h (segment_of_page page) (omega (arith, lt)) in
-        run_within (class_of f.0.1.holding) (class_at (state_of parts)) page
-        (λ q same. class_here parts h q f.0 (omega (arith, lt, same))
-        (ap (found_in parts) same ∙ f.1))
-        ((right parts h (segment_of_page page) f.0 f.1).holding.runs (page % 16)))
-    | inr ge ↦ run_small (class_at (state_of parts)) page
-        (λ q size same is. absurd (none-some size
-        (sym (class_past parts h q (omega (arith, ge, same))) ∙ is)))
-  ]
+      as (λ _. IsRunAt (class_at (state_of parts)) page) [
+        | inl lt ↦ (let f = found parts h (segment_of_page page) (omega (arith, lt)) in
+            run_within (class_of f.0.1.holding) (class_at (state_of parts)) page
+            (λ q same. class_here parts h q f.0 (omega (arith, lt, same))
+            (ap (found_in parts) same ∙ f.1))
+            ((right parts h (segment_of_page page) f.0 f.1).holding.runs (page % 16)))
+        | inr ge ↦ run_small (class_at (state_of parts)) page
+            (λ q size same is. absurd (none-some size
+            (sym (class_past parts h q (omega (arith, ge, same))) ∙ is)))
+      ]
 
   -- holders are workers
 

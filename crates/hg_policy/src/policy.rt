@@ -16,8 +16,8 @@ use std::marker::Model;
 ///
 /// What each request asks is a flat table, so that no answer costs more with more grants: limits by
 /// tenant, whom an arena admits, one word by arena, the arena of each segment, and the rights on an
-/// owner's blocks, one byte by owner and actor, among them all rights of each owner on its own. What
-/// is forbidden is a second table like that of rights, where anything is.
+/// owner's blocks, one byte by owner and actor, among them all rights of each owner on its own.
+/// What is forbidden is a second table like that of rights, where anything is.
 #[derive(Drop)]
 pub struct Policy {
     pub(crate) workers: u8,
@@ -169,8 +169,8 @@ impl Policy {
         }
     }
 
-    /// Whether an actor is forbidden a right on an owner's blocks, whatever it is granted. No tenant
-    /// is forbidden anything on its own.
+    /// Whether an actor is forbidden a right on an owner's blocks, whatever it is granted. No
+    /// tenant is forbidden anything on its own.
     pub fn forbids(&self, owner: u8, actor: Actor, right: Right) -> bool
         ensures { result ≡ meaning.forbids self.now owner actor.0 right }
     {

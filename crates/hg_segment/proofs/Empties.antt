@@ -54,7 +54,10 @@ right_new g rs ws pages classes cs pl cl sl wl empty none zero home = record {
     unused = it.idle ws;
     lists = lists_empty g rs k (lists_of (slice_index_or pages k d) ws) (it.unlisted ws) (it.idle ws) (λ i l. ap is_home (home (k * 512 + i)));
   });
-  runs = λ k. record { inside = λ n e. absurd (none-some n (sym (none k) ∙ e)); covered = λ e. none k };
+  runs = λ k. record {
+    inside = λ n e. absurd (none-some n (sym (none k) ∙ e));
+    covered = λ e. none k;
+  };
   bounded = λ at. rw (home at) (omega arith);
   charged = λ t lt. zero t ∙ sym (charge_none rs classes t (λ at l. ap is_home (home at)));
 }

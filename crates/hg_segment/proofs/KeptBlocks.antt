@@ -43,7 +43,8 @@ pub open_inside : (g : ℕ) (rs : List Standing) (ws : List ℕ) (page index siz
 open_inside g rs ws page index size p h below away =
     let sized : (shape_of p).size ≡ size = h.shape.1 in
     let pages : pages_of (shape_of p).size ≡ pages_of size = ap pages_of sized in
-    let used = used_below p ws index h.linked (open_used g rs ws page index (Some size) p h below away) in
+    let used = used_below p ws index h.linked
+    (open_used g rs ws page index (Some size) p h below away) in
     let fits = fits_in_pages size index (omega (arith, used, h.shape.2)) in
     (omega (arith, h.base, pages, h.linked.within), omega (arith, fits))
 

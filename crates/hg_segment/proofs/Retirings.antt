@@ -116,7 +116,8 @@ retiring g rs ws pages classes cs page p q r h below was idle is linked shown sh
     let home = idle_home g rs ws page (class_at classes page) p mine idle-here in record {
       idle = home;
       right = right_assigned g rs ws ws pages classes cs page None q h below home linked.whole
-          (λ k ne. inr (λ w l r. refl)) (runs_retired classes page (omega (arith, below, h.classes_all)) h.runs)
+          (λ k ne. inr (λ w l r. refl))
+          (runs_retired classes page (omega (arith, below, h.classes_all)) h.runs)
           (page_retired g rs ws page (class_at classes page) p q mine idle-here linked shown shape);
       lists = lists_set ws ws pages page p q (λ k lt ne. refl) ∙ ap (slice_set (map (λ x. lists_of x ws) pages) page) (shown ∙ ap (λ (l : PageLists). freed l []) (sym (list_is ws pages page p in-range is)));
     }

@@ -84,8 +84,8 @@ abbrev pub IsBlockPlace : Option ℕ → ℕ → Type 0
 IsBlockPlace None index = ⊥
 IsBlockPlace (Some size) index = index < places_of size
 
--- what a segment keeps: its pages right, no generation above the greatest, blocks that end in it and
--- no class at a covered page, and each charge the sum
+-- what a segment keeps: its pages right, no generation above the greatest, blocks that end in it
+-- and no class at a covered page, and each charge the sum
 pub record IsRight (greatest : ℕ) (records : List Standing) (words : List ℕ) (pages : List Page)
     (classes : List (Option ℕ)) (charges : List ℕ) : Type 0 where
   pub pages_all : length pages ≡ SEGMENT_PAGES

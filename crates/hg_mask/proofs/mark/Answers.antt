@@ -1,5 +1,4 @@
-use Rattle.std.proofs.Common.{◌≡◌, ◌+◌, ℕ, arith, ap, ◌∙◌, ⊎_elim, bit_or, max}
-use Rattle.std.specs.Int.{bit_at}
+use Rattle.std.proofs.Common.{arith, ◌∙◌}
 use Rattle.std.proofs.lemmas.Nat.Bits.{bit_at_or, bit_at-lt}
 use Rattle.hg_mask.proofs.MarksLemmas.{run_inside, run_outside}
 use Rattle.hg_mask.proofs.mark.Goals as goal

@@ -1,5 +1,4 @@
-use Rattle.std.proofs.Common.{◌≡◌, ◌+◌, ◌-◌, ◌<◌, ℕ, arith, ap, ◌∙◌, inl, inr, bit_and, min, w16}
-use Rattle.std.specs.Int.{bit_at}
+use Rattle.std.proofs.Common.{◌-◌, arith, ◌∙◌, inl, inr, w16}
 use Rattle.std.proofs.lemmas.Bool.{cases_lt}
 use Rattle.std.proofs.lemmas.Nat.Bits.{bit_at_and, bit_at_not, bit_at-lt, bit_at_above}
 use Rattle.hg_mask.proofs.MarksLemmas.{run_inside, run_outside, run_small}

@@ -6,7 +6,8 @@ use Rattle.hg_segment.proofs.page_classes.PageClasses.assign.Goals as goal
 
 pub unmark-self-inside-requires : goal.unmark-self-inside-requires
 unmark-self-inside-requires c =
-    let fit = (begins (class_at c.args.self.now) c.args.class c.args.page c.requires.begins).inside in
+    let fit =
+    (begins (class_at c.args.self.now) c.args.class c.args.page c.requires.begins).inside in
     record { within = omega (arith, fit, c.requires.page, c.pages_of.ensures.value) }
 
 pub invariant_of-self : goal.invariant_of-self

@@ -1,2 +1,0 @@
-mod policy;
-mod trace;
