@@ -9,7 +9,7 @@ ghost use Rattle.hg_machine.specs.Request.{alloc_verdict};
 
 pub use hg_machine::{AllocVerdict, Rule, Verdict};
 use hg_place::{Actor, Handle, Right, WORD_BYTES, word_generation, word_owner};
-use hg_policy::Policy;
+use hg_policy::{Policy, Refusal};
 use hg_size::{block_words, class_of};
 
 /// The verdict on a block, by the slot word that was observed at its place: the first rule that
@@ -38,14 +38,11 @@ pub fn judge(policy: &Policy, actor: Actor, right: Right, handle: Handle, word: 
     if !policy.admits(arena, actor) {
         return Verdict::Denied(Rule::ForeignArena);
     }
-    let owner = owner_of(word);
-    if policy.forbids(owner, actor, right) {
-        return Verdict::Denied(Rule::Forbidden);
+    match policy.refusal(owner_of(word), actor, right) {
+        Some(Refusal::Forbidden) => Verdict::Denied(Rule::Forbidden),
+        Some(Refusal::NotGranted) => Verdict::Denied(Rule::NotGranted),
+        None => Verdict::Allowed,
     }
-    if !policy.grants(owner, actor, right) {
-        return Verdict::Denied(Rule::NotGranted);
-    }
-    Verdict::Allowed
 }
 
 /// The generation that a word shows, 0 where it is no slot word.

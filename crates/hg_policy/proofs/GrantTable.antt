@@ -1,12 +1,13 @@
 -- What one entry of a table of rights says.
-use Rattle.std.proofs.Common.{◌≡◌, ◌≢◌, ℕ, ◌<◌, false, ◌==◌, List, [], ◌∷◌, length, map, take, get_or, suc, zero, refl, sym, ap, ◌∙◌, inl, inr}
+use Rattle.std.proofs.Common.{◌≡◌, ◌≢◌, ℕ, ◌<◌, false, ◌==◌, List, [], ◌∷◌, length, map, take, get_or, suc, zero, refl, sym, ap, ◌∙◌, inl, inr, arith}
 use Rattle.std.proofs.lemmas.Bool.{cases_Bool, eqb-true}
-use Rattle.std.proofs.lemmas.List.{get_or-map, get_or-take}
+use Rattle.std.proofs.lemmas.List.{get_or-map, get_or-take, length-map, ext_get_or}
 use Rattle.hg_machine.specs.Policy as meaning
 use Rattle.hg_machine.specs.Policy.{no_rights}
 use Rattle.hg_policy.specs.declared.rights.Rights.{Rights}
-use Rattle.hg_policy.specs.Rights.{rights_of}
-use Rattle.hg_policy.specs.Kept.{granted_of}
+use Rattle.hg_policy.specs.declared.granted.Standing.{Standing}
+use Rattle.hg_policy.specs.Rights.{rights_of, nothing}
+use Rattle.hg_policy.specs.Kept.{rows_of}
 
 pub ne-eqb : (a b : ℕ) → a ≢ b → (a == b) ≡ false
 ne-eqb a b other =
@@ -20,17 +21,25 @@ get_or-map_any f [] i d = refl
 get_or-map_any f (x ∷ xs) zero d = refl
 get_or-map_any f (x ∷ xs) (suc i) d = get_or-map_any f xs i d
 
-row-at : (tenants : ℕ) (held : List Rights) (j : ℕ) → j < tenants → let none : Rights = record { 0 = 0 } in get_or (map rights_of (take tenants held)) j no_rights ≡ rights_of (get_or held j none)
+row-at : (tenants : ℕ) (held : List Rights) (j : ℕ) → j < tenants → get_or (map rights_of (take tenants held)) j no_rights ≡ rights_of (get_or held j nothing)
 row-at tenants held j within =
-    let none : Rights = record { 0 = 0 } in
-    get_or-map_any rights_of (take tenants held) j none ∙ ap rights_of (get_or-take tenants held j none within)
+    get_or-map_any rights_of (take tenants held) j nothing ∙ ap rights_of (get_or-take tenants held j nothing within)
 
-module _ (tenants : ℕ) (granted : List (List Rights)) (i j : ℕ) (held : List Rights) (in_granted : i < length granted) (is_held : held ≡ get_or granted i held) (in_tenants : j < tenants) where
-  row-of : get_or (granted_of tenants granted) i [] ≡ map rights_of (take tenants held)
-  row-of =
-      let row : List Rights → List meaning.Rights = λ held. map rights_of (take tenants held) in
-      get_or-map row granted i held [] in_granted ∙ ap row (sym is_held)
+-- what one entry of a table says, by a half of what is kept
+pub rows_of-at : (tenants : ℕ) (half : Standing → Rights) (table : List (List Standing)) (i j : ℕ) (held : List Standing)
+    → i < length table → held ≡ get_or table i held → j < tenants → (d : Standing) → half d ≡ nothing
+    → get_or (get_or (rows_of tenants (map (map half) table)) i []) j no_rights ≡ rights_of (half (get_or held j d))
+rows_of-at tenants half table i j held in_table is_held in_tenants d none =
+    let row : List Rights → List meaning.Rights = λ held. map rights_of (take tenants held) in
+    let here : get_or (map (map half) table) i [] ≡ map half held = get_or-map (map half) table i held [] in_table ∙ ap (map half) (sym is_held) in
+    let long : i < length (map (map half) table) = omega (arith, in_table, length-map table (map half)) in
+    ap (λ by_actor. get_or by_actor j no_rights) (get_or-map row (map (map half) table) i [] [] long ∙ ap row here)
+    ∙ row-at tenants (map half held) j in_tenants
+    ∙ ap rights_of (ap (get_or (map half held) j) (sym none) ∙ get_or-map_any half held j d)
 
-  -- what one entry of the table that is kept says
-  pub granted_of-at : let none : Rights = record { 0 = 0 } in get_or (get_or (granted_of tenants granted) i []) j no_rights ≡ rights_of (get_or held j none)
-  granted_of-at = ap (λ row. get_or row j no_rights) row-of ∙ row-at tenants held j in_tenants
+-- a half of what was put side by side
+pub half-is : (half : Standing → Rights) (both : List Standing) (held : List Rights) (d : Standing) → half d ≡ nothing → length both ≡ length held
+    → ((j : ℕ) → j < length both → half (get_or both j d) ≡ get_or held j nothing) → map half both ≡ held
+half-is half both held d none long each =
+    ext_get_or nothing (map half both) held (length-map both half ∙ long)
+    (λ j within. ap (get_or (map half both) j) (sym none) ∙ get_or-map_any half both j d ∙ each j (omega (arith, within, length-map both half)))

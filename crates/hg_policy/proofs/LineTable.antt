@@ -1,5 +1,5 @@
 -- The table of what lines name.
-use Rattle.std.proofs.Common.{◌≡◌, ◌≢◌, ℕ, ◌+◌, ◌*◌, ◌<◌, ◌≤◌, Bool, false, ◌||◌, ◌&&◌, ◌==◌, nat_lt, max, zero, suc, bit_or, List, length, map, take, get_or, set, refl, sym, ap, ◌∙◌, inl, inr, arith}
+use Rattle.std.proofs.Common.{◌≡◌, ◌≢◌, eq-eqb, ℕ, ◌+◌, ◌*◌, ◌<◌, ◌≤◌, Bool, false, ◌||◌, ◌&&◌, ◌==◌, nat_lt, max, zero, suc, bit_or, List, [], ◌∷◌, ◌++◌, length, map, take, get_or, set, refl, sym, ap, ◌∙◌, inl, inr, arith}
 use Rattle.std.specs.Int.{bit_at}
 use Rattle.std.specs.List.{list_any, range_with_len}
 use Rattle.std.proofs.lemmas.Nat.Bits.{and_pow, bit_at_or}
@@ -7,63 +7,40 @@ use Rattle.hg_place.specs.declared.Right.{Right}
 use Rattle.hg_place.specs.declared.Right.TheVariants as right
 use Rattle.hg_machine.specs.Policy.{has_right}
 use Rattle.hg_policy.specs.declared.rights.Rights.{Rights}
+use Rattle.hg_policy.specs.declared.granted.Standing.{Standing}
 use Rattle.hg_policy.specs.declared.tenant_set.TenantSet.{TenantSet}
 use Rattle.hg_policy.specs.Rights.{rights_of, nothing}
 use Rattle.hg_policy.specs.TenantSets.{has_tenant}
 use Rattle.hg_policy.specs.declared.lines.Line.{Line}
-use Rattle.hg_policy.specs.Kept.{line_of}
+use Rattle.hg_policy.specs.Kept.{line_of, rows_of}
 use Rattle.hg_policy.specs.Lines as lines
 use Rattle.hg_policy.specs.Lines.{names_right, rights_by}
 use Rattle.hg_machine.specs.Policy as meaning
 use Rattle.std.proofs.lemmas.Bool.{cases_eq}
-use Rattle.std.proofs.lemmas.List.{get_or-set_same, get_or-set_other, get_or-map, get_or-take, length-set, length-map, length-take}
+use Rattle.std.proofs.lemmas.List.{get_or-set_same, get_or-set_other, get_or-map, get_or-take, length-set, length-map, length-take, map_push}
 use Rattle.std.proofs.lemmas.List.Folds.{list_any_more}
-use Rattle.std.proofs.lemmas.List.FromFn.{fill_by_all, get_or-map-range_with_len}
+use Rattle.std.proofs.lemmas.List.FromFn.{fill_by_all, get_or-map-range_with_len, map-range_with_len_more}
 use Rattle.hg_policy.proofs.Names.{list_any-map}
 use Rattle.hg_policy.proofs.GrantTable.{ne-eqb}
 use Rattle.hg_policy.proofs.OwnRows.{same_rights, own_here}
 
 -- the bits of two sets
-either_1 : (x y : ℕ) → x ≤ 1 → y ≤ 1 → (max x y * 1 == 1) ≡ ((x * 1 == 1) || (y * 1 == 1))
-either_1 zero zero a b = refl
-either_1 zero (suc zero) a b = refl
-either_1 (suc zero) zero a b = refl
-either_1 (suc zero) (suc zero) a b = refl
-either_1 (suc (suc x)) y a b = absurd (omega arith)
-either_1 x (suc (suc y)) a b = absurd (omega arith)
-
-either_2 : (x y : ℕ) → x ≤ 1 → y ≤ 1 → (max x y * 2 == 2) ≡ ((x * 2 == 2) || (y * 2 == 2))
-either_2 zero zero a b = refl
-either_2 zero (suc zero) a b = refl
-either_2 (suc zero) zero a b = refl
-either_2 (suc zero) (suc zero) a b = refl
-either_2 (suc (suc x)) y a b = absurd (omega arith)
-either_2 x (suc (suc y)) a b = absurd (omega arith)
-
-either_4 : (x y : ℕ) → x ≤ 1 → y ≤ 1 → (max x y * 4 == 4) ≡ ((x * 4 == 4) || (y * 4 == 4))
-either_4 zero zero a b = refl
-either_4 zero (suc zero) a b = refl
-either_4 (suc zero) zero a b = refl
-either_4 (suc zero) (suc zero) a b = refl
-either_4 (suc (suc x)) y a b = absurd (omega arith)
-either_4 x (suc (suc y)) a b = absurd (omega arith)
-
-either_8 : (x y : ℕ) → x ≤ 1 → y ≤ 1 → (max x y * 8 == 8) ≡ ((x * 8 == 8) || (y * 8 == 8))
-either_8 zero zero a b = refl
-either_8 zero (suc zero) a b = refl
-either_8 (suc zero) zero a b = refl
-either_8 (suc zero) (suc zero) a b = refl
-either_8 (suc (suc x)) y a b = absurd (omega arith)
-either_8 x (suc (suc y)) a b = absurd (omega arith)
+either : (k x y : ℕ) → x ≤ 1 → y ≤ 1 → (max x y * suc k == suc k) ≡ ((x * suc k == suc k) || (y * suc k == suc k))
+either k zero zero a b = rw (ne-eqb (0 * suc k) (suc k) (λ e. omega (arith, e))) refl
+either k zero (suc zero) a b = rw (ne-eqb (0 * suc k) (suc k) (λ e. omega (arith, e))) refl
+either k (suc zero) zero a b = rw (eq-eqb (1 * suc k) (suc k) (omega arith)) refl
+either k (suc zero) (suc zero) a b = rw (eq-eqb (1 * suc k) (suc k) (omega arith)) refl
+either k (suc (suc x)) y a b = absurd (omega arith)
+either k x (suc (suc y)) a b = absurd (omega arith)
 
 bit_small : (n i : ℕ) → bit_at n i ≤ 1
 bit_small n i = omega arith
 
 pub or_rights : (x y z : Rights) → x.0 ≡ bit_or y.0 z.0 → (r : Right) → has_right (rights_of x) r ≡ (has_right (rights_of y) r || has_right (rights_of z) r)
-or_rights x y z e right.Read = rw (e, and_pow (bit_or y.0 z.0) 0, and_pow y.0 0, and_pow z.0 0, bit_at_or y.0 z.0 0) (either_1 (bit_at y.0 0) (bit_at z.0 0) (bit_small y.0 0) (bit_small z.0 0))
-or_rights x y z e right.Write = rw (e, and_pow (bit_or y.0 z.0) 1, and_pow y.0 1, and_pow z.0 1, bit_at_or y.0 z.0 1) (either_2 (bit_at y.0 1) (bit_at z.0 1) (bit_small y.0 1) (bit_small z.0 1))
-or_rights x y z e right.List = rw (e, and_pow (bit_or y.0 z.0) 2, and_pow y.0 2, and_pow z.0 2, bit_at_or y.0 z.0 2) (either_4 (bit_at y.0 2) (bit_at z.0 2) (bit_small y.0 2) (bit_small z.0 2))
-or_rights x y z e right.Free = rw (e, and_pow (bit_or y.0 z.0) 3, and_pow y.0 3, and_pow z.0 3, bit_at_or y.0 z.0 3) (either_8 (bit_at y.0 3) (bit_at z.0 3) (bit_small y.0 3) (bit_small z.0 3))
+or_rights x y z e right.Read = rw (e, and_pow (bit_or y.0 z.0) 0, and_pow y.0 0, and_pow z.0 0, bit_at_or y.0 z.0 0) (either 0 (bit_at y.0 0) (bit_at z.0 0) (bit_small y.0 0) (bit_small z.0 0))
+or_rights x y z e right.Write = rw (e, and_pow (bit_or y.0 z.0) 1, and_pow y.0 1, and_pow z.0 1, bit_at_or y.0 z.0 1) (either 1 (bit_at y.0 1) (bit_at z.0 1) (bit_small y.0 1) (bit_small z.0 1))
+or_rights x y z e right.List = rw (e, and_pow (bit_or y.0 z.0) 2, and_pow y.0 2, and_pow z.0 2, bit_at_or y.0 z.0 2) (either 3 (bit_at y.0 2) (bit_at z.0 2) (bit_small y.0 2) (bit_small z.0 2))
+or_rights x y z e right.Free = rw (e, and_pow (bit_or y.0 z.0) 3, and_pow y.0 3, and_pow z.0 3, bit_at_or y.0 z.0 3) (either 7 (bit_at y.0 3) (bit_at z.0 3) (bit_small y.0 3) (bit_small z.0 3))
 
 -- after so many actors the rights of each of them in the set are more
 abbrev pub AddedTo : ℕ → List Rights → List Rights → TenantSet → Rights → Type 0
@@ -113,3 +90,23 @@ row_is tenants owner own held named_by few o long named =
       | inl same ↦ rw (same, get_or-set_same held owner own nothing (omega (arith, o, long))) (sym (own_here (rights_of own) named_by owner))
       | inr other ↦ rw (get_or-set_other held owner actor own nothing other) (same_rights _ _ (λ r. named actor r h ∙ sym (other_here (rights_of own) named_by owner actor r other)))
     ])
+
+-- the rows of so many owners, of so many actors each
+abbrev pub row_by : meaning.Rights → List lines.Line → ℕ → ℕ → List meaning.Rights
+row_by own named_by tenants owner = map (λ actor. rights_by own named_by owner actor) (range_with_len 0 tenants)
+
+abbrev pub rows_by : meaning.Rights → List lines.Line → ℕ → ℕ → List (List meaning.Rights)
+rows_by own named_by tenants owners = map (row_by own named_by tenants) (range_with_len 0 owners)
+
+-- one owner more
+pub rows_more : (tenants owner : ℕ) (half : Standing → Rights) (own : meaning.Rights) (named_by : List lines.Line) (table : List (List Standing)) (held : List Standing)
+    → rows_of tenants (map (map half) table) ≡ rows_by own named_by tenants owner
+    → map rights_of (take tenants (map half held)) ≡ row_by own named_by tenants owner
+    → rows_of tenants (map (map half) (table ++ held ∷ [])) ≡ rows_by own named_by tenants (owner + 1)
+rows_more tenants owner half own named_by table held done row =
+    let cut : List Rights → List meaning.Rights = λ row. map rights_of (take tenants row) in
+    ap (rows_of tenants) (map_push (map half) table held)
+    ∙ map_push cut (map (map half) table) (map half held)
+    ∙ ap (λ rows. rows ++ cut (map half held) ∷ []) done
+    ∙ ap (λ row. rows_by own named_by tenants owner ++ row ∷ []) row
+    ∙ sym (map-range_with_len_more (row_by own named_by tenants) 0 owner owner (omega arith))

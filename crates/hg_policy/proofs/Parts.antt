@@ -1,9 +1,8 @@
 -- The parts of a policy that was read.
-use Rattle.std.proofs.Common.{◌≡◌, ◌⊎◌, ℕ, ◌≤◌, ◌<◌, List, [], ◌∷◌, length, Ok, Err, refl, ◌+◌, inl, inr, All, map, arith}
+use Rattle.std.proofs.Common.{◌≡◌, ℕ, ◌≤◌, ◌<◌, List, length, Ok, Err, refl, ◌+◌, inl, inr, All, map, arith}
 use Rattle.std.specs.List.{range_with_len}
 use Rattle.std.proofs.lemmas.Bool.{cases_Bool, ltb-false}
 use Rattle.std.proofs.Common.{nat_lt}
-use Rattle.std.proofs.lemmas.List.Elements.{All-nil}
 use Rattle.std.proofs.lemmas.List.FromFn.{length-map-range_with_len, get_or-map-range_with_len}
 use Rattle.toml.specs.Data.{Members}
 use Rattle.hg_machine.specs.Policy.{Policy, Tenant, Rights, no_rights}
@@ -18,7 +17,7 @@ use Rattle.hg_policy.specs.Tenants.{tenants_in, tenant_names}
 use Rattle.hg_policy.specs.Arenas.{Arenas, arenas_in}
 use Rattle.hg_policy.specs.Rights.{all_rights}
 use Rattle.hg_policy.specs.Groups.{Group, groups_in}
-use Rattle.hg_policy.specs.Lines.{Line, lines_in, rights_by, table_by, forbidden_by}
+use Rattle.hg_policy.specs.Lines.{Line, lines_in, rights_by, table_by}
 use Rattle.hg_policy.specs.Heads.{Heads, AreHeads, workers_at, max_generation_at, group_entries_at, line_entries_at, heads_at}
 use Rattle.hg_policy.specs.Document.{top_at, policy_from, tables_of, policy_at, tree_of, document_of}
 use Rattle.hg_policy.specs.DocumentLaws.{AreNames, HasWholeTables}
@@ -135,14 +134,6 @@ module _ (own : Rights) (lines : List Line) (n : ℕ) where
       All-map-range_with_len (λ row. length row ≡ n) (λ owner. map (λ actor. rights_by own lines owner actor) (range_with_len 0 n))
       (λ owner. length-map-range_with_len (λ actor. rights_by own lines owner actor) 0 n) 0 n
 
-forbidden-owners : (lines : List Line) (n : ℕ) → (forbidden_by lines n ≡ []) ⊎ (length (forbidden_by lines n) ≡ n)
-forbidden-owners [] n = inl refl
-forbidden-owners (line ∷ lines) n = inr (table-owners no_rights (line ∷ lines) n)
-
-forbidden-actors : (lines : List Line) (n : ℕ) → All (λ (row : List Rights). length row ≡ n) (forbidden_by lines n)
-forbidden-actors [] n = All-nil (λ (row : List Rights). length row ≡ n)
-forbidden-actors (line ∷ lines) n = table-actors no_rights (line ∷ lines) n
-
 pub tables_are_whole : (text : List ℕ) (policy : Policy) → document_of text ≡ Ok policy → HasWholeTables policy
 tables_are_whole text policy e =
     let p = document_of-is text policy e in
@@ -153,8 +144,8 @@ tables_are_whole text policy e =
       admitted = holds.by_tenant;
       owners = table-owners all_rights p.grants n;
       granted = table-actors all_rights p.grants n;
-      forbidden_owners = forbidden-owners p.denies n;
-      forbidden = forbidden-actors p.denies n;
+      forbidden_owners = table-owners no_rights p.denies n;
+      forbidden = table-actors no_rights p.denies n;
     }
 
 -- what is read of heads, where each table is read

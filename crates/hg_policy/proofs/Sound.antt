@@ -1,5 +1,5 @@
 -- A policy that a document means is sound.
-use Rattle.std.proofs.Common.{◌≡◌, ℕ, ◌<◌, ◌≤◌, ◌^◌, Bool, true, false, List, [], ◌∷◌, length, map, get_or, refl, sym, ap, ◌∙◌, arith, inl, inr, All}
+use Rattle.std.proofs.Common.{◌≡◌, ℕ, ◌<◌, ◌≤◌, ◌^◌, Bool, true, false, List, [], length, map, get_or, refl, sym, ap, ◌∙◌, arith, inl, inr, All}
 use Rattle.std.proofs.lemmas.Bool.{cases_lt, true≢false}
 use Rattle.std.proofs.lemmas.List.{get_or_past}
 use Rattle.std.proofs.lemmas.List.Elements.{All-get_or}
@@ -58,18 +58,12 @@ has_all right.Write = refl
 has_all right.List = refl
 has_all right.Free = refl
 
-forbidden-within : (lines : List Line) (n owner actor : ℕ) (r : Right) → has_right (get_or (get_or (forbidden_by lines n) owner []) actor no_rights) r ≡ true → (owner < n) × (actor < n)
-forbidden-within [] n owner actor r held = absurd (true≢false (sym held ∙ has_none r))
-forbidden-within (line ∷ lines) n owner actor r held = table-within no_rights (line ∷ lines) n owner actor r held
-
 -- nothing is forbidden to an owner on its own blocks
 forbidden-own : (lines : List Line) (n tenant : ℕ) (r : Right) → has_right (get_or (get_or (forbidden_by lines n) tenant []) tenant no_rights) r ≡ false
-forbidden-own [] n tenant r = has_none r
-forbidden-own (line ∷ lines) n tenant r = elim (cases_lt tenant n) [
-  | inl below ↦ table-own no_rights (line ∷ lines) n tenant r below ∙ has_none r
+forbidden-own lines n tenant r = elim (cases_lt tenant n) [
+  | inl below ↦ table-own no_rights lines n tenant r below ∙ has_none r
   | inr past ↦
-      let table = table_by no_rights (line ∷ lines) n in
-      ap (λ by_actor. has_right (get_or by_actor tenant no_rights) r) (get_or_past table tenant [] (omega (arith, past, length-map-range_with_len (row no_rights (line ∷ lines) n) 0 n)))
+      ap (λ by_actor. has_right (get_or by_actor tenant no_rights) r) (get_or_past (forbidden_by lines n) tenant [] (omega (arith, past, length-map-range_with_len (row no_rights lines n) 0 n)))
       ∙ has_none r
 ]
 
@@ -88,6 +82,6 @@ policy_from-sound heads tenants arenas grants denies are few_tenants limits few_
   admitted = admitted-within (length tenants) arenas holds;
   granted = table-within all_rights grants (length tenants);
   own = λ tenant r h. table-own all_rights grants (length tenants) tenant r h ∙ has_all r;
-  forbidden = forbidden-within denies (length tenants);
+  forbidden = table-within no_rights denies (length tenants);
   own_unforbidden = forbidden-own denies (length tenants);
 }

@@ -4,6 +4,7 @@ use Rattle.std.specs.declared.alloc.Global.{Global}
 use Rattle.hg_machine.specs.Policy as meaning
 use Rattle.hg_policy.specs.Rights.{rights_of}
 use Rattle.hg_policy.specs.declared.rights.Rights.{Rights}
+use Rattle.hg_policy.specs.declared.granted.Standing.{Standing}
 use Rattle.hg_policy.specs.TenantSets.{flags_of}
 use Rattle.hg_policy.specs.declared.tenant_set.TenantSet.{TenantSet}
 use Rattle.hg_policy.specs.Groups as groups
@@ -38,8 +39,15 @@ arenas_of tenants tables = record {
 }
 
 -- the rights of so many actors, in rows by owner
-abbrev pub granted_of : ℕ → List (List Rights) → List (List meaning.Rights)
-granted_of tenants granted = map (λ held. map rights_of (take tenants held)) granted
+abbrev pub rows_of : ℕ → List (List Rights) → List (List meaning.Rights)
+rows_of tenants held = map (λ row. map rights_of (take tenants row)) held
+
+-- what so many actors are granted, and what they are forbidden, in rows by owner
+abbrev pub granted_of : ℕ → List (List Standing) → List (List meaning.Rights)
+granted_of tenants table = rows_of tenants (map (map (λ standing. standing.granted)) table)
+
+abbrev pub forbidden_of : ℕ → List (List Standing) → List (List meaning.Rights)
+forbidden_of tenants table = rows_of tenants (map (map (λ standing. standing.forbidden)) table)
 
 -- groups, by which of so many tenants are members
 abbrev pub groups_of : ℕ → Named TenantSet → List groups.Group
@@ -73,6 +81,6 @@ policy_of p = record {
   arenas = names_of p.arenas.entries;
   segments = p.segments.items;
   admitted = admitted_of (length p.tenants.entries) p.arenas.entries;
-  granted = granted_of (length p.tenants.entries) p.granted.items;
-  forbidden = granted_of (length p.tenants.entries) p.forbidden.items;
+  granted = granted_of (length p.tenants.entries) p.standings.items;
+  forbidden = forbidden_of (length p.tenants.entries) p.standings.items;
 }

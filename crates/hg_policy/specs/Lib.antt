@@ -1,3 +1,4 @@
+pub mod Refusals
 pub mod Rights
 pub mod TenantSets
 pub mod Names

@@ -1,9 +1,9 @@
 -- A law of the lines of faults.
-use Rattle.std.specs.Char.{is_control}
 use Rattle.std.specs.Str.{NoCharPasses}
 use Rattle.hg_policy.specs.declared.fault.PolicyFault.{PolicyFault}
 use Rattle.hg_policy.specs.FaultLines.{fault_line}
+use Rattle.hg_policy.specs.OneLine.{is_written_out}
 
--- no character of a fault's line is a control character
+-- no character of a fault's line is a control character, breaks the line or turns its direction
 abbrev pub FaultsAreOneLine : Type 0
-FaultsAreOneLine = (fault : PolicyFault) → NoCharPasses is_control (fault_line fault)
+FaultsAreOneLine = (fault : PolicyFault) → NoCharPasses is_written_out (fault_line fault)

@@ -73,7 +73,6 @@ table_by own lines tenants =
 abbrev pub granted_by : List Line → ℕ → List (List Rights)
 granted_by lines tenants = table_by all_rights lines tenants
 
--- what is forbidden: nothing on one's own blocks; without a line there is no table
+-- what is forbidden: nothing on one's own blocks, and what the lines name
 abbrev pub forbidden_by : List Line → ℕ → List (List Rights)
-forbidden_by [] tenants = []
-forbidden_by (line ∷ lines) tenants = table_by no_rights (line ∷ lines) tenants
+forbidden_by lines tenants = table_by no_rights lines tenants

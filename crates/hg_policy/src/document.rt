@@ -11,7 +11,7 @@ use crate::fault::PolicyFault;
 use crate::groups::groups;
 use crate::heads::{Heads, read_heads};
 use crate::key::{Key, Level};
-use crate::lines::{forbidden, granted, lines};
+use crate::lines::{lines, standings};
 use crate::policy::Policy;
 use crate::tenants::tenants;
 use crate::values::{known, value_at};
@@ -62,16 +62,14 @@ fn tables(alloc: Global, heads: &Heads<'_>) -> Result<Policy, PolicyFault>
     let arenas = arenas(alloc, &tenants, &groups, heads.arenas.as_slice())?;
     let grants = lines(alloc, &tenants, &groups, heads.grants.as_slice())?;
     let denies = lines(alloc, &tenants, &groups, heads.denies.as_slice())?;
-    let granted = granted(alloc, &tenants, grants.as_slice())?;
-    let forbidden = forbidden(alloc, &tenants, denies.as_slice())?;
+    let standings = standings(alloc, &tenants, grants.as_slice(), denies.as_slice())?;
     Ok(Policy {
         workers: heads.workers,
         max_generation: heads.max_generation,
         tenants,
         arenas: arenas.named,
         segments: arenas.segments,
-        granted,
-        forbidden,
+        standings,
     })
 }
 

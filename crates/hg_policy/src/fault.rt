@@ -11,7 +11,7 @@ use std::fmt;
 use thiserror::Error;
 
 /// Why a document is no policy: its first fault, with the key or name whole, as it stands there.
-/// As text it is one line, in which control characters are written out.
+/// As text it is one line, in which control characters and the like are written out.
 #[derive(Debug, Drop, Error)]
 pub enum PolicyFault {
     NotToml,

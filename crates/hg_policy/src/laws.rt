@@ -22,7 +22,8 @@ pub fn documents_are_sound()
     ensures { DocumentsAreSound }
 {}
 
-/// The line of a fault has no control character, whatever key or name it tells.
+/// The line of a fault has no control character, none that breaks a line and none that turns the
+/// direction of writing, whatever key or name it tells.
 pub fn faults_are_one_line()
     ensures { FaultsAreOneLine }
 {}

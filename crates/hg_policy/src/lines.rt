@@ -7,14 +7,14 @@ ghost use Rattle.hg_place.specs.declared.Right.{Right};
 ghost use Rattle.toml.specs.View.{view, table_view};
 ghost use Rattle.hg_machine.specs.Policy.{has_right, no_rights};
 ghost use Rattle.hg_policy.specs.Faults.{Gives, in_turn};
-ghost use Rattle.hg_policy.specs.Kept.{granted_of, line_of, tenants_of, groups_of};
+ghost use Rattle.hg_policy.specs.Kept.{granted_of, forbidden_of, line_of, tenants_of, groups_of};
 ghost use Rattle.hg_policy.specs.Rights.{rights_of, nothing};
 ghost use Rattle.hg_policy.specs.TenantSets.{has_tenant};
-ghost use Rattle.hg_policy.specs.Lines.{rights_by, table_by, granted_by, forbidden_by};
+ghost use Rattle.hg_policy.specs.Lines.{rights_by, granted_by, forbidden_by};
 ghost use Rattle.hg_policy.specs.Lines.{with_right, rights_in, line_in, lines_in};
 
 use crate::fault::PolicyFault;
-use crate::granted::Held;
+use crate::granted::{Held, Standing, Standings};
 use crate::grants::right;
 use crate::groups::named;
 use crate::key::{Key, Level};
@@ -33,61 +33,63 @@ pub(crate) struct Line {
     pub(crate) rights: Rights,
 }
 
-/// What is granted: each right on one's own blocks, and on another's what the lines name.
-pub(crate) fn granted(
+/// By owner and actor what is granted, which on one's own blocks is each right, and what is
+/// forbidden, which on one's own is nothing; on another's both are what the lines name.
+pub(crate) fn standings(
     alloc: Global,
     tenants: &IndexMap<String, u32>,
-    lines: &[Line],
-) -> Result<Vec<Held>, AllocError>
+    grants: &[Line],
+    denies: &[Line],
+) -> Result<Vec<Standings>, AllocError>
     requires { length tenants.now.entries ≤ 64 }
-    ensures { IfOk result (λ granted. granted_of (length tenants.now.entries) granted.items
-        ≡ granted_by (map (line_of (length tenants.now.entries)) lines.now)
+    ensures granted { IfOk result (λ table. granted_of (length tenants.now.entries) table.items
+        ≡ granted_by (map (line_of (length tenants.now.entries)) grants.now)
+        (length (tenants_of tenants.now.entries))) }
+    ensures forbidden { IfOk result (λ table. forbidden_of (length tenants.now.entries) table.items
+        ≡ forbidden_by (map (line_of (length tenants.now.entries)) denies.now)
         (length (tenants_of tenants.now.entries))) }
 {
-    table(alloc, tenants.len(), Rights::each(), lines)
+    table(alloc, tenants.len(), grants, denies)
 }
 
-/// What is forbidden: nothing on one's own blocks. Without a line there is no table.
-pub(crate) fn forbidden(
-    alloc: Global,
-    tenants: &IndexMap<String, u32>,
-    lines: &[Line],
-) -> Result<Vec<Held>, AllocError>
-    requires { length tenants.now.entries ≤ 64 }
-    ensures { IfOk result (λ forbidden. granted_of (length tenants.now.entries) forbidden.items
-        ≡ forbidden_by (map (line_of (length tenants.now.entries)) lines.now)
-        (length (tenants_of tenants.now.entries))) }
-{
-    forbidden_among(alloc, tenants.len(), lines)
-}
-
-fn forbidden_among(alloc: Global, tenants: usize, lines: &[Line]) -> Result<Vec<Held>, AllocError>
-    requires { tenants ≤ 64 }
-    ensures { IfOk result (λ forbidden. granted_of tenants forbidden.items
-        ≡ forbidden_by (map (line_of tenants) lines.now) tenants) }
-{
-    if lines.is_empty() {
-        return Ok(Vec::new(alloc));
-    }
-    table(alloc, tenants, Rights::none(), lines)
-}
-
-/// By owner and actor what the lines name, and `own` on one's own blocks.
-pub(crate) fn table(
+fn table(
     alloc: Global,
     tenants: usize,
-    own: Rights,
-    lines: &[Line],
-) -> Result<Vec<Held>, AllocError>
+    grants: &[Line],
+    denies: &[Line],
+) -> Result<Vec<Standings>, AllocError>
     requires { tenants ≤ 64 }
-    ensures { IfOk result (λ table. granted_of tenants table.items
-        ≡ table_by (rights_of own) (map (line_of tenants) lines.now) tenants) }
+    ensures granted { IfOk result (λ table. granted_of tenants table.items
+        ≡ granted_by (map (line_of tenants) grants.now) tenants) }
+    ensures forbidden { IfOk result (λ table. forbidden_of tenants table.items
+        ≡ forbidden_by (map (line_of tenants) denies.now) tenants) }
 {
     let mut table = Vec::with_capacity(alloc, tenants)?;
     for owner in 0..tenants {
-        table.push(row(tenants, owner, own, lines))?;
+        let granted = row(tenants, owner, Rights::each(), grants);
+        let forbidden = row(tenants, owner, Rights::none(), denies);
+        table.push(beside(&granted, &forbidden))?;
     }
     Ok(table)
+}
+
+/// Of each actor both.
+fn beside(granted: &Held, forbidden: &Held) -> Standings
+    ensures granted { map (λ standing. standing.granted) result ≡ granted.now }
+    ensures forbidden { map (λ standing. standing.forbidden) result ≡ forbidden.now }
+{
+    let none = Standing {
+        granted: Rights::none(),
+        forbidden: Rights::none(),
+    };
+    let mut standings = [none; 64];
+    for actor in 0..64_usize {
+        standings[actor] = Standing {
+            granted: granted[actor],
+            forbidden: forbidden[actor],
+        };
+    }
+    standings
 }
 
 /// What the lines name on the blocks of one owner.

@@ -1,12 +1,14 @@
 //! A text of a document in one line.
 
 ghost use Rattle.std.specs.Prelude.{◌≡◌, ◌<◌, Some};
-ghost use Rattle.hg_policy.specs.OneLine.{one_line, written, hex_digit};
+ghost use Rattle.hg_policy.specs.OneLine.{one_line, written, is_written_out};
+ghost use Rattle.hg_policy.specs.OneLine.{four_digits, hex_digit};
 
 use std::fmt;
 
-/// A text with its control characters written out, as TOML's basic strings write them: so it is
-/// one line, and drives no terminal. A backslash and a quote stay as they are.
+/// A text with its control characters written out, as TOML's basic strings write them, and so what
+/// breaks a line or turns the direction of writing: so it is one line, drives no terminal, and
+/// shows its characters in their order. A backslash and a quote stay as they are.
 #[derive(Clone, Copy, Debug)]
 pub(crate) struct OneLine<'a>(pub(crate) &'a str);
 
@@ -35,13 +37,40 @@ impl fmt::Display for Written {
             '\n' => write!(f, "\\n"),
             '\u{c}' => write!(f, "\\f"),
             '\r' => write!(f, "\\r"),
-            c if c.is_control() => {
+            c if is_written_out(c) => {
                 let n = c as u32;
-                write!(f, "\\u00{}{}", hex_digit(n / 16), hex_digit(n % 16))
+                let [a, b, c, d] = four_digits(n);
+                write!(f, "\\u{a}{b}{c}{d}")
             }
             c => write!(f, "{c}"),
         }
     }
+}
+
+/// Whether a character is written out: a control character, the separators of lines and of
+/// paragraphs, and the marks, embeddings, overrides and isolates of direction (Unicode's
+/// `Bidi_Control`).
+fn is_written_out(c: char) -> bool
+    ensures { result ≡ is_written_out c }
+{
+    match c {
+        '\u{61c}' | '\u{200e}' | '\u{200f}' => true,
+        '\u{2028}'..='\u{202e}' | '\u{2066}'..='\u{2069}' => true,
+        c => c.is_control(),
+    }
+}
+
+/// The digits of a number below 65,536.
+fn four_digits(n: u32) -> [char; 4]
+    requires { n < 65_536 }
+    ensures { result ≡ four_digits n }
+{
+    [
+        hex_digit(n / 4096),
+        hex_digit(n / 256 % 16),
+        hex_digit(n / 16 % 16),
+        hex_digit(n % 16),
+    ]
 }
 
 /// The digit of a number below 16, a capital from ten on.

@@ -1,12 +1,16 @@
 //! A policy.
 
 ghost use Rattle.std.specs.Prelude.{◌≡◌, ◌≤◌, ◌<◌, ◌^◌, true, length, IfSome, IsTrue, is_some};
-ghost use Rattle.std.specs.Prelude.{option_map};
+ghost use Rattle.std.specs.Prelude.{option_map, IfNone, false};
+ghost use Rattle.hg_place.specs.declared.Right.{Right};
 ghost use Rattle.hg_machine.specs.Policy as meaning;
+ghost use Rattle.hg_machine.specs.Policy.{has_right};
+ghost use Rattle.hg_policy.specs.Rights.{rights_of};
+ghost use Rattle.hg_policy.specs.Refusals.{refusal_of};
 ghost use Rattle.hg_machine.specs.SoundPolicy.{IsSoundPolicy};
 ghost use Rattle.hg_policy.specs.Names.{tenant_number, tenant_name, arena_number};
 
-use crate::granted::Held;
+use crate::granted::{Refusal, Standing, Standings};
 use crate::tenant_set::TenantSet;
 use hg_place::{Actor, Right};
 use indexmap::IndexMap;
@@ -16,8 +20,8 @@ use std::marker::Model;
 ///
 /// What each request asks is a flat table, so that no answer costs more with more grants: limits by
 /// tenant, whom an arena admits, one word by arena, the arena of each segment, and the rights on an
-/// owner's blocks, one byte by owner and actor, among them all rights of each owner on its own.
-/// What is forbidden is a second table like that of rights, where anything is.
+/// owner's blocks, by owner and actor: what is granted, among it all rights of each owner on its
+/// own, and beside it what is forbidden, so that one look-up finds both.
 #[derive(Drop)]
 pub struct Policy {
     pub(crate) workers: u8,
@@ -28,10 +32,8 @@ pub struct Policy {
     pub(crate) arenas: IndexMap<String, TenantSet>,
     /// The arena of each segment.
     pub(crate) segments: Vec<u8>,
-    /// By owner the rights of each actor.
-    pub(crate) granted: Vec<Held>,
-    /// By owner what is forbidden to each actor; empty where nothing is.
-    pub(crate) forbidden: Vec<Held>,
+    /// By owner what each actor is granted and what it is forbidden.
+    pub(crate) standings: Vec<Standings>,
 }
 
 impl Model for Policy {
@@ -159,12 +161,40 @@ impl Policy {
         }
     }
 
+    /// How an actor stands to an owner's blocks, where each of them is a tenant.
+    fn standing(&self, owner: u8, actor: Actor) -> Option<Standing>
+        ensures found { IfSome result (λ standing. (right : Right)
+            → (has_right (rights_of standing.granted) right
+            ≡ meaning.grants self.now owner actor.0 right)
+            × (has_right (rights_of standing.forbidden) right
+            ≡ meaning.forbids self.now owner actor.0 right)) }
+        ensures nobody { IfNone result ((right : Right)
+            → (meaning.grants self.now owner actor.0 right ≡ false)
+            × (meaning.forbids self.now owner actor.0 right ≡ false)) }
+    {
+        match self.standings.get(usize::from(owner)) {
+            Some(by_actor) if self.is_tenant(actor) => Some(by_actor[usize::from(actor.0)]),
+            _ => None,
+        }
+    }
+
+    /// Why an actor may not do on an owner's blocks what needs a right, if so: what is forbidden is
+    /// refused before any grant is asked for.
+    pub fn refusal(&self, owner: u8, actor: Actor, right: Right) -> Option<Refusal>
+        ensures { result ≡ refusal_of self.now owner actor.0 right }
+    {
+        match self.standing(owner, actor) {
+            Some(standing) => standing.refusal(right),
+            None => Some(Refusal::NotGranted),
+        }
+    }
+
     /// Whether an actor has a right on an owner's blocks. Each tenant has each right on its own.
     pub fn grants(&self, owner: u8, actor: Actor, right: Right) -> bool
         ensures { result ≡ meaning.grants self.now owner actor.0 right }
     {
-        match self.granted.get(usize::from(owner)) {
-            Some(granted) => self.is_tenant(actor) && granted[usize::from(actor.0)].has(right),
+        match self.standing(owner, actor) {
+            Some(standing) => standing.granted.has(right),
             None => false,
         }
     }
@@ -174,8 +204,8 @@ impl Policy {
     pub fn forbids(&self, owner: u8, actor: Actor, right: Right) -> bool
         ensures { result ≡ meaning.forbids self.now owner actor.0 right }
     {
-        match self.forbidden.get(usize::from(owner)) {
-            Some(forbidden) => self.is_tenant(actor) && forbidden[usize::from(actor.0)].has(right),
+        match self.standing(owner, actor) {
+            Some(standing) => standing.forbidden.has(right),
             None => false,
         }
     }

@@ -142,7 +142,8 @@ fn tells_grants_in_turn(rt: HostRuntime) -> Result<(), Fail> {
     each_fails(&rt, rt.alloc(), head.as_str(), GRANTS, "]")
 }
 
-/// Keys with control characters: as TOML reads them, each fault is one line all the same.
+/// Keys with control characters, with what breaks a line and what turns the direction of writing:
+/// as TOML reads them, each fault is one line all the same. What stands beside those stays.
 const KEYS: &str = "\
 4: unknown  | ''
 4: unknown a\\bb | \"a\\bb\"
@@ -158,6 +159,11 @@ const KEYS: &str = "\
 4: unknown \\u0080 | \"\\u0080\"
 4: unknown \\u0085 | \"\\u0085\"
 4: unknown \\u009F\u{a0}\u{e9}\u{20ac} | \"\\u009F\\u00A0\\u00E9\\u20AC\"
+4: unknown \\u061C\\u200E\\u200F | \"\\u061C\\u200E\\u200F\"
+4: unknown \\u2028\\u2029\\u202A\\u202E | \"\\u2028\\u2029\\u202A\\u202E\"
+4: unknown \\u2066a\\u2069 | '\u{2066}a\u{2069}'
+4: unknown \u{61b}\u{61d}\u{200d}\u{2010} | \"\\u061B\\u061D\\u200D\\u2010\"
+4: unknown \u{2027}\u{202f}\u{2065}\u{206a} | \"\\u2027\\u202F\\u2065\\u206A\"
 4: unknown a\\nb | 'a\\nb'
 4: unknown a\"b'c | \"a\\\"b'c\"
 ";

@@ -29,19 +29,14 @@ lines-requires-2 c =
     few_entries (heads_of c.args.heads.now) c.in_ok-tenants.tenants.entries c.requires
     (ap (λ entries. tenants_in (map (λ entry. table_view entry.now) entries)) (sym c.as_slice.ensures.value) ∙ c.in_ok-tenants.ensures)
 
-pub granted-requires : goal.granted-requires
-granted-requires c =
+pub standings-requires : goal.standings-requires
+standings-requires c =
     few_entries (heads_of c.args.heads.now) c.in_ok-tenants.tenants.entries c.requires
     (ap (λ entries. tenants_in (map (λ entry. table_view entry.now) entries)) (sym c.as_slice.ensures.value) ∙ c.in_ok-tenants.ensures)
 
-pub forbidden-requires : goal.forbidden-requires
-forbidden-requires c =
-    few_entries (heads_of c.args.heads.now) c.in_ok-tenants.tenants.entries c.requires
-    (ap (λ entries. tenants_in (map (λ entry. table_view entry.now) entries)) (sym c.as_slice.ensures.value) ∙ c.in_ok-tenants.ensures)
-
-pub returns-in_err-forbidden : goal.returns-in_err-forbidden
-returns-in_err-forbidden c =
-    let p = err_from_is_err_and c.from_residual-in_err-forbidden.result c.from_residual-in_err-forbidden.ensures.1 in
+pub returns-in_err-standings : goal.returns-in_err-standings
+returns-in_err-standings c =
+    let p = err_from_is_err_and c.from_residual-in_err-standings.result c.from_residual-in_err-standings.ensures.1 in
     rw (p.1, p.2) tt
 
 pub returns : goal.returns
@@ -55,7 +50,7 @@ returns c =
     let arenas_read : arenas_in tenants groups heads.arenas ≡ Ok (arenas_of n c.in_ok-arenas.arenas) = ap (λ entries. arenas_in tenants groups (map (λ entry. table_view entry.now) entries)) (sym c.as_slice-3.ensures.value) ∙ c.in_ok-arenas.ensures in
     let grants_read : lines_in tenants groups heads.grants ≡ Ok (map (line_of n) c.in_ok-grants.grants.items) = ap (λ entries. lines_in tenants groups (map (λ entry. table_view entry.now) entries)) (sym c.as_slice-4.ensures.value) ∙ c.in_ok-grants.ensures in
     let denies_read : lines_in tenants groups heads.denies ≡ Ok (map (line_of n) c.in_ok-denies.denies.items) = ap (λ entries. lines_in tenants groups (map (λ entry. table_view entry.now) entries)) (sym c.as_slice-5.ensures.value) ∙ c.in_ok-denies.ensures in
-    rw (c.in_ok-granted.ensures, c.in_ok-forbidden.ensures, c.as_slice-6.ensures.value, c.as_slice-7.ensures.value)
+    rw (c.in_ok-standings.ensures.granted, c.in_ok-standings.ensures.forbidden, c.as_slice-6.ensures.value, c.as_slice-7.ensures.value)
     (tables_of-Ok heads tenants groups (arenas_of n c.in_ok-arenas.arenas) (map (line_of n) c.in_ok-grants.grants.items) (map (line_of n) c.in_ok-denies.denies.items) tenants_read groups_read arenas_read grants_read denies_read)
 
 pub invariant_of-result : goal.invariant_of-result
@@ -67,5 +62,5 @@ invariant_of-result c =
     let arenas = arenas_of n c.in_ok-arenas.arenas in
     let tenants_read : tenants_in heads.tenants ≡ Ok tenants = ap (λ entries. tenants_in (map (λ entry. table_view entry.now) entries)) (sym c.as_slice.ensures.value) ∙ c.in_ok-tenants.ensures in
     let arenas_read : arenas_in tenants groups heads.arenas ≡ Ok arenas = ap (λ entries. arenas_in tenants groups (map (λ entry. table_view entry.now) entries)) (sym c.as_slice-3.ensures.value) ∙ c.in_ok-arenas.ensures in
-    rw (c.in_ok-granted.ensures, c.in_ok-forbidden.ensures)
+    rw (c.in_ok-standings.ensures.granted, c.in_ok-standings.ensures.forbidden)
     (tables-sound heads tenants groups arenas (map (line_of n) c.as_slice-6.result.now) (map (line_of n) c.as_slice-7.result.now) c.requires tenants_read arenas_read)

@@ -1,13 +1,24 @@
-use Rattle.std.proofs.Common.{map, take, arith, refl}
-use Rattle.std.specs.List.{range_with_len}
-use Rattle.std.proofs.lemmas.List.{map_push}
-use Rattle.std.proofs.lemmas.List.FromFn.{map-range_with_len_more}
+use Rattle.std.proofs.Common.{map, take, ap, ◌∙◌}
+use Rattle.hg_machine.specs.Policy.{no_rights}
 use Rattle.hg_policy.specs.Kept.{line_of}
-use Rattle.hg_policy.specs.Lines.{rights_by}
-use Rattle.hg_policy.specs.Rights.{rights_of}
+use Rattle.hg_policy.specs.Rights.{rights_of, all_rights}
+use Rattle.hg_policy.proofs.LineTable.{row_by, rows_more}
 use Rattle.hg_policy.proofs.lines.table.Goals as goal
 
 pub loop-owner-preserved : goal.loop-owner-preserved
 loop-owner-preserved c =
+    let n = c.args.tenants in
     let owner = c.loop-owner.owner in
-    rw (map-range_with_len_more (λ owner. map (λ actor. rights_by (rights_of c.args.own) (map (line_of c.args.tenants) c.args.lines.now) owner actor) (range_with_len 0 c.args.tenants)) 0 owner owner (omega arith), c.in_ok-push.ensures.items, map_push (λ held. map rights_of (take c.args.tenants held)) c.loop-owner.table.items c.row.result, c.loop-owner.invariant, c.row.ensures) refl
+    let table = c.loop-owner.table.items in
+    let grants = map (line_of n) c.args.grants.now in
+    let denies = map (line_of n) c.args.denies.now in
+    record {
+      granted =
+          rw c.in_ok-push.ensures.items
+          (rows_more n owner (λ standing. standing.granted) all_rights grants table c.beside.result c.loop-owner.invariant.granted
+          (ap (λ held. map rights_of (take n held)) c.beside.ensures.granted ∙ c.row-granted.ensures ∙ ap (λ own. row_by own grants n owner) c.each.ensures));
+      forbidden =
+          rw c.in_ok-push.ensures.items
+          (rows_more n owner (λ standing. standing.forbidden) no_rights denies table c.beside.result c.loop-owner.invariant.forbidden
+          (ap (λ held. map rights_of (take n held)) c.beside.ensures.forbidden ∙ c.row-forbidden.ensures ∙ ap (λ own. row_by own denies n owner) c.none.ensures));
+    }
