@@ -14,7 +14,7 @@ pub record IsFit (standing : Standing) (word : ℕ) : Type 0 where
   pub freed : is_home standing ≡ true → (slot_in word).live ≡ false
 
 -- a slot word says what its parts are
-slot_read : (word : ℕ) → IsSlotWord word → slot_in word ≡ read_as word false
+pub slot_read : (word : ℕ) → IsSlotWord word → slot_in word ≡ read_as word false
 slot_read word slot =
     ap (read_as word) (from_parts word (record {
       low = (let bits = slot.1 in omega arith);

@@ -1,9 +1,10 @@
 -- The hand of a worker that freed a block away.
-use Rattle.std.proofs.Common.{◌≡◌, ℕ, ◌-◌, ◌<◌, true, Some, refl, sym, ap, ◌∙◌, arith, is_some}
+use Rattle.std.proofs.Common.{◌≡◌, ℕ, ◌-◌, ◌*◌, ◌<◌, true, Some, refl, sym, ap, ◌∙◌, arith, is_some}
 use Rattle.std.proofs.Common.{length, Option, None}
 use Rattle.std.proofs.lemmas.Option.{same_Some, slice_get_within}
 use Rattle.std.proofs.lemmas.Bool.{true≢false}
 use Rattle.hg_place.specs.declared.Right.TheVariants as right
+use Rattle.hg_place.specs.declared.geometry.TheConstants.{SEGMENT_PLACES}
 use Rattle.hg_place.specs.Places.{number_of, segment_of}
 use Rattle.hg_place.specs.Slots.{slot_in}
 use Rattle.hg_machine.specs.Denial.{denial_on}
@@ -27,11 +28,17 @@ freed_hand_is_usual view word actor handle none away most =
     let inside : handle.place.segment < length view.policy.segments =
     slice_get_within view.policy.segments handle.place.segment arena.0 arena.1 in
     let c = closed word ok.2 in
-    let over = ap (λ s. s.generation) c ∙ ok.1 in (
+    let over = ap (λ s. s.generation) c ∙ ok.1 in
+    let within : p < length view.policy.segments * SEGMENT_PLACES =
+    (let a = handle.place.page_below in let b = handle.place.index_below in omega arith) in (
       record {
-        within = λ q e. (let same : p ≡ q = same_Some p q e in let a = handle.place.page_below
-            in let b = handle.place.index_below in omega arith);
+        within = λ q e. (let same : p ≡ q = same_Some p q e in omega arith);
         given_out = λ q e. handle.given_out;
+      },
+      record {
+        within = within;
+        fits = λ h. absurd (true≢false (sym h ∙ ap view.holds (segment_is handle.place) ∙ away));
+        seen = λ e. ((let same = over in omega arith), λ same. ap (λ s. s.live) c);
       },
       record {
         word = λ s e. (let same : word - 1 ≡ s.word = ap (λ x. x.word) (same_Some _ s e) in let g =
@@ -40,9 +47,7 @@ freed_hand_is_usual view word actor handle none away most =
         recorded = λ q e h. absurd
             (true≢false (sym h ∙ ap (λ n. view.holds (segment_of n)) (sym (same_Some p q e))
             ∙ ap view.holds (segment_is handle.place) ∙ away));
-        unpassed = λ q s e f at. (
-          ap (λ x. (slot_in x.word).generation) (sym (same_Some _ s f)) ∙ over,
-          ap (λ x. (slot_in x.word).live) (sym (same_Some _ s f)) ∙ ap (λ x. x.live) c,
-        );
+        unpassed = λ q s e f at. (let same = ap (λ x. (slot_in x.word).generation)
+            (sym (same_Some _ s f)) ∙ over in omega arith);
       },
     )

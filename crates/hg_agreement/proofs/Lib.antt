@@ -34,5 +34,6 @@ pub mod Answers
 pub mod Blocks
 pub mod Told
 pub mod Hands
+pub mod Usual
 pub mod NoMore
 pub mod RightHeaps

@@ -216,8 +216,14 @@ module _ (view : View) (shown : Option Shown) (heap : IsHeapView view) (hand : I
       → ((slot_shown shown).generation ≡ view.hand_generation) × ((slot_shown shown).live ≡ false)
   told_hand q n t =
       let s = shown_some shown q t in
-      let u = usual.unpassed q s.0 (number_some q view.hand n) s.1 s.2 in
-      (ap (λ o. (slot_shown o).generation) s.1 ∙ u.0, ap (λ o. (slot_shown o).live) s.1 ∙ u.1)
+      let e = number_some q view.hand n in
+      let most = usual.unpassed q s.0 e s.1 s.2 in
+      let seen = (found_at s.0 s.1).seen (e ∙ ap Some (sym s.2)) in
+      let least = seen.0 in
+      let same : (slot_in s.0.word).generation ≡ view.hand_generation = omega arith in (
+        ap (λ o. (slot_shown o).generation) s.1 ∙ same,
+        ap (λ o. (slot_shown o).live) s.1 ∙ seen.1 same,
+      )
 
   is_used : (q : ℕ) → is_home (record_held view shown q).life
       ≡ false → at_home (view.standing q) ≡ false

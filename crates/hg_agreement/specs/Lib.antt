@@ -15,6 +15,7 @@ pub mod LeftPut
 pub mod Moves
 pub mod Pool
 pub mod WitnessLaws
+pub mod Usual
 pub mod TakenIn
 pub mod Swept
 pub mod Unused

@@ -22,7 +22,7 @@ use Rattle.hg_place.specs.declared.standing.Standing.TheVariants.{Home}
 use Rattle.hg_agreement.specs.Views.{View, Shown, slot_shown}
 use Rattle.hg_agreement.specs.Agreement.{Agrees, Ties}
 use Rattle.hg_agreement.specs.Seen.{IsShownFor, refusal_in, IsRowIn, idle_pages_in, is_room_in}
-use Rattle.hg_agreement.specs.Witness.{IsHandOf, IsUsual}
+use Rattle.hg_agreement.specs.Witness.{IsHandOf, IsFoundBy, IsUsual}
 use Rattle.hg_agreement.specs.Changed.{IsLike, written, freed, taken_in_hand, collected, opened}
 
 -- views that tell the same agree with the same states
@@ -148,5 +148,7 @@ FreedHandIsUsual =
     → refusal_in view (slot_in word) (event.Free actor handle) ≡ None
     → view.holds handle.place.segment ≡ false → handle.generation ≤ view.policy.max_generation
     → IsHandOf (taken_in_hand view (number_of handle.place) handle.generation)
+    × IsFoundBy (taken_in_hand view (number_of handle.place) handle.generation)
+    (record { place = number_of handle.place; word = word - 1 })
     × IsUsual (taken_in_hand view (number_of handle.place) handle.generation)
     (Some (record { place = number_of handle.place; word = word - 1 }))

@@ -132,12 +132,18 @@ pub record IsHeapView (view : View) : Type 0 where
       (place : ℕ) → view.holds (segment_of place) ≡ true → is_home (view.standing place) ≡ true
       → view.block place ≡ []
 
--- What holds of an observed word: it is of a place of the policy, and where the heap records
--- the place, it fits the record
+-- What holds of an observed word: it is of a place of the policy; where the heap records the place,
+-- it fits the record; and of the place in hand it is at or after the freed word of the life in
+-- hand, which the worker has seen there
 pub record IsFoundBy (view : View) (shown : Shown) : Type 0 where
   pub within : shown.place < length view.policy.segments * SEGMENT_PLACES
   pub fits :
       view.holds (segment_of shown.place) ≡ true → IsWordOf (view.standing shown.place) shown.word
+  pub seen :
+      view.hand ≡ Some shown.place
+      → (view.hand_generation ≤ (slot_in shown.word).generation)
+      × ((slot_in shown.word).generation ≡ view.hand_generation
+      → (slot_in shown.word).live ≡ false)
 
 -- None of the exceptions: the generation of the word, and that of the life in hand, are no greater
 -- than the greatest, and the heap doesn't record the place in hand as home, nor is it shown past
@@ -151,7 +157,7 @@ pub record IsUsual (view : View) (shown : Option Shown) : Type 0 where
       → is_home (view.standing place) ≡ false
   pub unpassed :
       (place : ℕ) (s : Shown) → view.hand ≡ Some place → shown ≡ Some s → s.place ≡ place
-      → ((slot_in s.word).generation ≡ view.hand_generation) × ((slot_in s.word).live ≡ false)
+      → (slot_in s.word).generation ≤ view.hand_generation
 
 -- the hand has a place of the policy, of a life that was given out
 pub record IsHandOf (view : View) : Type 0 where

@@ -24,6 +24,7 @@ ghost use Rattle.hg_agreement.specs.HoldingLaws.{BlocksAreTheSegments, RightHold
 ghost use Rattle.hg_agreement.specs.PartsLaws.{SegmentsAreTold, RemotesAreTold};
 ghost use Rattle.hg_agreement.specs.PartsLaws.{PlainSegmentsAreTold, PartsAreKept};
 ghost use Rattle.hg_agreement.specs.WitnessLaws.{WitnessTellsNoMore};
+ghost use Rattle.hg_agreement.specs.Usual.{FittingWordsAreFound, WordsAreUsual};
 
 /// Views that tell the same agree with the same states.
 pub fn like_agrees()
@@ -240,7 +241,8 @@ pub fn tied_calls_are_steps()
     ensures { TiedCallsAreSteps }
 {}
 
-/// A block freed away is in the hand with the life that its word says is over.
+/// A block freed away is in the hand with the life that its word says is over: the word is found,
+/// and the worker usual.
 pub fn freed_hand_is_usual()
     ensures { FreedHandIsUsual }
 {}
@@ -278,6 +280,17 @@ pub fn remotes_are_told()
 /// Beyond what the worker has and observed, the witness state tells nothing.
 pub fn witness_tells_no_more()
     ensures { WitnessTellsNoMore }
+{}
+
+/// A slot word that fits what is recorded, and isn't before the end of the life in hand, is found.
+pub fn fitting_words_are_found()
+    ensures { FittingWordsAreFound }
+{}
+
+/// A worker whose hand is empty, or has a block of another's segment, is usual at its own words;
+/// and of the words at the place in hand those past the freed word are excluded, and no others.
+pub fn words_are_usual()
+    ensures { WordsAreUsual }
 {}
 
 /// What a worker with right segments has is as the witness state wants it.

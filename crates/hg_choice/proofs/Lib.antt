@@ -10,3 +10,4 @@ pub mod WordLemmas
 pub mod SecondRuns
 pub mod ReaderLemmas
 pub mod ForgottenLemmas
+pub mod HiddenLemmas

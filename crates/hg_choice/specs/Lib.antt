@@ -8,3 +8,4 @@ pub mod SameBut
 pub mod Readers
 pub mod ChoiceLaws
 pub mod WordLaws
+pub mod HiddenLaws

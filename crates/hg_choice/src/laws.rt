@@ -4,6 +4,8 @@ ghost use Rattle.hg_choice.specs.ChoiceLaws.{ChosenRunsAreRuns, ChoicesAreDeterm
 ghost use Rattle.hg_choice.specs.Readers.{MayReadIsVerdict};
 ghost use Rattle.hg_choice.specs.WordLaws.{WordsStayHidden, SecondRunsAre, ActorsAreToldNothing};
 ghost use Rattle.hg_choice.specs.WordLaws.{WordsMayBeForgotten, ValuesShowInValues};
+ghost use Rattle.hg_choice.specs.HiddenLaws.{HiddenIsUnreadable, HiddenWritesAreSame};
+ghost use Rattle.hg_choice.specs.HiddenLaws.{OwnEventsAreTold};
 
 /// A run with its choices is a run of the machine.
 pub fn chosen_runs_are_runs()
@@ -19,6 +21,22 @@ pub fn choices_are_determined()
 /// does.
 pub fn may_read_is_verdict()
     ensures { MayReadIsVerdict }
+{}
+
+/// What the laws below hide from an actor are the blocks that the policy doesn't let it read.
+pub fn hidden_is_unreadable()
+    ensures { HiddenIsUnreadable }
+{}
+
+/// Two writes of one index of a hidden block, of whatever values, are the same event.
+pub fn hidden_writes_are_same()
+    ensures { HiddenWritesAreSame }
+{}
+
+/// An event of an actor, or of nobody, is of no other, and where answers are the same to the actor,
+/// those to all such events are.
+pub fn own_events_are_told()
+    ensures { OwnEventsAreTold }
 {}
 
 /// What is written into blocks that an actor may not read shows in nothing but permitted reads of

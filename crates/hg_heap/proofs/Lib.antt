@@ -43,3 +43,4 @@ pub mod CollectCall
 pub mod PagesRemoved
 pub mod Gone
 pub mod Released
+pub mod Witnessed

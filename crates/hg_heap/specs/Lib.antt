@@ -24,5 +24,6 @@ pub mod Allotted
 pub mod Parting
 pub mod Opened
 pub mod HeapLaws
+pub mod Witnessed
 pub mod Retiring
 pub mod Taking

@@ -3,6 +3,7 @@
 ghost use Rattle.hg_heap.specs.HeapLaws.{StepsKeepPolicy, KindsKeepPolicy, TakingKeepsKinds};
 ghost use Rattle.hg_heap.specs.HeapLaws.{TakingKeepsClasses, TakingKeepsOthers};
 ghost use Rattle.hg_heap.specs.HeapLaws.{TakingCountsPlaces};
+ghost use Rattle.hg_heap.specs.Witnessed.{SettledAreRight, NoTieIsEmpty};
 
 use hg_place::SlotWords;
 
@@ -25,4 +26,16 @@ pub fn taking_keeps<S: SlotWords>()
     ensures classes { TakingKeepsClasses S.number S.records S.shows S.steps }
     ensures others { TakingKeepsOthers S.number S.records S.shows S.steps }
     ensures count { TakingCountsPlaces S.number S.records S.shows S.steps }
+{}
+
+/// A segment that keeps what it promises, and is as a policy has it, is such as the witness state
+/// wants.
+pub fn settled_are_right<S: SlotWords>()
+    ensures { SettledAreRight S.number S.records S.shows }
+{}
+
+/// Where a worker has such segments, and in hand nothing or a block of another's segment, some
+/// state agrees, whatever word a step may find at a place of them.
+pub fn no_tie_is_empty<S: SlotWords>()
+    ensures { NoTieIsEmpty S.number S.records S.shows }
 {}

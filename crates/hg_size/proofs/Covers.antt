@@ -1,6 +1,6 @@
 -- Which pages are covered, and which may get a class.
-use Rattle.std.proofs.Common.{suc, zero, subst, ◌≡◌, ◌≢◌, ℕ, ◌+◌, ◌-◌, ◌*◌, ◌/◌, ◌%◌, ◌<◌, ◌≤◌, Bool, true, false, cond, not, ◌&&◌, ◌||◌}
-use Rattle.std.proofs.Common.{length, get_or, nat_lt, nat_le, refl, sym, ap, ◌∙◌, arith, Option, Some, None, is_none, inl, inr, ◌⊎◌}
+use Rattle.std.proofs.Common.{suc, zero, subst, ◌≡◌, ◌≢◌, ℕ, ◌+◌, ◌-◌, ◌/◌, ◌%◌, ◌<◌, ◌≤◌, Bool, true, false, not}
+use Rattle.std.proofs.Common.{get_or, nat_le, refl, sym, ap, ◌∙◌, arith, Option, Some, None, is_none, inl, inr, ◌⊎◌}
 use Rattle.std.specs.List.{list_any, list_all, range_with_len}
 use Rattle.std.proofs.lemmas.Bool.{lt-ltb, ltb-true, le-leb, leb-true, and_parts, and_from, not-true, cases_Bool, cases_eq, cases_lt, true≢false, false_from_ne_true, true_from_ne_false}
 use Rattle.std.proofs.lemmas.List.Folds.{list_any_at, list_all_at, Any-from_list_any}

@@ -1,7 +1,6 @@
 -- Pages of a segment by their numbers in it: what covers them, and which may get a class, is the
 -- same.
-use Rattle.std.proofs.Common.{◌≡◌, ℕ, ◌+◌, ◌*◌, ◌/◌, ◌%◌, ◌<◌, ◌≤◌, true, refl, sym, ap, ◌∙◌, arith, Option, Some}
-use Rattle.hg_size.specs.Sizes.{pages_of}
+use Rattle.std.proofs.Common.{◌≡◌, ℕ, ◌+◌, ◌*◌, ◌/◌, ◌%◌, true, refl, sym, ap, ◌∙◌, arith, Option}
 use Rattle.hg_size.specs.Runs.{is_covered, may_begin, IsRunAt}
 use Rattle.hg_size.proofs.Covers.{same_test, covered_from, covered_is, begins, begins_from}
 

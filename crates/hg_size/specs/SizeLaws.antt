@@ -1,5 +1,6 @@
 -- Laws of the sizes' numbers, by which lists of pages are kept.
-use Rattle.std.specs.Prelude.{◌≡◌, ℕ, ◌+◌, ◌*◌, ◌<◌, ◌^◌, Contains, slice_index}
+use Rattle.std.specs.Prelude.{◌≡◌, ℕ, ◌+◌, ◌*◌, ◌<◌, ◌^◌, Contains, slice_index, take, drop, map}
+use Rattle.std.specs.List.{range_with_len}
 use Rattle.hg_size.specs.declared.TheConstants.{CLASSES}
 use Rattle.hg_size.specs.Sizes.{sizes, number_of_size}
 
@@ -10,6 +11,13 @@ pub record SizesAreNumbered : Type 0 where
   pub apart :
       (one other : ℕ) → Contains sizes one → Contains sizes other
       → number_of_size one ≡ number_of_size other → one ≡ other
+
+-- The first eight are 1 to 8. From there on up to a page's words each is twice the one that stands
+-- four before it, and beyond a page, where blocks are runs of pages, twice the one before it
+pub record SizesDouble : Type 0 where
+  pub small : take 8 sizes ≡ range_with_len 1 8
+  pub doubled : take 24 (drop 8 sizes) ≡ map (λ size. 2 * size) (take 24 (drop 4 sizes))
+  pub runs : drop 32 sizes ≡ map (λ size. 2 * size) (take 4 (drop 31 sizes))
 
 -- the key of an arena's lists of a class: classes are counted arena by arena
 abbrev pub key_of : ℕ → ℕ → ℕ

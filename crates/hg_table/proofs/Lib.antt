@@ -8,3 +8,4 @@ pub mod Meeting
 pub mod Initial
 pub mod Owned
 pub mod LifeLaws
+pub mod KnownLaws

@@ -47,7 +47,7 @@ exchanged w old live = dite (ℕ_discrete w old)
     (λ hit. subst (λ (b : Bool). IsAtOrBefore w (if b then old - 1 else w)) (sym (eq-eqb w old hit)) (subst (λ (z : ℕ). IsAtOrBefore z (old - 1)) (sym hit) (freed_word_after old live).0))
     (λ miss. subst (λ (b : Bool). IsAtOrBefore w (if b then old - 1 else w)) (sym (ne_eqb w old miss)) (itself w))
 
-forward : (places : ℕ) (s : Table) → LifeRule places s → (at id : ℕ) (view : View) → get_elem? s.views id ≡ some view → at < places + 1 → (step : WordStep) → MayMake step at view
+pub forward : (places : ℕ) (s : Table) → LifeRule places s → (at id : ℕ) (view : View) → get_elem? s.views id ≡ some view → at < places + 1 → (step : WordStep) → MayMake step at view
     → IsAtOrBefore (get_or s.words at 0) (left_by step (get_or s.words at 0))
 forward places s r at id view here below look may = itself _
 forward places s r at id view here below (open_as live) may = opened_forward places s r at id view here below live may
@@ -74,7 +74,7 @@ pub run_forward : (places at : ℕ) (s t : Table) → LifeRule places s → Lead
 run_forward places at s t r none = itself _
 run_forward places at s t r (next {after = u} m more) = between _ _ _ (step_forward places at s u r m) (run_forward places at u t (kept places s u r m) more)
 
-from_new : (places : ℕ) (s : Table) → LeadTo (new_table places) s → LifeRule places s
+pub from_new : (places : ℕ) (s : Table) → LeadTo (new_table places) s → LifeRule places s
 from_new places s to = reached places (new_table places) s (begins places) to
 
 pub words_forward : WordsGoForward

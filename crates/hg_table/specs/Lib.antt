@@ -6,4 +6,5 @@ pub mod Seats
 pub mod Ids
 pub mod Fitting
 pub mod LifeLaws
+pub mod KnownLaws
 pub mod Named

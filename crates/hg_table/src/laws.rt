@@ -3,6 +3,8 @@
 
 ghost use Rattle.hg_table.specs.LifeLaws.{StepsKeepTheRule, WordsGoForward, EndedStaysEnded};
 ghost use Rattle.hg_table.specs.LifeLaws.{EndedByOneSeat, SeenIsNeverAhead, RecordsHold};
+ghost use Rattle.hg_table.specs.KnownLaws.{StepsAddOneLife, MeetingsAreApart, NothingIsKnown};
+ghost use Rattle.hg_table.specs.KnownLaws.{LeftIsPastSeen};
 
 /// A new table keeps the life rule, and each of the seven kinds of step keeps it.
 pub fn steps_keep_the_rule()
@@ -32,4 +34,25 @@ pub fn seen_is_never_ahead()
 /// A record is never contradicted by the word of its place.
 pub fn records_hold()
     ensures { RecordsHold }
+{}
+
+/// What a seat has ended after a step it had ended before, or it is the place's life that this step
+/// found alive and left ended; so it is with what it has seen, and nothing is forgotten.
+pub fn steps_add_one_life()
+    ensures { StepsAddOneLife }
+{}
+
+/// Of two seats that have met no life was ended by both.
+pub fn meetings_are_apart()
+    ensures { MeetingsAreApart }
+{}
+
+/// Who knows nothing is who has seen no word and ended no life.
+pub fn nothing_is_known()
+    ensures { NothingIsKnown }
+{}
+
+/// A step leaves no word that is before one that was seen there.
+pub fn left_is_past_seen()
+    ensures { LeftIsPastSeen }
 {}
