@@ -21,7 +21,8 @@
  *  4. One allocator: malloc, realloc and free are of one allocator, and what they give is aligned
  *     to each power of two up to 16 that divides the size.
  *  5. No call is made from a signal handler, nor in the child of a fork of a program with threads.
- *  6. Header and library are of one release; no other function of the program has a name of these.
+ *  6. Header and library are of one release, which hg_version tells; no other function of the
+ *     program has a name of these.
  */
 #ifndef HEAPGUARD_H
 #define HEAPGUARD_H
@@ -29,10 +30,12 @@
 #include <stddef.h>
 #include <stdint.h>
 
-/* The release of this header. HG_VERSION is a status. */
+/* The release of this header, and as one number, as hg_version tells it of the library. HG_VERSION
+ * is a status. */
 #define HG_VERSION_MAJOR 0
 #define HG_VERSION_MINOR 1
 #define HG_VERSION_PATCH 0
+#define HG_VERSION_NUMBER (HG_VERSION_MAJOR * 65536u + HG_VERSION_MINOR * 256u + HG_VERSION_PATCH)
 
 /* Where the reply is dropped, what it names is lost: a compiler that can says so. */
 #if defined(__GNUC__)
@@ -108,13 +111,17 @@ enum hg_status {
     HG_NO_NAME = 68          /* nothing has the name, or no tenant the number */
 };
 
-/* An answer. What isn't said of a status is 0. */
+/* An answer. What isn't said of a status is 0, but for hg_tenant and hg_arena: with each status but
+ * HG_VALUE their value is 255, which no tenant and no arena has, so that every call refuses it. */
 typedef struct hg_reply {
     uint16_t status;
     uint16_t owner;
     uint32_t detail;
     uint64_t value;
 } hg_reply;
+
+/* The release of the library: HG_VERSION_NUMBER, where header and library are of one. */
+uint32_t hg_version(void);
 
 /* Opens a core by the text of its policy: HG_DONE, or the first fault, with as much of its line in
  * the room as there is room for. The line has no newline and no zero behind it. */
@@ -125,30 +132,33 @@ HG_MUST_USE hg_reply hg_open(hg_core *core, const char *policy, size_t policy_le
 hg_reply hg_close(hg_core *core);
 
 /* The ten events. `worker` is who serves, a number below that of hg_workers. `actor` is who asks,
- * by the number of a tenant; a number that no tenant has is a stranger's, and 255 always is. */
+ * by the number of a tenant; a number that no tenant has is a stranger's. 255 is that always, and
+ * an arena that admits nobody, and a segment that isn't held. No number wraps to another, as 256 to
+ * 0: each above 255 is answered as 255 is, and of a worker that is HG_NO_WORKER. */
 /* At most 65536 bytes; the words of the block are 0. Above 4096 it has 8, 16, 32 or 64 KiB. */
-HG_MUST_USE hg_reply hg_alloc(hg_core *core, uint8_t worker, uint8_t actor, uint8_t arena,
+HG_MUST_USE hg_reply hg_alloc(hg_core *core, uint32_t worker, uint32_t actor, uint32_t arena,
                               uint64_t bytes);
-hg_reply hg_free(hg_core *core, uint8_t worker, uint8_t actor, hg_handle block);
-hg_reply hg_deliver(hg_core *core, uint8_t worker);
-hg_reply hg_take(hg_core *core, uint8_t worker, uint8_t segment);
-hg_reply hg_collect(hg_core *core, uint8_t worker);
-hg_reply hg_read(hg_core *core, uint8_t worker, uint8_t actor, hg_handle block, uint32_t index);
-hg_reply hg_write(hg_core *core, uint8_t worker, uint8_t actor, hg_handle block, uint32_t index,
+hg_reply hg_free(hg_core *core, uint32_t worker, uint32_t actor, hg_handle block);
+hg_reply hg_deliver(hg_core *core, uint32_t worker);
+hg_reply hg_take(hg_core *core, uint32_t worker, uint32_t segment);
+hg_reply hg_collect(hg_core *core, uint32_t worker);
+hg_reply hg_read(hg_core *core, uint32_t worker, uint32_t actor, hg_handle block, uint32_t index);
+hg_reply hg_write(hg_core *core, uint32_t worker, uint32_t actor, hg_handle block, uint32_t index,
                   uint64_t value);
-hg_reply hg_look(hg_core *core, uint8_t worker, uint8_t actor, uint32_t place);
-hg_reply hg_abandon(hg_core *core, uint8_t worker, uint8_t segment);
-hg_reply hg_refill(hg_core *core, uint8_t worker, uint8_t arena);
+hg_reply hg_look(hg_core *core, uint32_t worker, uint32_t actor, uint32_t place);
+hg_reply hg_abandon(hg_core *core, uint32_t worker, uint32_t segment);
+hg_reply hg_refill(hg_core *core, uint32_t worker, uint32_t arena);
 
 /* Questions, which change nothing: HG_VALUE with the number, or HG_NO_NAME. */
 hg_reply hg_workers(hg_core *core);
-hg_reply hg_holds(hg_core *core, uint8_t worker, uint8_t segment); /* 1 or 0 */
+hg_reply hg_segments(hg_core *core); /* of all arenas, numbered from 0 */
+hg_reply hg_holds(hg_core *core, uint32_t worker, uint32_t segment); /* 1 or 0 */
 hg_reply hg_tenant(hg_core *core, const char *name, size_t name_length);
 hg_reply hg_arena(hg_core *core, const char *name, size_t name_length);
 
 /* The name of a tenant: HG_VALUE with how many bytes of it stand in the room. A name has 16 bytes
  * at most, and no zero behind it. */
-hg_reply hg_tenant_name(hg_core *core, uint8_t tenant, char *room, size_t room_length);
+hg_reply hg_tenant_name(hg_core *core, uint32_t tenant, char *room, size_t room_length);
 
 #ifdef __cplusplus
 }

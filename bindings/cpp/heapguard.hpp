@@ -23,6 +23,17 @@ namespace heapguard {
 using Handle = hg_handle;
 using Reply = hg_reply;
 
+/// Who serves, who asks, and where: numbers, each of a type of its own, so that none stands for
+/// another. Of what may not fit into 32 bits the compiler tells between braces, as in Tenant{n}.
+enum class Worker : std::uint32_t {};
+enum class Tenant : std::uint32_t {};
+enum class Arena : std::uint32_t {};
+enum class Segment : std::uint32_t {};
+enum class Place : std::uint32_t {};
+
+/// The place of a block.
+inline Place place_of(Handle block) { return Place{hg_place_of(block)}; }
+
 /// The handle as it is written, `@segment.page.index.generation`.
 inline std::string to_string(Handle block)
 {
@@ -89,84 +100,92 @@ public:
 
     Reply close() noexcept { return hg_close(&core_); }
 
-    [[nodiscard]] Reply alloc(std::uint8_t worker, std::uint8_t actor, std::uint8_t arena,
-                              std::uint64_t bytes)
+    [[nodiscard]] Reply alloc(Worker worker, Tenant actor, Arena arena, std::uint64_t bytes)
     {
-        return hg_alloc(&core_, worker, actor, arena, bytes);
+        return hg_alloc(&core_, number(worker), number(actor), number(arena), bytes);
     }
 
-    Reply free(std::uint8_t worker, std::uint8_t actor, Handle block)
+    Reply free(Worker worker, Tenant actor, Handle block)
     {
-        return hg_free(&core_, worker, actor, block);
+        return hg_free(&core_, number(worker), number(actor), block);
     }
 
-    Reply deliver(std::uint8_t worker) { return hg_deliver(&core_, worker); }
+    Reply deliver(Worker worker) { return hg_deliver(&core_, number(worker)); }
 
-    Reply take(std::uint8_t worker, std::uint8_t segment)
+    Reply take(Worker worker, Segment segment)
     {
-        return hg_take(&core_, worker, segment);
+        return hg_take(&core_, number(worker), number(segment));
     }
 
-    Reply collect(std::uint8_t worker) { return hg_collect(&core_, worker); }
+    Reply collect(Worker worker) { return hg_collect(&core_, number(worker)); }
 
-    Reply read(std::uint8_t worker, std::uint8_t actor, Handle block, std::uint32_t index)
+    Reply read(Worker worker, Tenant actor, Handle block, std::uint32_t index)
     {
-        return hg_read(&core_, worker, actor, block, index);
+        return hg_read(&core_, number(worker), number(actor), block, index);
     }
 
-    Reply write(std::uint8_t worker, std::uint8_t actor, Handle block, std::uint32_t index,
+    Reply write(Worker worker, Tenant actor, Handle block, std::uint32_t index,
                 std::uint64_t value)
     {
-        return hg_write(&core_, worker, actor, block, index, value);
+        return hg_write(&core_, number(worker), number(actor), block, index, value);
     }
 
-    /// `place` is hg_place_of a handle.
-    Reply look(std::uint8_t worker, std::uint8_t actor, std::uint32_t place)
+    Reply look(Worker worker, Tenant actor, Place place)
     {
-        return hg_look(&core_, worker, actor, place);
+        return hg_look(&core_, number(worker), number(actor), number(place));
     }
 
-    Reply abandon(std::uint8_t worker, std::uint8_t segment)
+    Reply abandon(Worker worker, Segment segment)
     {
-        return hg_abandon(&core_, worker, segment);
+        return hg_abandon(&core_, number(worker), number(segment));
     }
 
-    Reply refill(std::uint8_t worker, std::uint8_t arena)
+    Reply refill(Worker worker, Arena arena)
     {
-        return hg_refill(&core_, worker, arena);
+        return hg_refill(&core_, number(worker), number(arena));
     }
 
     /// How many workers there are, 0 where it is closed.
-    std::uint8_t workers() { return static_cast<std::uint8_t>(hg_workers(&core_).value); }
+    std::uint32_t workers() { return static_cast<std::uint32_t>(hg_workers(&core_).value); }
 
-    bool holds(std::uint8_t worker, std::uint8_t segment)
+    /// How many segments all arenas have, 0 where it is closed.
+    std::uint32_t segments() { return static_cast<std::uint32_t>(hg_segments(&core_).value); }
+
+    bool holds(Worker worker, Segment segment)
     {
-        return hg_holds(&core_, worker, segment).value == 1;
+        return hg_holds(&core_, number(worker), number(segment)).value == 1;
     }
 
-    std::optional<std::uint8_t> tenant(std::string_view name)
+    std::optional<Tenant> tenant(std::string_view name)
     {
-        return number(hg_tenant(&core_, name.data(), name.size()));
+        return found<Tenant>(hg_tenant(&core_, name.data(), name.size()));
     }
 
-    std::optional<std::uint8_t> arena(std::string_view name)
+    std::optional<Arena> arena(std::string_view name)
     {
-        return number(hg_arena(&core_, name.data(), name.size()));
+        return found<Arena>(hg_arena(&core_, name.data(), name.size()));
     }
 
-    std::optional<std::string> tenant_name(std::uint8_t tenant)
+    std::optional<std::string> tenant_name(Tenant tenant)
     {
         char room[16];
-        Reply told = hg_tenant_name(&core_, tenant, room, sizeof room);
+        Reply told = hg_tenant_name(&core_, number(tenant), room, sizeof room);
         if (told.status != HG_VALUE) return std::nullopt;
         return std::string(room, static_cast<std::size_t>(told.value));
     }
 
 private:
-    static std::optional<std::uint8_t> number(Reply told)
+    template <typename Numbered>
+    static constexpr std::uint32_t number(Numbered it)
+    {
+        return static_cast<std::uint32_t>(it);
+    }
+
+    template <typename Numbered>
+    static std::optional<Numbered> found(Reply told)
     {
         if (told.status != HG_VALUE) return std::nullopt;
-        return static_cast<std::uint8_t>(told.value);
+        return Numbered{static_cast<std::uint32_t>(told.value)};
     }
 
     hg_core core_ HG_CORE_INIT;

@@ -19,7 +19,7 @@ static const char POLICY[] =
 /* What a plug-in has. Who it is, is the host's word. */
 struct plugin {
     hg_core *core;
-    uint8_t tenant;
+    uint32_t tenant;
     const char *name;
 };
 
@@ -107,7 +107,7 @@ static int load(struct plugin *plugin, hg_core *core, const char *name)
 {
     hg_reply reply = hg_tenant(core, name, strlen(name));
     plugin->core = core;
-    plugin->tenant = (uint8_t)reply.value;
+    plugin->tenant = (uint32_t)reply.value;
     plugin->name = name;
     return reply.status == HG_VALUE;
 }

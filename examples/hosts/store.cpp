@@ -7,14 +7,18 @@
 #include <string>
 #include <utility>
 
+using heapguard::Arena;
 using heapguard::Core;
 using heapguard::Handle;
 using heapguard::Reply;
+using heapguard::Tenant;
+using heapguard::Worker;
 
 namespace {
 
-constexpr std::uint8_t WORKER = 0;
-constexpr std::uint8_t STRANGER = 255;
+constexpr Worker WORKER{0};
+constexpr Arena ROWS{0};
+constexpr Tenant STRANGER{255};
 
 constexpr char POLICY[] = R"(version = 2
 workers = 1
@@ -32,10 +36,10 @@ public:
     explicit Store(std::string_view policy) : core_(policy) {}
 
     /// The session of a tenant, or of a stranger where no tenant has the name.
-    std::uint8_t session(std::string_view name) { return core_.tenant(name).value_or(STRANGER); }
+    Tenant session(std::string_view name) { return core_.tenant(name).value_or(STRANGER); }
 
     /// The first word of a block is the value's length, the others have 8 of its bytes each.
-    std::string set(std::uint8_t session, const std::string &key, std::string_view value)
+    std::string set(Tenant session, const std::string &key, std::string_view value)
     {
         Reply made = room(session, 8 + (value.size() + 7) / 8 * 8);
         if (made.status != HG_BLOCK) return said(made);
@@ -55,7 +59,7 @@ public:
         return "set " + heapguard::to_string(block);
     }
 
-    std::string get(std::uint8_t session, const std::string &key)
+    std::string get(Tenant session, const std::string &key)
     {
         auto row = rows_.find(key);
         if (row == rows_.end()) return "no such key";
@@ -68,7 +72,7 @@ public:
         return "\"" + value + "\"";
     }
 
-    std::string drop(std::uint8_t session, const std::string &key)
+    std::string drop(Tenant session, const std::string &key)
     {
         auto row = rows_.find(key);
         if (row == rows_.end()) return "no such key";
@@ -78,7 +82,7 @@ public:
     }
 
     /// What a caller of the store could do with a handle that it kept.
-    std::string peek(std::uint8_t session, Handle block)
+    std::string peek(Tenant session, Handle block)
     {
         return said(core_.read(WORKER, session, block, 0));
     }
@@ -102,11 +106,11 @@ private:
     }
 
     /// A block; where there is no room, once more with another segment.
-    Reply room(std::uint8_t session, std::uint64_t bytes)
+    Reply room(Tenant session, std::uint64_t bytes)
     {
-        Reply made = core_.alloc(WORKER, session, 0, bytes);
-        if (made.status == HG_NO_ROOM && core_.refill(WORKER, 0).status == HG_REFILLED)
-            made = core_.alloc(WORKER, session, 0, bytes);
+        Reply made = core_.alloc(WORKER, session, ROWS, bytes);
+        if (made.status == HG_NO_ROOM && core_.refill(WORKER, ROWS).status == HG_REFILLED)
+            made = core_.alloc(WORKER, session, ROWS, bytes);
         return made;
     }
 
@@ -156,9 +160,9 @@ int main()
 
     Core first(POLICY);
     Core second = std::move(first);
-    std::cout << "a core that was moved has " << unsigned(second.workers()) << " worker, and "
-              << unsigned(first.workers()) << " where it was\n";
-    std::cout << "tenant 1 is " << second.tenant_name(1).value_or("nobody") << ", tenant 3 is "
-              << second.tenant_name(3).value_or("nobody") << "\n";
+    std::cout << "a core that was moved has " << second.workers() << " worker, and "
+              << first.workers() << " where it was\n";
+    std::cout << "tenant 1 is " << second.tenant_name(Tenant{1}).value_or("nobody")
+              << ", tenant 3 is " << second.tenant_name(Tenant{3}).value_or("nobody") << "\n";
     return 0;
 }

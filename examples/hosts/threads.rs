@@ -1,12 +1,13 @@
 //! Threads behind one mutex: a thread for each worker of the policy makes, reads and frees blocks
 //! of its tenant, and hands each third one to the other thread, which frees it from afar.
 
-use heapguard::{Core, Freed, Handle, Refusal, Rule};
+use heapguard::{Arena, Core, Freed, Handle, Refusal, Rule, Segment, Tenant, Worker};
 use std::sync::mpsc::{channel, Receiver, Sender};
 use std::sync::{Arc, Mutex};
 use std::thread;
 
 const BLOCKS: u64 = 300;
+const MAIN: Arena = Arena(0);
 
 const POLICY: &str = r#"version = 1
 workers = 2
@@ -25,22 +26,22 @@ struct Seen {
     stale: u64,
 }
 
-struct Worker {
+struct Server {
     core: Arc<Mutex<Core>>,
-    number: u8,
-    tenant: u8,
+    worker: Worker,
+    tenant: Tenant,
 }
 
-impl Worker {
+impl Server {
     fn with<T>(&self, call: impl FnOnce(&mut Core) -> T) -> T {
         call(&mut self.core.lock().unwrap())
     }
 
     /// A block that holds a value, read back under another lock than it was written.
     fn make(&self, value: u64, seen: &mut Seen) -> Result<Handle, Refusal> {
-        let block = self.with(|core| core.alloc(self.number, self.tenant, 0, 16))?;
-        self.with(|core| core.write(self.number, self.tenant, block, 1, value))?;
-        let read = self.with(|core| core.read(self.number, self.tenant, block, 1))?;
+        let block = self.with(|core| core.alloc(self.worker, self.tenant, MAIN, 16))?;
+        self.with(|core| core.write(self.worker, self.tenant, block, 1, value))?;
+        let read = self.with(|core| core.read(self.worker, self.tenant, block, 1))?;
         seen.read_back += u64::from(read == value);
         Ok(block)
     }
@@ -48,8 +49,8 @@ impl Worker {
     fn free(&self, block: Handle, seen: &mut Seen) -> Result<(), Refusal> {
         let (freed, again) = self.with(|core| {
             (
-                core.free(self.number, self.tenant, block),
-                core.free(self.number, self.tenant, block),
+                core.free(self.worker, self.tenant, block),
+                core.free(self.worker, self.tenant, block),
             )
         });
         if freed? == Freed::Here {
@@ -62,10 +63,10 @@ impl Worker {
     /// Frees what the other thread handed over. Its segment is the other worker's, so the block
     /// goes into this one's hand, and from there to that worker.
     fn free_afar(&self, block: Handle, seen: &mut Seen) -> Result<(), Refusal> {
-        match self.with(|core| core.free(self.number, self.tenant, block)) {
+        match self.with(|core| core.free(self.worker, self.tenant, block)) {
             Ok(_) => {
                 seen.freed_afar += 1;
-                self.with(|core| core.deliver(self.number))
+                self.with(|core| core.deliver(self.worker))
             }
             Err(Refusal::Denied(Rule::NotGranted)) => {
                 seen.refused_afar += 1;
@@ -97,7 +98,7 @@ fn main() -> Result<(), Box<dyn std::error::Error>> {
     println!("version 3: {}", Core::open("version = 3").err().unwrap());
     let mut core = Core::open(POLICY)?;
     for worker in 0..core.workers() {
-        core.refill(worker, 0)?;
+        core.refill(Worker(worker), MAIN)?;
     }
     let names = ["red", "blue"];
     let tenants = names.map(|name| core.tenant(name).unwrap());
@@ -111,12 +112,12 @@ fn main() -> Result<(), Box<dyn std::error::Error>> {
         .zip(ends)
         .map(|((number, tenant), (to_other, from_other))| {
             let core = Arc::clone(&core);
-            let worker = Worker {
+            let server = Server {
                 core,
-                number,
+                worker: Worker(number),
                 tenant,
             };
-            thread::spawn(move || worker.work(to_other, from_other))
+            thread::spawn(move || server.work(to_other, from_other))
         })
         .collect();
     for (name, thread) in names.into_iter().zip(threads) {
@@ -131,16 +132,17 @@ fn main() -> Result<(), Box<dyn std::error::Error>> {
     for worker in 0..core.workers() {
         println!(
             "{} came home to worker {worker}",
-            core.take(worker, worker)?
+            core.take(Worker(worker), Segment(worker))?
         );
     }
 
-    core.collect(0)?;
-    let block = core.alloc(0, tenants[0], 0, 65536)?;
-    core.write(0, tenants[0], block, 8191, 7)?;
+    let (worker, red) = (Worker(0), tenants[0]);
+    core.collect(worker)?;
+    let block = core.alloc(worker, red, MAIN, 65536)?;
+    core.write(worker, red, block, 8191, 7)?;
     println!(
         "the last word of a block of 64 KiB is {}",
-        core.read(0, tenants[0], block, 8191)?
+        core.read(worker, red, block, 8191)?
     );
     Ok(())
 }

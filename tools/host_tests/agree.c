@@ -1,9 +1,10 @@
 /* agree EVENTS SEED FOLDER: gives seeded events to the library, and writes them as a policy, a
  * trace and the library's answers in heapguard's words, for `heapguard replay` to be compared
  * with. It says how often each status was answered, and fails where an event that should be common
- * never was served.
+ * never was served, or where one asked for memory or gave some back.
  */
 #include "heapguard.h"
+#include "counted.h"
 #include "seeded.h"
 #include <inttypes.h>
 #include <stdio.h>
@@ -36,7 +37,7 @@ static uint32_t count;
 static unsigned long answered[STATUSES];
 static FILE *trace, *answers;
 
-static uint8_t number(uint32_t at, uint32_t known) { return at < known ? (uint8_t)at : 255; }
+static uint32_t number(uint32_t at, uint32_t known) { return at < known ? at : 255; }
 
 static void put_handle(FILE *out, hg_handle block)
 {
@@ -48,7 +49,7 @@ static void put_handle(FILE *out, hg_handle block)
 static void put_row(hg_reply reply)
 {
     char handle[32], name[16];
-    hg_reply named = hg_tenant_name(&core, (uint8_t)reply.owner, name, sizeof name);
+    hg_reply named = hg_tenant_name(&core, reply.owner, name, sizeof name);
     snprintf(handle, sizeof handle, "@%" PRIu32 ".%" PRIu32 ".%" PRIu32 ".%" PRIu32,
              hg_segment_of(reply.value), hg_page_of(reply.value), hg_index_of(reply.value),
              hg_generation_of(reply.value));
@@ -106,13 +107,13 @@ static uint32_t some_index(void)
 static hg_reply on_block(unsigned w, unsigned what)
 {
     uint32_t at = below(TENANTS + 1), index = some_index();
-    uint8_t actor = number(at, TENANTS);
+    uint32_t actor = number(at, TENANTS);
     hg_handle block = some_block();
     uint64_t value = next();
     if (what == 3) {
         fprintf(trace, "w%u look %s %" PRIu32 ".%" PRIu32 ".%" PRIu32 "\n", w, ACTORS[at],
                 hg_segment_of(block), hg_page_of(block), hg_index_of(block));
-        return hg_look(&core, (uint8_t)w, actor, hg_place_of(block));
+        return hg_look(&core, w, actor, hg_place_of(block));
     }
     static const char *const VERBS[] = {"free", "read", "write"};
     fprintf(trace, "w%u %s %s ", w, VERBS[what], ACTORS[at]);
@@ -120,13 +121,13 @@ static hg_reply on_block(unsigned w, unsigned what)
     switch (what) {
     case 0:
         fputc('\n', trace);
-        return hg_free(&core, (uint8_t)w, actor, block);
+        return hg_free(&core, w, actor, block);
     case 1:
         fprintf(trace, " %" PRIu32 "\n", index);
-        return hg_read(&core, (uint8_t)w, actor, block, index);
+        return hg_read(&core, w, actor, block, index);
     default:
         fprintf(trace, " %" PRIu32 " %" PRIu64 "\n", index, value);
-        return hg_write(&core, (uint8_t)w, actor, block, index, value);
+        return hg_write(&core, w, actor, block, index, value);
     }
 }
 
@@ -134,8 +135,7 @@ static hg_reply on_segment(unsigned w, unsigned what)
 {
     uint32_t segment = below(20) ? below(SEGMENTS) : below(64);
     fprintf(trace, "w%u %s %" PRIu32 "\n", w, what ? "take" : "abandon", segment);
-    return what ? hg_take(&core, (uint8_t)w, (uint8_t)segment)
-                : hg_abandon(&core, (uint8_t)w, (uint8_t)segment);
+    return what ? hg_take(&core, w, segment) : hg_abandon(&core, w, segment);
 }
 
 static hg_reply some_event(void)
@@ -146,7 +146,7 @@ static hg_reply some_event(void)
         uint64_t bytes = some_bytes();
         fprintf(trace, "w%u alloc %s %s %" PRIu64 "\n", w, ACTORS[actor], ARENA_NAMES[arena],
                 bytes);
-        return hg_alloc(&core, (uint8_t)w, number(actor, TENANTS), number(arena, ARENAS), bytes);
+        return hg_alloc(&core, w, number(actor, TENANTS), number(arena, ARENAS), bytes);
     }
     if (kind < 50) return on_block(w, 0);
     if (kind < 62) return on_block(w, 1);
@@ -154,17 +154,17 @@ static hg_reply some_event(void)
     if (kind < 80) return on_block(w, 3);
     if (kind < 86) {
         fprintf(trace, "w%u deliver\n", w);
-        return hg_deliver(&core, (uint8_t)w);
+        return hg_deliver(&core, w);
     }
     if (kind < 91) return on_segment(w, 1);
     if (kind < 92) return on_segment(w, 0);
     if (kind < 94) {
         fprintf(trace, "w%u collect\n", w);
-        return hg_collect(&core, (uint8_t)w);
+        return hg_collect(&core, w);
     }
     uint32_t arena = below(10) ? 0 : below(ARENAS + 1);
     fprintf(trace, "w%u refill %s\n", w, ARENA_NAMES[arena]);
-    return hg_refill(&core, (uint8_t)w, number(arena, ARENAS));
+    return hg_refill(&core, w, number(arena, ARENAS));
 }
 
 static FILE *made(const char *folder, const char *name)
@@ -188,7 +188,10 @@ int main(int words, char **word)
     trace = made(word[3], "trace");
     answers = made(word[3], "answers");
     if (hg_open(&core, POLICY, sizeof POLICY - 1, NULL, 0).status != HG_DONE) return 1;
+    unsigned long opened = asked;
     for (long left = strtol(word[1], NULL, 10); left > 0; left--) put_answer(some_event());
+    int took = asked != opened;
+    if (took) printf("agree: %lu requests for memory after the opening\n", asked - opened);
     hg_close(&core);
     if (fclose(policy) | fclose(trace) | fclose(answers)) return 1;
 
@@ -199,5 +202,5 @@ int main(int words, char **word)
         if (!answered[status]) printf("never answered: %s (%u)\n", text, status);
         missed += !answered[status];
     }
-    return missed != 0;
+    return missed || took;
 }

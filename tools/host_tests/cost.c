@@ -46,9 +46,9 @@ int main(void)
     hg_refill(&core, 0, 0);
     hg_handle block = hg_alloc(&core, 0, 0, 0, 24).value;
     COST("misuse: a word of no handle", hg_read(&core, 0, 0, n & 0, 0));
-    COST("misuse: a closed core", hg_collect(&closed, (uint8_t)n));
-    COST("misuse: no such worker", hg_deliver(&core, (uint8_t)(n | 128)));
-    COST("deliver, with nothing in hand", hg_deliver(&core, (uint8_t)(n & 1)));
+    COST("misuse: a closed core", hg_collect(&closed, (uint32_t)n));
+    COST("misuse: no such worker", hg_deliver(&core, (uint32_t)n | 128));
+    COST("deliver, with nothing in hand", hg_deliver(&core, n & 1));
     COST("read, denied to a stranger", hg_read(&core, 0, 77, block, n & 1));
     COST("read, not granted", hg_read(&core, 0, 1, block, n & 1));
     COST("read, of a stale handle", hg_read(&core, 0, 0, block + 1, n & 1));

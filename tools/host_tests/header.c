@@ -26,5 +26,6 @@ int main(void)
     for (unsigned status = 0; status < 80; status++)
         so(hg_is_served(status) == (status != 0 && status < HG_TOO_LARGE), "what is served");
     so(HG_VERSION_MAJOR == 0 && HG_VERSION == 56, "HG_VERSION is a status");
+    so(HG_VERSION_NUMBER / 65536 == HG_VERSION_MAJOR, "the number of the release");
     return failed != 0;
 }

@@ -1,8 +1,10 @@
 /* Calls on cores that are closed, closed twice or opened twice, and garbage in every argument:
  * each is answered, and what a closed core or a text's room has stays as it was. On an open core a
- * block that nothing of it may touch is there at the end, as it was written.
+ * block that nothing of it may touch is there at the end, as it was written. No call but hg_open
+ * asks for memory, and none but hg_close gives some back.
  */
 #include "heapguard.h"
+#include "counted.h"
 #include "seeded.h"
 #include <stdio.h>
 #include <string.h>
@@ -31,40 +33,64 @@ static int is_plain(hg_reply reply, unsigned status)
     return reply.status == status && !reply.owner && !reply.detail && !reply.value;
 }
 
-static uint8_t byte(void) { return (uint8_t)next(); }
+/* What a look-up is answered that finds no number. */
+static int is_nobody(hg_reply reply, unsigned status)
+{
+    return reply.status == status && !reply.owner && !reply.detail && reply.value == 255;
+}
+
+/* One that may be right, one of 8 bits, one that would be right if it wrapped, or any. */
+static uint32_t number(void)
+{
+    switch (below(4)) {
+    case 0: return below(3);
+    case 1: return below(256);
+    case 2: return (1 + below(1 << 24)) * 256 + below(3);
+    default: return (uint32_t)next();
+    }
+}
+
+/* Tenant 0 asks for none of it, so that its block stays. */
+static uint32_t stranger(void)
+{
+    uint32_t actor = number();
+    return actor ? actor : 1;
+}
 
 /* One call of each kind, with garbage or with numbers that may be right. */
 static hg_reply any_call(hg_core *core, unsigned kind, char *room)
 {
-    uint8_t w = below(2) ? byte() : (uint8_t)below(3), actor = below(2) ? byte() : 1;
+    uint32_t w = number(), actor = stranger();
     uint64_t word = below(2) ? next() : hg_handle_of(below(3), below(16), below(512), below(3));
-    uint32_t number = below(2) ? (uint32_t)next() : below(8192);
+    uint32_t at = below(2) ? (uint32_t)next() : below(8192);
     char name[8];
     for (unsigned at = 0; at < sizeof name; at++) name[at] = (char)next();
     switch (kind) {
-    case 0: return hg_alloc(core, w, actor, byte(), below(2) ? next() : below(64));
+    case 0: return hg_alloc(core, w, actor, number(), below(2) ? next() : below(64));
     case 1: return hg_free(core, w, actor, word);
     case 2: return hg_deliver(core, w);
-    case 3: return hg_take(core, w, byte());
+    case 3: return hg_take(core, w, number());
     case 4: return hg_collect(core, w);
-    case 5: return hg_read(core, w, actor, word, number);
-    case 6: return hg_write(core, w, actor, word, number, next());
-    case 7: return hg_look(core, w, actor, number);
-    case 8: return hg_abandon(core, w, byte() | 1);
-    case 9: return hg_refill(core, w, byte());
+    case 5: return hg_read(core, w, actor, word, at);
+    case 6: return hg_write(core, w, actor, word, at, next());
+    case 7: return hg_look(core, w, actor, at);
+    case 8: return hg_abandon(core, w, number() | 1);
+    case 9: return hg_refill(core, w, number());
     case 10: return hg_workers(core);
-    case 11: return hg_holds(core, byte(), byte());
+    case 11: return hg_holds(core, number(), number());
     case 12: return hg_tenant(core, name, below(9));
     case 13: return hg_arena(core, name, below(9));
-    default: return hg_tenant_name(core, byte(), room, below(ROOM + 1));
+    case 14: return hg_tenant_name(core, number(), room, below(ROOM + 1));
+    default: return hg_segments(core);
     }
 }
 
-enum { KINDS = 15 };
+enum { KINDS = 16 };
 
 static void try_closed(hg_core core)
 {
     hg_core before = core;
+    unsigned long shut = asked;
     char room[ROOM], untouched[ROOM];
     memset(untouched, 0x5a, sizeof untouched);
     memcpy(room, untouched, sizeof room);
@@ -72,9 +98,10 @@ static void try_closed(hg_core core)
         unsigned kind = n % KINDS;
         hg_reply reply = any_call(&core, kind, room);
         int unnamed = kind == 1 || kind == 5 || kind == 6 || kind == 7;
-        int no_text = kind == 12 || kind == 13;
-        if (!is_plain(reply, HG_CLOSED) && !(unnamed && is_plain(reply, HG_NO_BLOCK))
-            && !(no_text && is_plain(reply, HG_NO_NAME))) {
+        int is_right = kind == 12 || kind == 13
+            ? is_nobody(reply, HG_CLOSED) || is_nobody(reply, HG_NO_NAME)
+            : is_plain(reply, HG_CLOSED) || (unnamed && is_plain(reply, HG_NO_BLOCK));
+        if (!is_right) {
             failed++;
             printf("misuse: call %u on a closed core: %s\n", kind, hg_status_text(reply.status));
         }
@@ -84,6 +111,7 @@ static void try_closed(hg_core core)
     CHECK(is_plain(hg_close(&core), HG_CLOSED));
     CHECK(core.at == before.at && core.mark == before.mark);
     CHECK(memcmp(room, untouched, sizeof room) == 0);
+    CHECK(asked == shut);
 }
 
 static void try_opening(void)
@@ -110,9 +138,41 @@ static void try_opening(void)
     CHECK(is_plain(hg_open(&core, POLICY, sizeof POLICY - 1, room, 4), HG_HELD));
     CHECK(is_plain(hg_open(&core, BAD, sizeof BAD - 1, room, 4), HG_HELD));
     CHECK(core.at == before.at && core.mark == before.mark && strcmp(room, "abc") == 0);
-    CHECK(hg_workers(&core).value == 2);
+    CHECK(hg_workers(&core).value == 2 && hg_segments(&core).value == 2);
     CHECK(is_plain(hg_close(&core), HG_DONE));
     CHECK(is_plain(hg_close(&core), HG_CLOSED));
+}
+
+/* Numbers that would be those of worker 0, tenant 0, arena 0 and segment 0 if they wrapped. */
+static void try_wide(hg_core *core, hg_handle block)
+{
+    static const uint32_t WIDE[] = {255, 256, 512, 65536, 1u << 24, 1u << 31, UINT32_MAX};
+    for (unsigned n = 0; n < sizeof WIDE / sizeof *WIDE; n++) {
+        uint32_t wide = WIDE[n];
+        char room[ROOM] = "";
+        CHECK(is_plain(hg_alloc(core, wide, 0, 0, 8), HG_NO_WORKER));
+        CHECK(is_plain(hg_free(core, wide, 0, block), HG_NO_WORKER));
+        CHECK(is_plain(hg_deliver(core, wide), HG_NO_WORKER));
+        CHECK(is_plain(hg_take(core, wide, 0), HG_NO_WORKER));
+        CHECK(is_plain(hg_collect(core, wide), HG_NO_WORKER));
+        CHECK(is_plain(hg_read(core, wide, 0, block, 0), HG_NO_WORKER));
+        CHECK(is_plain(hg_write(core, wide, 0, block, 0, 1), HG_NO_WORKER));
+        CHECK(is_plain(hg_look(core, wide, 0, hg_place_of(block)), HG_NO_WORKER));
+        CHECK(is_plain(hg_abandon(core, wide, 0), HG_NO_WORKER));
+        CHECK(is_plain(hg_refill(core, wide, 0), HG_NO_WORKER));
+        CHECK(is_plain(hg_alloc(core, 0, wide, 0, 8), HG_STRANGER));
+        CHECK(is_plain(hg_free(core, 0, wide, block), HG_STRANGER));
+        CHECK(is_plain(hg_read(core, 0, wide, block, 0), HG_STRANGER));
+        CHECK(is_plain(hg_write(core, 0, wide, block, 0, 1), HG_STRANGER));
+        CHECK(is_plain(hg_look(core, 0, wide, hg_place_of(block)), HG_STRANGER));
+        CHECK(is_plain(hg_alloc(core, 0, 0, wide, 8), HG_FOREIGN_ARENA));
+        CHECK(is_plain(hg_refill(core, 0, wide), HG_NO_SEGMENT));
+        CHECK(is_plain(hg_take(core, 0, wide), HG_NOT_HELD));
+        CHECK(is_plain(hg_abandon(core, 0, wide), HG_NOT_HELD));
+        CHECK(is_plain(hg_holds(core, wide, 0), HG_VALUE));
+        CHECK(is_plain(hg_holds(core, 0, wide), HG_VALUE));
+        CHECK(is_plain(hg_tenant_name(core, wide, room, ROOM), HG_NO_NAME) && room[0] == 0);
+    }
 }
 
 /* No call of garbage comes from tenant 0, so its block stays. */
@@ -120,6 +180,8 @@ static void try_open(void)
 {
     hg_core core = HG_CORE_INIT;
     CHECK(hg_open(&core, POLICY, sizeof POLICY - 1, NULL, 0).status == HG_DONE);
+    unsigned long opened = asked;
+    CHECK(opened > 0);
     CHECK(hg_refill(&core, 0, 0).status == HG_REFILLED);
     hg_reply made = hg_alloc(&core, 0, 0, 0, 64);
     CHECK(made.status == HG_BLOCK && made.value != 0);
@@ -131,6 +193,10 @@ static void try_open(void)
     CHECK(is_plain(hg_look(&core, 0, 0, 524288), HG_NO_BLOCK));
     CHECK(is_plain(hg_read(&core, 0, 2, made.value, 0), HG_STRANGER));
     CHECK(is_plain(hg_read(&core, 0, 0, made.value, 8), HG_OUT_OF_BLOCK));
+    try_wide(&core, made.value);
+    CHECK(is_nobody(hg_tenant(&core, "eve", 3), HG_NO_NAME));
+    CHECK(is_nobody(hg_tenant(&core, "\xff", 1), HG_NO_NAME));
+    CHECK(is_nobody(hg_arena(&core, "attic", 5), HG_NO_NAME));
     for (unsigned n = 0; n < ROUNDS; n++) {
         char room[ROOM];
         unsigned kind = n % KINDS;
@@ -145,6 +211,7 @@ static void try_open(void)
     }
     for (uint32_t at = 0; at < 8; at++)
         CHECK(hg_read(&core, 0, 0, made.value, at).value == at + 100);
+    CHECK(asked == opened);
     CHECK(is_plain(hg_close(&core), HG_DONE));
     for (unsigned n = 0; n < 64; n++) any_call(&core, n % KINDS, (char[ROOM]){0});
 }
@@ -182,6 +249,7 @@ int main(void)
     hg_core zeros = HG_CORE_INIT, garbage;
     memset(&garbage, 0xa5, sizeof garbage);
     seed = 20;
+    CHECK(hg_version() == HG_VERSION_NUMBER);
     try_closed(zeros);
     try_closed(garbage);
     try_opening();

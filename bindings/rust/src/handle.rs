@@ -1,5 +1,6 @@
 //! Handles and places.
 
+use crate::number::Segment;
 use std::fmt;
 use std::num::NonZeroU64;
 use std::str::FromStr;
@@ -12,13 +13,13 @@ pub struct Place(u32);
 
 impl Place {
     /// The place of a segment below 64, a page below 16 and an index below 512.
-    pub fn new(segment: u8, page: u8, index: u16) -> Option<Place> {
-        (segment < 64 && page < 16 && index < 512)
-            .then(|| Place(u32::from(segment) * 8192 + u32::from(page) * 512 + u32::from(index)))
+    pub fn new(segment: Segment, page: u8, index: u16) -> Option<Place> {
+        (segment.0 < 64 && page < 16 && index < 512)
+            .then(|| Place(segment.0 * 8192 + u32::from(page) * 512 + u32::from(index)))
     }
 
-    pub fn segment(self) -> u8 {
-        (self.0 / 8192) as u8
+    pub fn segment(self) -> Segment {
+        Segment(self.0 / 8192)
     }
 
     pub fn page(self) -> u8 {
@@ -75,7 +76,7 @@ impl fmt::Display for Handle {
         write!(
             f,
             "@{}.{}.{}.{}",
-            place.segment(),
+            place.segment().0,
             place.page(),
             place.index(),
             self.generation()
@@ -115,7 +116,7 @@ impl FromStr for Handle {
         let read = || {
             let mut parts = text.strip_prefix('@')?.split('.');
             let place = Place::new(
-                number(parts.next()?)?,
+                Segment(number(parts.next()?)?),
                 number(parts.next()?)?,
                 number(parts.next()?)?,
             )?;

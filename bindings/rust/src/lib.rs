@@ -2,7 +2,7 @@
 //! written policy, named by handles and never by addresses.
 //!
 //! ```
-//! use heapguard::{Core, Refusal, Rule};
+//! use heapguard::{Core, Refusal, Rule, Worker};
 //!
 //! let mut core = Core::open(
 //!     "version = 1
@@ -11,21 +11,24 @@
 //!      arena = [ {name = \"main\", segments = 1} ]",
 //! )?;
 //! let (alice, bob) = (core.tenant("alice").unwrap(), core.tenant("bob").unwrap());
-//! core.refill(0, 0).unwrap();
-//! let block = core.alloc(0, alice, 0, 24).unwrap();
-//! core.write(0, alice, block, 1, 42).unwrap();
-//! assert_eq!(core.read(0, alice, block, 1), Ok(42));
-//! assert_eq!(core.read(0, bob, block, 1), Err(Refusal::Denied(Rule::NotGranted)));
+//! let (worker, main) = (Worker(0), core.arena("main").unwrap());
+//! core.refill(worker, main).unwrap();
+//! let block = core.alloc(worker, alice, main, 24).unwrap();
+//! core.write(worker, alice, block, 1, 42).unwrap();
+//! assert_eq!(core.read(worker, alice, block, 1), Ok(42));
+//! assert_eq!(core.read(worker, bob, block, 1), Err(Refusal::Denied(Rule::NotGranted)));
 //! # Ok::<(), heapguard::OpenError>(())
 //! ```
 //!
 //! All calls are safe. What the library proves of each is in `crates/hg_c/README.md`.
 
 mod handle;
+mod number;
 mod raw;
 mod refusal;
 
 pub use handle::{Handle, NoHandle, Place};
+pub use number::{Arena, Segment, Tenant, Worker};
 pub use refusal::{FaultKind, OpenError, PolicyFault, Refusal, Rule};
 
 use raw::{RawCore, RawReply};
@@ -33,6 +36,13 @@ use std::cell::UnsafeCell;
 
 /// Room for the line that tells a policy's fault; a longer one is cut.
 const LINE_ROOM: usize = 1024;
+
+/// The release of the library that is linked: its major, minor and patch number.
+pub fn version() -> (u32, u32, u32) {
+    // SAFETY: the call reads and writes nothing.
+    let number = unsafe { raw::hg_version() };
+    (number >> 16, number >> 8 & 255, number & 255)
+}
 
 /// What became of a block that was freed.
 #[derive(Clone, Copy, Debug, PartialEq, Eq)]
@@ -48,8 +58,8 @@ pub enum Freed {
 #[derive(Clone, Copy, Debug, PartialEq, Eq)]
 pub struct Row {
     pub handle: Handle,
-    /// The number of the tenant whose block it is.
-    pub owner: u8,
+    /// The tenant whose block it is.
+    pub owner: Tenant,
     pub bytes: u32,
 }
 
@@ -90,18 +100,18 @@ impl Core {
     /// 8, 16, 32 or 64 KiB.
     pub fn alloc(
         &mut self,
-        worker: u8,
-        actor: u8,
-        arena: u8,
+        worker: Worker,
+        actor: Tenant,
+        arena: Arena,
         bytes: u64,
     ) -> Result<Handle, Refusal> {
-        let call = |core| unsafe { raw::hg_alloc(core, worker, actor, arena, bytes) };
+        let call = |core| unsafe { raw::hg_alloc(core, worker.0, actor.0, arena.0, bytes) };
         handle_of(self.serve(raw::BLOCK, call)?)
     }
 
     /// Frees a block.
-    pub fn free(&mut self, worker: u8, actor: u8, block: Handle) -> Result<Freed, Refusal> {
-        let call = |core| unsafe { raw::hg_free(core, worker, actor, block.to_u64()) };
+    pub fn free(&mut self, worker: Worker, actor: Tenant, block: Handle) -> Result<Freed, Refusal> {
+        let call = |core| unsafe { raw::hg_free(core, worker.0, actor.0, block.to_u64()) };
         let reply = self.ask(call);
         match reply.status {
             raw::DONE => Ok(Freed::Here),
@@ -111,102 +121,108 @@ impl Core {
     }
 
     /// Sends what the worker has in hand to those who hold its segment.
-    pub fn deliver(&mut self, worker: u8) -> Result<(), Refusal> {
-        let call = |core| unsafe { raw::hg_deliver(core, worker) };
+    pub fn deliver(&mut self, worker: Worker) -> Result<(), Refusal> {
+        let call = |core| unsafe { raw::hg_deliver(core, worker.0) };
         self.serve(raw::DONE, call).map(drop)
     }
 
     /// Takes home what was sent to a segment that the worker holds, and tells how many places came.
-    pub fn take(&mut self, worker: u8, segment: u8) -> Result<u64, Refusal> {
-        let call = |core| unsafe { raw::hg_take(core, worker, segment) };
+    pub fn take(&mut self, worker: Worker, segment: Segment) -> Result<u64, Refusal> {
+        let call = |core| unsafe { raw::hg_take(core, worker.0, segment.0) };
         Ok(self.serve(raw::TAKEN, call)?.value)
     }
 
     /// Takes the class from each of the worker's pages that has no block, and tells from how many.
-    pub fn collect(&mut self, worker: u8) -> Result<u64, Refusal> {
-        let call = |core| unsafe { raw::hg_collect(core, worker) };
+    pub fn collect(&mut self, worker: Worker) -> Result<u64, Refusal> {
+        let call = |core| unsafe { raw::hg_collect(core, worker.0) };
         Ok(self.serve(raw::PAGES, call)?.value)
     }
 
     /// Reads a word of a block.
     pub fn read(
         &mut self,
-        worker: u8,
-        actor: u8,
+        worker: Worker,
+        actor: Tenant,
         block: Handle,
         index: u32,
     ) -> Result<u64, Refusal> {
-        let call = |core| unsafe { raw::hg_read(core, worker, actor, block.to_u64(), index) };
+        let call = |core| unsafe { raw::hg_read(core, worker.0, actor.0, block.to_u64(), index) };
         Ok(self.serve(raw::VALUE, call)?.value)
     }
 
     /// Writes a word of a block.
     pub fn write(
         &mut self,
-        worker: u8,
-        actor: u8,
+        worker: Worker,
+        actor: Tenant,
         block: Handle,
         index: u32,
         value: u64,
     ) -> Result<(), Refusal> {
         let word = block.to_u64();
-        let call = |core| unsafe { raw::hg_write(core, worker, actor, word, index, value) };
+        let call = |core| unsafe { raw::hg_write(core, worker.0, actor.0, word, index, value) };
         self.serve(raw::DONE, call).map(drop)
     }
 
     /// Looks at the block that stands at a place.
-    pub fn look(&mut self, worker: u8, actor: u8, place: Place) -> Result<Row, Refusal> {
-        let call = |core| unsafe { raw::hg_look(core, worker, actor, place.number()) };
+    pub fn look(&mut self, worker: Worker, actor: Tenant, place: Place) -> Result<Row, Refusal> {
+        let call = |core| unsafe { raw::hg_look(core, worker.0, actor.0, place.number()) };
         let reply = self.serve(raw::LISTED, call)?;
         Ok(Row {
             handle: handle_of(reply)?,
-            owner: reply.owner as u8,
+            owner: Tenant(u32::from(reply.owner)),
             bytes: reply.detail,
         })
     }
 
     /// Gives up a segment that the worker holds.
-    pub fn abandon(&mut self, worker: u8, segment: u8) -> Result<(), Refusal> {
-        let call = |core| unsafe { raw::hg_abandon(core, worker, segment) };
+    pub fn abandon(&mut self, worker: Worker, segment: Segment) -> Result<(), Refusal> {
+        let call = |core| unsafe { raw::hg_abandon(core, worker.0, segment.0) };
         self.serve(raw::DONE, call).map(drop)
     }
 
     /// Takes a segment of an arena that nobody holds, and tells which.
-    pub fn refill(&mut self, worker: u8, arena: u8) -> Result<u8, Refusal> {
-        let call = |core| unsafe { raw::hg_refill(core, worker, arena) };
-        Ok(self.serve(raw::REFILLED, call)?.value as u8)
+    pub fn refill(&mut self, worker: Worker, arena: Arena) -> Result<Segment, Refusal> {
+        let call = |core| unsafe { raw::hg_refill(core, worker.0, arena.0) };
+        Ok(Segment(self.serve(raw::REFILLED, call)?.value as u32))
     }
 
     /// How many workers there are.
-    pub fn workers(&self) -> u8 {
-        self.ask(|core| unsafe { raw::hg_workers(core) }).value as u8
+    pub fn workers(&self) -> u32 {
+        self.ask(|core| unsafe { raw::hg_workers(core) }).value as u32
+    }
+
+    /// How many segments all arenas have.
+    pub fn segments(&self) -> u32 {
+        self.ask(|core| unsafe { raw::hg_segments(core) }).value as u32
     }
 
     /// Whether the worker holds the segment.
-    pub fn holds(&self, worker: u8, segment: u8) -> bool {
-        self.ask(|core| unsafe { raw::hg_holds(core, worker, segment) })
+    pub fn holds(&self, worker: Worker, segment: Segment) -> bool {
+        self.ask(|core| unsafe { raw::hg_holds(core, worker.0, segment.0) })
             .value
             == 1
     }
 
-    /// The number of the tenant of this name.
-    pub fn tenant(&self, name: &str) -> Option<u8> {
+    /// The tenant of this name.
+    pub fn tenant(&self, name: &str) -> Option<Tenant> {
         named(self.ask(|core| unsafe { raw::hg_tenant(core, name.as_ptr(), name.len()) }))
+            .map(Tenant)
     }
 
-    /// The number of the arena of this name.
-    pub fn arena(&self, name: &str) -> Option<u8> {
-        named(self.ask(|core| unsafe { raw::hg_arena(core, name.as_ptr(), name.len()) }))
+    /// The arena of this name.
+    pub fn arena(&self, name: &str) -> Option<Arena> {
+        named(self.ask(|core| unsafe { raw::hg_arena(core, name.as_ptr(), name.len()) })).map(Arena)
     }
 
-    /// The name of the tenant of this number.
-    pub fn tenant_name(&self, tenant: u8) -> Option<String> {
+    /// The name of a tenant.
+    pub fn tenant_name(&self, tenant: Tenant) -> Option<String> {
         let mut room = [0; 16];
         let told = self.ask(|core| unsafe {
-            raw::hg_tenant_name(core, tenant, room.as_mut_ptr(), room.len())
+            raw::hg_tenant_name(core, tenant.0, room.as_mut_ptr(), room.len())
         });
         let length = named(told)?;
-        Some(String::from_utf8_lossy(&room[..usize::from(length)]).into_owned())
+        Some(String::from_utf8_lossy(&room[..length as usize]).into_owned())
     }
 
     /// Makes one call on the core. It is open and stays so, and nothing else reaches it meanwhile:
@@ -241,6 +257,16 @@ fn handle_of(raw: RawReply) -> Result<Handle, Refusal> {
     Handle::from_u64(raw.value).ok_or(Refusal::Other(raw.status))
 }
 
-fn named(told: RawReply) -> Option<u8> {
-    (told.status == raw::VALUE).then_some(told.value as u8)
+fn named(told: RawReply) -> Option<u32> {
+    (told.status == raw::VALUE).then_some(told.value as u32)
+}
+
+#[cfg(test)]
+mod tests {
+    #[test]
+    fn crate_and_library_are_of_one_release() {
+        let (major, minor, patch) = crate::version();
+        let release = format!("{major}.{minor}.{patch}");
+        assert_eq!(release, env!("CARGO_PKG_VERSION"));
+    }
 }

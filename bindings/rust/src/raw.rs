@@ -35,6 +35,7 @@ pub const REFILLED: u16 = 7;
 pub const LISTED: u16 = 8;
 
 extern "C" {
+    pub fn hg_version() -> u32;
     pub fn hg_open(
         core: *mut RawCore,
         policy: *const u8,
@@ -43,30 +44,38 @@ extern "C" {
         room_length: usize,
     ) -> RawReply;
     pub fn hg_close(core: *mut RawCore) -> RawReply;
-    pub fn hg_alloc(core: *mut RawCore, worker: u8, actor: u8, arena: u8, bytes: u64) -> RawReply;
-    pub fn hg_free(core: *mut RawCore, worker: u8, actor: u8, block: u64) -> RawReply;
-    pub fn hg_deliver(core: *mut RawCore, worker: u8) -> RawReply;
-    pub fn hg_take(core: *mut RawCore, worker: u8, segment: u8) -> RawReply;
-    pub fn hg_collect(core: *mut RawCore, worker: u8) -> RawReply;
-    pub fn hg_read(core: *mut RawCore, worker: u8, actor: u8, block: u64, index: u32) -> RawReply;
+    pub fn hg_alloc(
+        core: *mut RawCore,
+        worker: u32,
+        actor: u32,
+        arena: u32,
+        bytes: u64,
+    ) -> RawReply;
+    pub fn hg_free(core: *mut RawCore, worker: u32, actor: u32, block: u64) -> RawReply;
+    pub fn hg_deliver(core: *mut RawCore, worker: u32) -> RawReply;
+    pub fn hg_take(core: *mut RawCore, worker: u32, segment: u32) -> RawReply;
+    pub fn hg_collect(core: *mut RawCore, worker: u32) -> RawReply;
+    pub fn hg_read(core: *mut RawCore, worker: u32, actor: u32, block: u64, index: u32)
+        -> RawReply;
     pub fn hg_write(
         core: *mut RawCore,
-        worker: u8,
-        actor: u8,
+        worker: u32,
+        actor: u32,
         block: u64,
         index: u32,
         value: u64,
     ) -> RawReply;
-    pub fn hg_look(core: *mut RawCore, worker: u8, actor: u8, place: u32) -> RawReply;
-    pub fn hg_abandon(core: *mut RawCore, worker: u8, segment: u8) -> RawReply;
-    pub fn hg_refill(core: *mut RawCore, worker: u8, arena: u8) -> RawReply;
+    pub fn hg_look(core: *mut RawCore, worker: u32, actor: u32, place: u32) -> RawReply;
+    pub fn hg_abandon(core: *mut RawCore, worker: u32, segment: u32) -> RawReply;
+    pub fn hg_refill(core: *mut RawCore, worker: u32, arena: u32) -> RawReply;
     pub fn hg_workers(core: *mut RawCore) -> RawReply;
-    pub fn hg_holds(core: *mut RawCore, worker: u8, segment: u8) -> RawReply;
+    pub fn hg_segments(core: *mut RawCore) -> RawReply;
+    pub fn hg_holds(core: *mut RawCore, worker: u32, segment: u32) -> RawReply;
     pub fn hg_tenant(core: *mut RawCore, name: *const u8, name_length: usize) -> RawReply;
     pub fn hg_arena(core: *mut RawCore, name: *const u8, name_length: usize) -> RawReply;
     pub fn hg_tenant_name(
         core: *mut RawCore,
-        tenant: u8,
+        tenant: u32,
         room: *mut u8,
         room_length: usize,
     ) -> RawReply;

@@ -175,7 +175,7 @@ impl std::error::Error for OpenError {}
 #[cfg(test)]
 mod tests {
     use super::*;
-    use crate::Core;
+    use crate::{Arena, Core, Segment, Tenant, Worker};
 
     const POLICY: &str = r#"version = 2
 workers = 1
@@ -190,14 +190,40 @@ deny = [ {owner = "all", to = "all", rights = ["write"]} ]
     fn what_is_denied_is_forbidden() {
         let mut core = Core::open(POLICY).unwrap();
         let (alice, bob) = (core.tenant("alice").unwrap(), core.tenant("bob").unwrap());
-        core.refill(0, 0).unwrap();
-        let block = core.alloc(0, alice, 0, 8).unwrap();
-        assert_eq!(core.write(0, alice, block, 0, 7), Ok(()));
-        assert_eq!(core.read(0, bob, block, 0), Ok(7));
+        let (worker, main) = (Worker(0), core.arena("main").unwrap());
+        core.refill(worker, main).unwrap();
+        let block = core.alloc(worker, alice, main, 8).unwrap();
+        assert_eq!(core.write(worker, alice, block, 0, 7), Ok(()));
+        assert_eq!(core.read(worker, bob, block, 0), Ok(7));
         let forbidden = Refusal::Denied(Rule::Forbidden);
-        assert_eq!(core.write(0, bob, block, 0, 8), Err(forbidden));
+        assert_eq!(core.write(worker, bob, block, 0, 8), Err(forbidden));
         assert_eq!(forbidden.to_string(), "denied forbidden");
         let ungranted = Err(Refusal::Denied(Rule::NotGranted));
-        assert_eq!(core.free(0, bob, block), ungranted);
+        assert_eq!(core.free(worker, bob, block), ungranted);
+    }
+
+    #[test]
+    fn no_number_is_another_one() {
+        let mut core = Core::open(POLICY).unwrap();
+        let (worker, alice) = (Worker(0), core.tenant("alice").unwrap());
+        let main = core.arena("main").unwrap();
+        assert_eq!((alice, main), (Tenant(0), Arena(0)));
+        assert_eq!(core.refill(worker, main), Ok(Segment(0)));
+        let block = core.alloc(worker, alice, main, 8).unwrap();
+        for wide in [255, 256, 1 << 16, u32::MAX] {
+            let stranger = Err(Refusal::Denied(Rule::Stranger));
+            assert_eq!(core.read(worker, Tenant(wide), block, 0), stranger);
+            assert_eq!(
+                core.read(Worker(wide), alice, block, 0),
+                Err(Refusal::NoWorker)
+            );
+            let foreign = Err(Refusal::Denied(Rule::ForeignArena));
+            assert_eq!(core.alloc(worker, alice, Arena(wide), 8), foreign);
+            assert_eq!(core.abandon(worker, Segment(wide)), Err(Refusal::NotHeld));
+            assert!(!core.holds(worker, Segment(wide)) && !core.holds(Worker(wide), Segment(0)));
+            assert_eq!(core.tenant_name(Tenant(wide)), None);
+        }
+        assert!(core.holds(worker, Segment(0)) && core.segments() == 1);
+        assert_eq!(core.read(worker, alice, block, 0), Ok(0));
     }
 }

@@ -4,7 +4,7 @@ use Rattle.hg_machine.specs.declared.Answer.{Answer}
 use Rattle.hg_machine.specs.declared.Event.{Event}
 use Rattle.hg_machine.specs.Lists.{Kept, IsPartition}
 use Rattle.hg_machine.specs.Soundness.{IsSound}
-use Rattle.hg_machine.specs.Steps.{Step}
+use Rattle.hg_choice.specs.ChosenSteps.{ChosenStep}
 use Rattle.hg_place.specs.declared.Handle.{Handle}
 use Rattle.hg_place.specs.declared.Place.{Place}
 use Rattle.hg_place.specs.Places.{number_of}
@@ -19,13 +19,13 @@ abbrev pub IsSame : HostCore → HostCore → Type 0
 IsSame old new = (new.mark ≡ old.mark) × (new.core ≡ old.core)
 
 -- A worker that the policy lacks is answered so, and nothing changes; else the core makes one step
--- of the machine, the reply stands for its answer, and the core stays sound
+-- of the machine with its choices, the reply stands for its answer, and the core stays sound
 pub record Steps (old : Kept) (worker : ℕ) (event : Event) (reply : Reply) (new : Kept)
     : Type 0 where
   pub unknown : old.state.policy.workers ≤ worker → (reply ≡ no_worker) × (new ≡ old)
   pub step :
       worker < old.state.policy.workers
-      → (answer : Answer) × Step old.state worker event answer new.state
+      → (answer : Answer) × ChosenStep old worker event answer new
       × (reply ≡ reply_of answer) × IsSound new.state × IsPartition new
 
 -- an open core steps and stays open; a closed one is answered so, and nothing changes

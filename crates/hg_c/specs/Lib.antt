@@ -1,6 +1,9 @@
 pub mod Owning
+pub mod Numbers
 pub mod Replies
 pub mod Telling
 pub mod Calls
 pub mod Opening
 pub mod Asking
+pub mod Naming
+pub mod Version

@@ -3,7 +3,7 @@ use Rattle.std.specs.Prelude.{◌≡◌, ◌≢◌, ℕ, List, Ok}
 use Rattle.hg_machine.specs.Lists.{Kept, IsPartition}
 use Rattle.hg_machine.specs.Policy.{Policy}
 use Rattle.hg_machine.specs.Soundness.{IsSound}
-use Rattle.hg_machine.specs.State.{opening}
+use Rattle.hg_core.specs.Opening.{opened}
 use Rattle.hg_policy.specs.declared.fault.PolicyFault.{PolicyFault}
 use Rattle.hg_policy.specs.declared.fault.PolicyFault.TheVariants as fault
 use Rattle.hg_policy.specs.Document.{document_of}
@@ -28,11 +28,11 @@ fault_status (fault.TooMany counted) = 55
 fault_status fault.Version = 56
 fault_status fault.Memory = 57
 
--- a core in which nothing has happened yet, of the policy that the text is
+-- a core in which nothing has happened yet, of the policy that the text is, with empty lists
 pub record IsOpening (text : List ℕ) (core : Kept) : Type 0 where
   pub policy : Policy
   pub read : document_of text ≡ Ok policy
-  pub state : core.state ≡ opening policy
+  pub first : core ≡ opened policy
   pub sound : IsSound core.state
   pub partition : IsPartition core
 

@@ -5,7 +5,7 @@ ghost use Rattle.hg_heap.specs.Answers.{refused_answer, read_answer, done_answer
 ghost use Rattle.hg_core.specs.Answers.{free_answer, look_answer};
 ghost use Rattle.hg_machine.specs.Lists.{IsPartition};
 ghost use Rattle.hg_machine.specs.Soundness.{IsSound};
-ghost use Rattle.hg_machine.specs.Steps.{Step};
+ghost use Rattle.hg_choice.specs.ChosenSteps.{ChosenStep};
 ghost use Rattle.hg_c.specs.Replies.{reply_of};
 
 use crate::reply::{Reply, reply_of};
@@ -75,7 +75,7 @@ pub fn look_reply(told: Result<Row, Refused>) -> Reply
 #[inline(always)]
 pub fn answer(core: &mut Core, worker: u8, event: Event) -> Answer
     requires { worker < core.old.state.policy.workers }
-    ensures step { Step core.old.state worker event result core.new.state }
+    ensures step { ChosenStep core.old worker event result core.new }
     ensures kept { IsSound core.new.state × IsPartition core.new }
 {
     match event {

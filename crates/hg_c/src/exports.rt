@@ -5,21 +5,33 @@ ghost use Rattle.std.specs.Str.{IsUtf8};
 ghost use Rattle.hg_machine.specs.declared.Event.TheVariants as event;
 ghost use Rattle.hg_policy.specs.Names.{tenant_number, arena_number};
 ghost use Rattle.hg_c.specs.declared.asking.Question.TheVariants as question;
-ghost use Rattle.hg_c.specs.Asking.{Tells, TellsName, answer_to, numbered};
+ghost use Rattle.hg_c.specs.Asking.{Tells, answer_to};
 ghost use Rattle.hg_c.specs.Calls.{Serves, ServesOn, ServesAt, Closes, IsSame};
+ghost use Rattle.hg_c.specs.Naming.{Finds, TellsName, unnamed};
+ghost use Rattle.hg_c.specs.Numbers.{actor_of, byte_of};
 ghost use Rattle.hg_c.specs.Opening.{Opens};
-ghost use Rattle.hg_c.specs.Replies.{no_name};
+ghost use Rattle.hg_c.specs.Version.{release};
 
-use crate::asking::{NO_NAME, Question, ask, ask_name};
+use crate::asking::{Question, ask};
 use crate::host_core::HostCore;
+use crate::naming::{Name, find_name, find_number, unnamed};
+use crate::numbers::{actor_of, byte_of, place_of};
 use crate::opening::{DONE, open};
 use crate::reply::Reply;
 use crate::serving::{CLOSED, NO_BLOCK, serve, serve_look, serve_read, serve_write};
-use crate::word::place_of;
+use crate::version::version;
 use hg_machine::Event;
-use hg_place::{Actor, Handle};
+use hg_place::Handle;
 use std::alloc::Global;
 use std::mem;
+
+/// The release of this library, as one number.
+#[unsafe(no_mangle)]
+pub extern "C" fn hg_version() -> u32
+    ensures { result ≡ release 0 1 0 }
+{
+    version()
+}
 
 /// Opens a core by the text of its policy. Where the text is no policy, the status tells its first
 /// fault, and the value how many bytes of the fault's line stand in `room`.
@@ -57,15 +69,15 @@ pub extern "C" fn hg_close(alloc: Global, host: &mut HostCore) -> Reply
 pub extern "C" fn hg_alloc(
     alloc: Global,
     host: &mut HostCore,
-    worker: u8,
-    actor: u8,
-    arena: u8,
+    worker: u32,
+    actor: u32,
+    arena: u32,
     bytes: u64,
 ) -> Reply
-    ensures { Serves host.old worker (event.Alloc (record { 0 = actor }) arena bytes)
+    ensures { Serves host.old worker (event.Alloc (actor_of actor) (byte_of arena) bytes)
         result host.new }
 {
-    let actor = Actor(actor);
+    let (actor, arena) = (actor_of(actor), byte_of(arena));
     serve(
         alloc,
         host,
@@ -83,14 +95,14 @@ pub extern "C" fn hg_alloc(
 pub extern "C" fn hg_free(
     alloc: Global,
     host: &mut HostCore,
-    worker: u8,
-    actor: u8,
+    worker: u32,
+    actor: u32,
     word: u64,
 ) -> Reply
-    ensures { ServesOn host.old worker word (λ handle. event.Free (record { 0 = actor }) handle)
+    ensures { ServesOn host.old worker word (λ handle. event.Free (actor_of actor) handle)
         result host.new }
 {
-    let actor = Actor(actor);
+    let actor = actor_of(actor);
     match Handle::from_u64(word) {
         Some(handle) => serve(alloc, host, worker, Event::Free { actor, handle }),
         None => Reply::plain(NO_BLOCK),
@@ -102,15 +114,15 @@ pub extern "C" fn hg_free(
 pub extern "C" fn hg_read(
     alloc: Global,
     host: &mut HostCore,
-    worker: u8,
-    actor: u8,
+    worker: u32,
+    actor: u32,
     word: u64,
     index: u32,
 ) -> Reply
     ensures { ServesOn host.old worker word
-        (λ handle. event.Read (record { 0 = actor }) handle index) result host.new }
+        (λ handle. event.Read (actor_of actor) handle index) result host.new }
 {
-    let actor = Actor(actor);
+    let actor = actor_of(actor);
     match Handle::from_u64(word) {
         Some(handle) => serve_read(alloc, host, worker, actor, handle, index),
         None => Reply::plain(NO_BLOCK),
@@ -122,16 +134,16 @@ pub extern "C" fn hg_read(
 pub extern "C" fn hg_write(
     alloc: Global,
     host: &mut HostCore,
-    worker: u8,
-    actor: u8,
+    worker: u32,
+    actor: u32,
     word: u64,
     index: u32,
     value: u64,
 ) -> Reply
     ensures { ServesOn host.old worker word
-        (λ handle. event.Write (record { 0 = actor }) handle index value) result host.new }
+        (λ handle. event.Write (actor_of actor) handle index value) result host.new }
 {
-    let actor = Actor(actor);
+    let actor = actor_of(actor);
     match Handle::from_u64(word) {
         Some(handle) => serve_write(alloc, host, worker, actor, handle, index, value),
         None => Reply::plain(NO_BLOCK),
@@ -143,14 +155,14 @@ pub extern "C" fn hg_write(
 pub extern "C" fn hg_look(
     alloc: Global,
     host: &mut HostCore,
-    worker: u8,
-    actor: u8,
+    worker: u32,
+    actor: u32,
     number: u32,
 ) -> Reply
-    ensures { ServesAt host.old worker number (λ place. event.Look (record { 0 = actor }) place)
+    ensures { ServesAt host.old worker number (λ place. event.Look (actor_of actor) place)
         result host.new }
 {
-    let actor = Actor(actor);
+    let actor = actor_of(actor);
     match place_of(number) {
         Some(place) => serve_look(alloc, host, worker, actor, place),
         None => Reply::plain(NO_BLOCK),
@@ -159,7 +171,7 @@ pub extern "C" fn hg_look(
 
 /// Sends what the worker has in hand to those who hold its segment.
 #[unsafe(no_mangle)]
-pub extern "C" fn hg_deliver(alloc: Global, host: &mut HostCore, worker: u8) -> Reply
+pub extern "C" fn hg_deliver(alloc: Global, host: &mut HostCore, worker: u32) -> Reply
     ensures { Serves host.old worker event.Deliver result host.new }
 {
     serve(alloc, host, worker, Event::Deliver)
@@ -167,15 +179,16 @@ pub extern "C" fn hg_deliver(alloc: Global, host: &mut HostCore, worker: u8) -> 
 
 /// Takes home what was sent to a segment that the worker holds.
 #[unsafe(no_mangle)]
-pub extern "C" fn hg_take(alloc: Global, host: &mut HostCore, worker: u8, segment: u8) -> Reply
-    ensures { Serves host.old worker (event.Take segment) result host.new }
+pub extern "C" fn hg_take(alloc: Global, host: &mut HostCore, worker: u32, segment: u32) -> Reply
+    ensures { Serves host.old worker (event.Take (byte_of segment)) result host.new }
 {
+    let segment = byte_of(segment);
     serve(alloc, host, worker, Event::Take { segment })
 }
 
 /// Takes the class from each of the worker's pages that has no block.
 #[unsafe(no_mangle)]
-pub extern "C" fn hg_collect(alloc: Global, host: &mut HostCore, worker: u8) -> Reply
+pub extern "C" fn hg_collect(alloc: Global, host: &mut HostCore, worker: u32) -> Reply
     ensures { Serves host.old worker event.Collect result host.new }
 {
     serve(alloc, host, worker, Event::Collect)
@@ -183,17 +196,19 @@ pub extern "C" fn hg_collect(alloc: Global, host: &mut HostCore, worker: u8) -> 
 
 /// Gives up a segment that the worker holds.
 #[unsafe(no_mangle)]
-pub extern "C" fn hg_abandon(alloc: Global, host: &mut HostCore, worker: u8, segment: u8) -> Reply
-    ensures { Serves host.old worker (event.Abandon segment) result host.new }
+pub extern "C" fn hg_abandon(alloc: Global, host: &mut HostCore, worker: u32, segment: u32) -> Reply
+    ensures { Serves host.old worker (event.Abandon (byte_of segment)) result host.new }
 {
+    let segment = byte_of(segment);
     serve(alloc, host, worker, Event::Abandon { segment })
 }
 
 /// Takes a segment of an arena that nobody holds.
 #[unsafe(no_mangle)]
-pub extern "C" fn hg_refill(alloc: Global, host: &mut HostCore, worker: u8, arena: u8) -> Reply
-    ensures { Serves host.old worker (event.Refill arena) result host.new }
+pub extern "C" fn hg_refill(alloc: Global, host: &mut HostCore, worker: u32, arena: u32) -> Reply
+    ensures { Serves host.old worker (event.Refill (byte_of arena)) result host.new }
 {
+    let arena = byte_of(arena);
     serve(alloc, host, worker, Event::Refill { arena })
 }
 
@@ -205,39 +220,49 @@ pub extern "C" fn hg_workers(alloc: Global, host: &mut HostCore) -> Reply
     ask(alloc, host, Question::Workers)
 }
 
+/// How many segments there are, in all arenas.
+#[unsafe(no_mangle)]
+pub extern "C" fn hg_segments(alloc: Global, host: &mut HostCore) -> Reply
+    ensures { Tells host.old (answer_to question.Segments) result host.new }
+{
+    ask(alloc, host, Question::Segments)
+}
+
 /// Whether the worker holds the segment, as 1 or 0.
 #[unsafe(no_mangle)]
-pub extern "C" fn hg_holds(alloc: Global, host: &mut HostCore, worker: u8, segment: u8) -> Reply
-    ensures { Tells host.old (answer_to (question.Holds worker segment)) result host.new }
+pub extern "C" fn hg_holds(alloc: Global, host: &mut HostCore, worker: u32, segment: u32) -> Reply
+    ensures { Tells host.old (answer_to (question.Holds (byte_of worker) (byte_of segment)))
+        result host.new }
 {
+    let (worker, segment) = (byte_of(worker), byte_of(segment));
     ask(alloc, host, Question::Holds { worker, segment })
 }
 
-/// The number of the tenant of this name.
+/// The number of the tenant of this name; with each status but that of a number, 255, which is
+/// nobody's.
 #[unsafe(no_mangle)]
 pub extern "C" fn hg_tenant(alloc: Global, host: &mut HostCore, name: &[u8]) -> Reply
     ensures text { IsUtf8 name.now
-        → Tells host.old
-        (λ core. numbered (tenant_number core.state.policy name.now)) result host.new }
-    ensures no_text { ¬ (IsUtf8 name.now) → (result ≡ no_name) × IsSame host.old host.new }
+        → Finds host.old (λ core. tenant_number core.state.policy name.now) result host.new }
+    ensures no_text { ¬ (IsUtf8 name.now) → (result ≡ unnamed) × IsSame host.old host.new }
 {
     match str::from_utf8(name) {
-        Ok(name) => ask(alloc, host, Question::Tenant(name)),
-        Err(_) => Reply::plain(NO_NAME),
+        Ok(name) => find_number(alloc, host, Name::Tenant(name)),
+        Err(_) => unnamed(),
     }
 }
 
-/// The number of the arena of this name.
+/// The number of the arena of this name; with each status but that of a number, 255, which is
+/// none's.
 #[unsafe(no_mangle)]
 pub extern "C" fn hg_arena(alloc: Global, host: &mut HostCore, name: &[u8]) -> Reply
     ensures text { IsUtf8 name.now
-        → Tells host.old
-        (λ core. numbered (arena_number core.state.policy name.now)) result host.new }
-    ensures no_text { ¬ (IsUtf8 name.now) → (result ≡ no_name) × IsSame host.old host.new }
+        → Finds host.old (λ core. arena_number core.state.policy name.now) result host.new }
+    ensures no_text { ¬ (IsUtf8 name.now) → (result ≡ unnamed) × IsSame host.old host.new }
 {
     match str::from_utf8(name) {
-        Ok(name) => ask(alloc, host, Question::Arena(name)),
-        Err(_) => Reply::plain(NO_NAME),
+        Ok(name) => find_number(alloc, host, Name::Arena(name)),
+        Err(_) => unnamed(),
     }
 }
 
@@ -246,10 +271,11 @@ pub extern "C" fn hg_arena(alloc: Global, host: &mut HostCore, name: &[u8]) -> R
 pub extern "C" fn hg_tenant_name(
     alloc: Global,
     host: &mut HostCore,
-    tenant: u8,
+    tenant: u32,
     room: &mut [u8],
 ) -> Reply
-    ensures { TellsName host.old tenant room.old result host.new room.new }
+    ensures { TellsName host.old (byte_of tenant) room.old result host.new room.new }
 {
-    ask_name(alloc, host, tenant, room)
+    let tenant = byte_of(tenant);
+    find_name(alloc, host, tenant, room)
 }

@@ -1,6 +1,6 @@
 //! One event of a worker at a host's core.
 
-ghost use Rattle.std.specs.Prelude.{◌≡◌, ◌≢◌, ◌<◌, ◌↔◌, IfSome, IfNone, IsTrue};
+ghost use Rattle.std.specs.Prelude.{◌≡◌, ◌≢◌, ◌<◌, ◌≤◌, IfSome, IfNone, MatchOption};
 ghost use Rattle.hg_machine.specs.declared.Event.TheVariants as Event;
 ghost use Rattle.hg_c.specs.Calls.{IsSame, Steps, Serves};
 ghost use Rattle.hg_c.specs.Owning.{open_mark};
@@ -23,61 +23,73 @@ pub const NO_WORKER: u16 = 65;
 /// The number is no handle's, or no place's.
 pub const NO_BLOCK: u16 = 66;
 
-/// Whether the core's policy has a worker.
+/// The worker of a number, if the core's policy has one.
 #[inline(always)]
-fn has(core: &Core, worker: u8) -> bool
-    ensures { IsTrue result ↔ (worker < core.now.state.policy.workers) }
+fn worker_of(core: &Core, number: u32) -> Option<u8>
+    ensures { MatchOption result (core.now.state.policy.workers ≤ number)
+        (λ worker. (number ≡ worker) × (worker < core.now.state.policy.workers)) }
 {
-    worker < core.policy().workers()
+    if number < u32::from(core.policy().workers()) {
+        Some(number as u8)
+    } else {
+        None
+    }
 }
 
 /// Serves one event of a worker, if there is such a worker.
 #[inline(always)]
-fn step(core: &mut Core, worker: u8, event: Event) -> Reply
+fn step(core: &mut Core, worker: u32, event: Event) -> Reply
     ensures { Steps core.old worker event result core.new }
 {
-    if !has(core, worker) {
+    let Some(worker) = worker_of(core, worker) else {
         return Reply::plain(NO_WORKER);
-    }
+    };
     reply_of(answer(core, worker, event))
 }
 
 /// Reads a word for a worker, if there is such a worker.
 #[inline(always)]
-fn read(core: &mut Core, worker: u8, actor: Actor, handle: Handle, index: u32) -> Reply
+fn read(core: &mut Core, worker: u32, actor: Actor, handle: Handle, index: u32) -> Reply
     ensures { Steps core.old worker (Event.Read actor handle index) result core.new }
 {
-    if !has(core, worker) {
+    let Some(worker) = worker_of(core, worker) else {
         return Reply::plain(NO_WORKER);
-    }
+    };
     read_reply(core.read(worker, actor, handle, index))
 }
 
 /// Writes a word for a worker, if there is such a worker.
 #[inline(always)]
-fn write(core: &mut Core, worker: u8, actor: Actor, handle: Handle, index: u32, value: u64) -> Reply
+fn write(
+    core: &mut Core,
+    worker: u32,
+    actor: Actor,
+    handle: Handle,
+    index: u32,
+    value: u64,
+) -> Reply
     ensures { Steps core.old worker (Event.Write actor handle index value) result core.new }
 {
-    if !has(core, worker) {
+    let Some(worker) = worker_of(core, worker) else {
         return Reply::plain(NO_WORKER);
-    }
+    };
     write_reply(core.write(worker, actor, handle, index, value))
 }
 
 /// Looks at a block for a worker, if there is such a worker.
 #[inline(always)]
-fn look(core: &mut Core, worker: u8, actor: Actor, place: Place) -> Reply
+fn look(core: &mut Core, worker: u32, actor: Actor, place: Place) -> Reply
     ensures { Steps core.old worker (Event.Look actor place) result core.new }
 {
-    if !has(core, worker) {
+    let Some(worker) = worker_of(core, worker) else {
         return Reply::plain(NO_WORKER);
-    }
+    };
     look_reply(core.look(worker, actor, place))
 }
 
 /// Takes the core out of an open one, which is closed then.
 #[inline(always)]
-fn taken(alloc: Global, host: &mut HostCore) -> Option<Box<Core, Global>>
+pub fn taken(alloc: Global, host: &mut HostCore) -> Option<Box<Core, Global>>
     ensures open { IfSome result
         (λ core. (host.old.mark ≡ open_mark) × (core.value ≡ host.old.core)) }
     ensures closed { IfNone result ((host.old.mark ≢ open_mark) × IsSame host.old host.new) }
@@ -93,7 +105,7 @@ fn taken(alloc: Global, host: &mut HostCore) -> Option<Box<Core, Global>>
 
 /// Serves one event of a worker, where the core is open and has that worker.
 #[inline(always)]
-pub fn serve(alloc: Global, host: &mut HostCore, worker: u8, event: Event) -> Reply
+pub fn serve(alloc: Global, host: &mut HostCore, worker: u32, event: Event) -> Reply
     ensures { Serves host.old worker event result host.new }
 {
     let Some(mut core) = taken(alloc, host) else {
@@ -110,7 +122,7 @@ pub fn serve(alloc: Global, host: &mut HostCore, worker: u8, event: Event) -> Re
 pub fn serve_read(
     alloc: Global,
     host: &mut HostCore,
-    worker: u8,
+    worker: u32,
     actor: Actor,
     handle: Handle,
     index: u32,
@@ -130,7 +142,7 @@ pub fn serve_read(
 pub fn serve_write(
     alloc: Global,
     host: &mut HostCore,
-    worker: u8,
+    worker: u32,
     actor: Actor,
     handle: Handle,
     index: u32,
@@ -151,7 +163,7 @@ pub fn serve_write(
 pub fn serve_look(
     alloc: Global,
     host: &mut HostCore,
-    worker: u8,
+    worker: u32,
     actor: Actor,
     place: Place,
 ) -> Reply

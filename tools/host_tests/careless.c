@@ -1,0 +1,75 @@
+/* careless: a host that looks at no status. It asks for the numbers of names that the policy lacks,
+ * of bytes that are no text, and of a core that is closed, and acts by what it is given: it is told
+ * nothing, and the block that another has stays as it was.
+ */
+#include "heapguard.h"
+#include <stdio.h>
+#include <string.h>
+
+enum { WORKER = 0, WORDS = 8 };
+
+static const char POLICY[] =
+    "version = 1\n"
+    "workers = 1\n"
+    "tenant = [ {name = \"alice\", limit = 8192}, {name = \"bob\", limit = 8192} ]\n"
+    "arena = [ {name = \"main\", segments = 1}, {name = \"vault\", segments = 1} ]\n";
+
+/* What the policy has no tenant and no arena by. The last is no text. */
+static const char *const NAMES[] = {"", "mallory", "Alice", "alice ", "\xff\xfe"};
+enum { NAMED = sizeof NAMES / sizeof *NAMES };
+
+static uint32_t tenant(hg_core *core, const char *name)
+{
+    return (uint32_t)hg_tenant(core, name, strlen(name)).value;
+}
+
+static uint32_t arena(hg_core *core, const char *name)
+{
+    return (uint32_t)hg_arena(core, name, strlen(name)).value;
+}
+
+/* All that a tenant can do with a block of its own, and with one that it was told of. Gives what
+ * the calls told: 0 where they told nothing. */
+static uint64_t told(hg_core *core, uint32_t actor, uint32_t where, hg_handle block)
+{
+    hg_handle own = hg_alloc(core, WORKER, actor, where, 64).value;
+    uint64_t all = own | hg_look(core, WORKER, actor, hg_place_of(block)).value;
+    for (uint32_t at = 0; at < WORDS; at++) {
+        all |= hg_read(core, WORKER, actor, block, at).value;
+        all |= hg_read(core, WORKER, actor, own, at).value;
+        hg_write(core, WORKER, actor, block, at, 0);
+        hg_write(core, WORKER, actor, own, at, 1);
+    }
+    hg_free(core, WORKER, actor, block);
+    hg_free(core, WORKER, actor, own);
+    return all;
+}
+
+int main(void)
+{
+    hg_core core = HG_CORE_INIT, closed = HG_CORE_INIT;
+    unsigned failed = 0;
+    if (hg_open(&core, POLICY, sizeof POLICY - 1, NULL, 0).status != HG_DONE) return 1;
+    uint32_t alice = tenant(&core, "alice"), bob = tenant(&core, "bob");
+    uint32_t open = arena(&core, "main");
+    hg_refill(&core, WORKER, open);
+    hg_handle block = hg_alloc(&core, WORKER, alice, open, 8 * WORDS).value;
+    for (uint32_t at = 0; at < WORDS; at++) hg_write(&core, WORKER, alice, block, at, at + 100);
+    for (unsigned n = 0; n < NAMED; n++) {
+        uint32_t nobody = tenant(&core, NAMES[n]), nowhere = arena(&core, NAMES[n]);
+        failed += nobody != 255 || nowhere != 255;
+        failed += told(&core, nobody, open, block) != 0;
+        failed += told(&core, nobody, nowhere, block) != 0;
+        failed += told(&core, bob, nowhere, block) != 0;
+        failed += told(&closed, nobody, nowhere, block) != 0;
+        hg_refill(&core, WORKER, nowhere);
+    }
+    failed += told(&core, tenant(&closed, "alice"), open, block) != 0;
+    failed += told(&core, bob, arena(&closed, "main"), block) != 0;
+    for (uint32_t at = 0; at < WORDS; at++)
+        failed += hg_read(&core, WORKER, alice, block, at).value != at + 100;
+    failed += hg_free(&core, WORKER, alice, block).status != HG_DONE;
+    hg_close(&core);
+    printf("careless: %u of it told something, or touched another's\n", failed);
+    return failed != 0;
+}
