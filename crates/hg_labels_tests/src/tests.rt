@@ -66,6 +66,7 @@ fn keeps_2000_names(rt: HostRuntime) {
     assert_eq!(&rt; names.names().get(1_999), Some(&"101999"));
     assert_eq!(&rt; names.position_of(""), None);
     assert_eq!(&rt; names.position_of("10000"), None);
+    drop(names);
 }
 
 // More names than a bucket has slots, and too few for more buckets.
@@ -92,6 +93,7 @@ fn keeps_names_of_one_bucket(rt: HostRuntime) {
             assert_eq!(&rt; names.position_of(name), None);
         }
     }
+    drop(names);
 }
 
 /// Pushes a new name. Where memory is refused the name isn't among the others, and is pushed again.
@@ -114,6 +116,7 @@ fn growing_refused_in_turn(rt: HostRuntime) {
         assert_eq!(&rt; names.position_of(""), Some(0));
         assert_eq!(&rt; names.position_of(front(&rt, length)), Some(length));
     }
+    drop(names);
 }
 
 // The same of names that fall into one bucket.
@@ -131,4 +134,5 @@ fn spilling_refused_in_turn(rt: HostRuntime) {
             count = count.saturating_add(1);
         }
     }
+    drop(names);
 }

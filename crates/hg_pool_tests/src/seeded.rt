@@ -118,4 +118,6 @@ fn pool_as_vectors(rt: HostRuntime) {
             (random >> 33) as usize,
         );
     }
+    drop(plain);
+    drop(pool);
 }

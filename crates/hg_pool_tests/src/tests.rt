@@ -31,7 +31,18 @@ pub fn put(rt: &impl Abort, pool: &mut Pool<PlainWords>, segment: Segment<PlainW
 
 /// The number of the segment of an arena that comes next.
 pub fn next(pool: &mut Pool<PlainWords>, arena: u8) -> Option<u8> {
-    Some(pool.next_of(arena)?.number())
+    let segment = pool.next_of(arena)?;
+    let number = segment.number();
+    drop(segment);
+    Some(number)
+}
+
+/// The number of a segment that is picked out, where it is there.
+fn picked(pool: &mut Pool<PlainWords>, number: u8) -> Option<u8> {
+    let segment = pool.pick(number)?;
+    let number = segment.number();
+    drop(segment);
+    Some(number)
 }
 
 // Orphans go before fresh ones, the oldest first, and fresh ones by number; each arena has its own.
@@ -56,11 +67,12 @@ fn pool_order(rt: HostRuntime) {
     assert_eq!(&rt; next(&mut pool, 1), Some(3));
     assert_eq!(&rt; next(&mut pool, 1), Some(9));
     assert_eq!(&rt; next(&mut pool, 1), None);
-    assert!(&rt; pool.pick(63).is_some());
-    assert!(&rt; pool.pick(63).is_none());
-    assert!(&rt; pool.pick(64).is_none());
+    assert_eq!(&rt; picked(&mut pool, 63), Some(63));
+    assert_eq!(&rt; picked(&mut pool, 63), None);
+    assert_eq!(&rt; picked(&mut pool, 64), None);
     assert_eq!(&rt; next(&mut pool, 2), Some(0));
     assert_eq!(&rt; next(&mut pool, 2), None);
+    drop(pool);
 }
 
 // A segment is told of while it is there, and is as it was when it is taken.
@@ -79,6 +91,8 @@ fn pool_keeps_segments(rt: HostRuntime) {
     assert_eq!(&rt; taken.class_of(2), Some(class));
     assert_eq!(&rt; taken.charge(5), 4096);
     assert!(&rt; taken.open_in(2, 5).is_none());
+    drop(taken);
+    drop(pool);
 }
 
 /// What the pool tells of the segment of this place, which is open, as the first one isn't.
@@ -105,15 +119,19 @@ fn pool_refused_in_turn(rt: HostRuntime) {
         return;
     };
     assert!(&rt; !pool.has(63));
-    let Ok(slots) = PlainWords::new(rt.alloc(), 63) else {
-        return;
-    };
-    if let Ok(segment) = Segment::new(rt.alloc(), 63, 1, 9, slots) {
+    if let Some(segment) = made(rt.alloc()) {
         put(&rt, &mut pool, segment, false);
         assert!(&rt; pool.has(63));
         assert_eq!(&rt; next(&mut pool, 1), Some(63));
         assert!(&rt; !pool.has(63));
     }
+    drop(pool);
+}
+
+/// Segment 63, where there is memory.
+fn made(alloc: Global) -> Option<Segment<PlainWords>> {
+    let slots = PlainWords::new(alloc, 63).ok()?;
+    Segment::new(alloc, 63, 1, 9, slots).ok()
 }
 
 /// The word of a block of tenant 7's of the first generation.
@@ -169,4 +187,5 @@ fn parted_once(rt: HostRuntime) {
     assert_eq!(&rt; part(&rt, &mut pool, place, live()), Err(live() - 1));
     assert_eq!(&rt; next(&mut pool, 0), Some(4));
     assert_eq!(&rt; next(&mut pool, 0), Some(5));
+    drop(pool);
 }

@@ -84,4 +84,6 @@ fn remote_as_vectors(rt: HostRuntime) {
         assert_eq!(&rt; remote.drain_one(), plain.drain());
     }
     assert!(&rt; remote.is_empty());
+    drop(plain);
+    drop(remote);
 }

@@ -19,6 +19,7 @@ fn remote_order(rt: HostRuntime) {
     assert_eq!(&rt; remote.drain_one(), Some((0, 0)));
     assert!(&rt; remote.is_empty());
     assert_eq!(&rt; remote.drain_one(), None);
+    drop(remote);
 }
 
 // The list is there, or memory was refused: for a run in which requests are refused in turn.
