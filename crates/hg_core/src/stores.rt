@@ -7,7 +7,7 @@ ghost use Rattle.hg_agreement.specs.Parts.{kept_of};
 ghost use Rattle.hg_events.specs.Core.{parts_of};
 ghost use Rattle.hg_core.specs.Keeping.{state_in, IsKept};
 ghost use Rattle.hg_core.specs.Opening.{opened};
-ghost use Rattle.hg_core.specs.Stored.{worker_in};
+ghost use Rattle.hg_core.specs.Held.{worker_in};
 
 use crate::opening::{empty_heaps, empty_remotes, fresh_pool, no_holders};
 use hg_heap::Heap;
