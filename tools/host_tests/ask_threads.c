@@ -9,7 +9,7 @@
 #include <string.h>
 
 enum { WORKER = 0, OTHER = 1, ALICE = 0, BOB = 1, MAIN = 0, VAULT = 1 };
-enum { ASKERS = 4, ROUNDS = 500, BLOCKS = 50, SEGMENTS = 2 };
+enum { ASKERS = 4, ROUNDS = 10000, WRITES = 1000, BLOCKS = 50, SEGMENTS = 2 };
 
 static const char POLICY[] =
     "version = 1\n"
@@ -80,7 +80,7 @@ static unsigned run(void *(*asker)(void *), hg_handle block)
     for (unsigned n = 0; n < ASKERS; n++) {
         if (pthread_create(&thread[n], NULL, asker, &wrong[n]) != 0) return 1;
     }
-    for (uint32_t n = 0; block != 0 && n < ROUNDS; n++) {
+    for (uint32_t n = 0; block != 0 && n < WRITES; n++) {
         pthread_rwlock_wrlock(&lock);
         all += hg_write(&core, WORKER, ALICE, block, n % 8, n).status != HG_DONE;
         all += !is(hg_read(&core, WORKER, ALICE, block, n % 8), n);

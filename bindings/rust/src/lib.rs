@@ -255,10 +255,37 @@ fn named(told: RawReply) -> Option<u32> {
 
 #[cfg(test)]
 mod tests {
+    use super::*;
+
     #[test]
     fn crate_and_library_are_of_one_release() {
         let (major, minor, patch) = crate::version();
         let release = format!("{major}.{minor}.{patch}");
         assert_eq!(release, env!("CARGO_PKG_VERSION"));
+    }
+
+    #[test]
+    fn threads_ask_at_once() {
+        let policy = "version = 1
+            workers = 2
+            tenant = [ {name = \"alice\", limit = 64}, {name = \"bob\", limit = 64} ]
+            arena = [ {name = \"main\", segments = 1} ]";
+        let mut core = Core::open(policy).unwrap();
+        core.refill(Worker(1), Arena(0)).unwrap();
+        let ask = || {
+            for _ in 0..10_000 {
+                assert_eq!((core.workers(), core.segments()), (2, 1));
+                assert_eq!(core.tenant("bob"), Some(Tenant(1)));
+                assert_eq!(core.arena("attic"), None);
+                assert_eq!(core.tenant_name(Tenant(0)).as_deref(), Some("alice"));
+                assert!(core.holds(Worker(1), Segment(0)) && !core.holds(Worker(0), Segment(0)));
+            }
+        };
+        std::thread::scope(|threads| {
+            for _ in 0..4 {
+                threads.spawn(ask);
+            }
+        });
+        core.alloc(Worker(1), Tenant(1), Arena(0), 8).unwrap();
     }
 }
