@@ -126,6 +126,7 @@ fn segment_refused_in_turn(rt: HostRuntime) {
         assert_eq!(&rt; segment.arena(), 1);
         assert_eq!(&rt; segment.greatest(), 9);
         assert_eq!(&rt; segment.charge(63), 0);
+        assert_eq!(&rt; segment.charge(64), 0);
         assert_eq!(&rt; segment.class_of(15), None);
     }
 }
