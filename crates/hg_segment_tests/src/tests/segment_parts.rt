@@ -13,6 +13,7 @@ fn is_new(rt: &impl Abort, segment: &Segment<PlainWords>) {
     assert_eq!(rt; segment.arena(), 1);
     assert_eq!(rt; segment.greatest(), 9);
     assert_eq!(rt; charge(rt, segment, 63), 0);
+    assert_eq!(rt; segment.charge(64), 0);
     assert!(rt; have_classes(segment, 0, 0));
 }
 
