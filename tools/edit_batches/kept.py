@@ -1,8 +1,9 @@
 """Which edits earlier runs on this machine found to be refused, where the kit keeps what it passed.
 
 An edit's name there is the sum of the kit, of the sources, definitions and proofs of its crate and
-of those below it, of the edit's own bytes, and of these scripts: so an entry never goes stale, and
-where one of these differs the edit is tried.
+of those below it, of the libraries below as they were built, of the edit's own bytes, and of the
+scripts that judge: so an entry never goes stale, and where one of these differs the edit is tried.
+What was refused by a limit of the prover alone isn't kept.
 """
 
 import functools
@@ -18,19 +19,21 @@ HERE = os.path.dirname(os.path.realpath(__file__))
 def judged_by():
     """A sum of the scripts that judge an edit."""
     made = hashlib.sha256()
-    for name in sorted(it for it in os.listdir(HERE) if it.endswith(".py")):
+    for name in ["../edits", *sorted(it for it in os.listdir(HERE) if it.endswith(".py"))]:
         with open(f"{HERE}/{name}", "rb") as it:
             made.update(repr((name, it.read())).encode())
     return made.hexdigest()
 
 
 class Kept:
-    """The edits of a crate that were refused, as its files stand."""
+    """The edits of a crate that were refused, as its files and the libraries below it stand."""
 
     def __init__(self, crate, anew):
         self.crates = [crate, *crate.below()]
         self.kept = rt.Kept(self.crates, anew)
-        stands_on = rt.stamp_of(crate, {})
+        for it in crate.below():
+            self.kept.is_built(it)
+        stands_on = rt.stamp_of(crate, {}), self.kept.key(crate)
         self.sum = hashlib.sha256(repr((judged_by(), stands_on)).encode()).hexdigest()
         self.names = {}
 

@@ -21,7 +21,8 @@ use std::marker::Model;
 
 /// The heap of each worker, the remote list of each segment, the pool of the segments that nobody
 /// holds, and what each worker has in hand. Each segment stands in one heap or in the pool;
-/// `holders` says in which heap, so that it isn't searched for. No field can grow.
+/// `holders` says in which heap, so that it isn't searched for. No field can
+/// grow but the policy, which no call changes.
 #[derive(Drop)]
 pub struct Stores {
     pub(crate) policy: Policy,

@@ -1,4 +1,4 @@
--- Which places of a segment a take brings home, and what stays.
+-- What a take leaves of the places of a segment. Which ones come home is Takes's.
 use Rattle.std.specs.Prelude.{◌≡◌, ◌≢◌, ℕ, false, List, length, Contains, Some}
 use Rattle.hg_place.specs.declared.standing.Standing.{Standing}
 use Rattle.hg_place.specs.declared.standing.Standing.TheVariants.{Home}

@@ -32,7 +32,8 @@ module _ {S : Type 0} (numbered : S → ℕ) (records : S → List Standing) whe
   abbrev pub KeepsAll : List (Kept S) → List (Kept S) → Type 0
   KeepsAll old new = map rest_of new ≡ map rest_of old
 
-  -- One word of the block at the place has this value. The segment has all else of its block, and
+  -- The word of the block at the place, where the block has one of this index, has this value. The
+  -- segment has all else of its block, and
   -- the blocks of the other open places, its records, classes and lists; the other segments are as
   -- they were
   pub record Wrote (place : Place) (index value : ℕ) (old new : List (Kept S)) : Type 0 where
