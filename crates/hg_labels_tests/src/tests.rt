@@ -136,3 +136,23 @@ fn spilling_refused_in_turn(rt: HostRuntime) {
     }
     drop(names);
 }
+
+// Few names, in the first buckets: what they ask for is counted outside.
+#[test]
+fn asks_for_few_names(rt: HostRuntime) {
+    let mut names = Names::new(rt.alloc());
+    for length in 0usize..12 {
+        assert!(&rt; names.push(front(&rt, length)).expect(&rt, "memory"));
+    }
+    drop(names);
+}
+
+// Many names: with twice as many buckets now and then, and seldom a bucket that is full.
+#[test]
+fn asks_for_many_names(rt: HostRuntime) {
+    let mut names = Names::new(rt.alloc());
+    for length in 0usize..TEXT.len() {
+        assert!(&rt; names.push(front(&rt, length)).expect(&rt, "memory"));
+    }
+    drop(names);
+}
