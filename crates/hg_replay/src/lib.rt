@@ -13,6 +13,3 @@ pub use run::check::run_check;
 pub use run::input::{LIMIT, ReadFault, read_limited};
 pub use run::status::Status;
 pub use run::{run_joined, run_texts};
-
-#[cfg(test)]
-mod tests;

@@ -1,54 +1,49 @@
 //! Tests that hold whichever request for memory is refused: the right answer, or want of memory
 //! and nothing written. Each is run with each of its requests refused in turn.
 
-use crate::tests::running::{ANSWERS, POLICY, TRACE};
-use crate::{ReplayFault, Status, replay, run_joined, run_texts};
+use crate::tests::running::{ANSWERS, JOINED, POLICY, TRACE};
 use hg_policy::{Policy, PolicyFault, read_policy};
-use hg_trace::{TraceFault, read_trace};
+use hg_replay::{ReplayFault, Status, replay, run_joined, run_texts};
+use hg_trace::{Trace, TraceFault, read_trace};
 use std::alloc::Global;
 use std::process::Abort;
 
 /// A place for the few bytes that these tests write, which asks for no memory.
 type Held = arrayvec::ArrayVec<u8, 64>;
 
-const JOINED: &str = "version = 1
-workers = 1
-tenant = [ {name = \"alice\", limit = 8192} ]
-arena = [ {name = \"main\", segments = 1} ]
----
-w0 alloc alice main 24
-w0 refill main
-w0 alloc alice main 24
-";
+/// The replay of a trace ends with these answers, or for want of memory with nothing written.
+fn replays_under(rt: &impl Abort, alloc: Global, policy: Policy, trace: &Trace, answers: &[u8]) {
+    let mut out = Held::new();
+    match replay(alloc, policy, trace, &mut out) {
+        Ok(()) => assert!(rt; out.as_slice() == answers),
+        Err(ReplayFault::Memory) => assert!(rt; out.len() == 0),
+        Err(_) => assert!(rt; false, "another fault"),
+    }
+}
 
-/// The policy, or none for want of memory.
-fn policy_of(rt: &impl Abort, alloc: Global) -> Option<Policy> {
-    match read_policy(alloc, POLICY.as_bytes()) {
-        Ok(policy) => Some(policy),
+/// The same of the bytes of a trace, which are read, or memory was refused.
+fn replays_text(rt: &impl Abort, alloc: Global, policy: Policy, trace: &[u8], answers: &[u8]) {
+    match read_trace(alloc, trace) {
+        Ok(trace) => {
+            replays_under(rt, alloc, policy, &trace, answers);
+            drop(trace);
+        }
         Err(fault) => {
-            assert!(rt; matches!(fault, PolicyFault::Memory));
-            None
+            assert!(rt; matches!(fault, TraceFault::Memory));
+            drop(fault);
+            drop(policy);
         }
     }
 }
 
-/// The replay of a trace ends with these answers, or for want of memory with nothing written.
+/// The same under the policy, which is read, or memory was refused.
 fn replays(rt: &impl Abort, alloc: Global, trace: &[u8], answers: &[u8]) {
-    let Some(policy) = policy_of(rt, alloc) else {
-        return;
-    };
-    let trace = match read_trace(alloc, trace) {
-        Ok(trace) => trace,
+    match read_policy(alloc, POLICY.as_bytes()) {
+        Ok(policy) => replays_text(rt, alloc, policy, trace, answers),
         Err(fault) => {
-            assert!(rt; matches!(fault, TraceFault::Memory));
-            return;
+            assert!(rt; matches!(fault, PolicyFault::Memory));
+            drop(fault);
         }
-    };
-    let mut out = Held::new();
-    match replay(alloc, policy, &trace, &mut out) {
-        Ok(()) => assert_eq!(rt; out.as_slice(), answers),
-        Err(ReplayFault::Memory) => assert_eq!(rt; out.len(), 0),
-        Err(_) => assert!(rt; false, "another fault"),
     }
 }
 
@@ -67,12 +62,12 @@ fn replay_refused_in_turn(rt: HostRuntime) {
 /// The answers, or want of memory and nothing written.
 fn answers_or_no_memory(rt: &impl Abort, status: Status, out: &[u8], err: &[u8]) {
     if status == Status::Done {
-        assert_eq!(rt; out, ANSWERS.as_bytes());
-        assert_eq!(rt; err.len(), 0);
+        assert!(rt; out == ANSWERS.as_bytes());
+        assert!(rt; err.len() == 0);
     } else {
-        assert_eq!(rt; status, Status::Failed);
-        assert_eq!(rt; out.len(), 0);
-        assert_eq!(rt; err, b"no memory\n".as_slice());
+        assert!(rt; status == Status::Failed);
+        assert!(rt; out.len() == 0);
+        assert!(rt; err == b"no memory\n".as_slice());
     }
 }
 

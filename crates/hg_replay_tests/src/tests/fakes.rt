@@ -1,48 +1,60 @@
 //! Readers and writers that fail.
 
+use std::alloc::Global;
 use std::io;
 use std::io::{Read, Write};
 
-/// A writer that takes one byte a call, and fails after so many.
+/// A writer that takes so many bytes, and so many a call at most. The first call for which it has
+/// no room fails, or takes nothing; from then on it takes all, so that a write too many shows.
 #[derive(Drop)]
-pub struct Stingy {
+pub struct Limited {
     pub held: Vec<u8>,
-    pub left: usize,
+    left: usize,
+    step: usize,
+    fails: bool,
+    has_stopped: bool,
+    /// How many calls there were, and how many after the one that stopped.
+    pub calls: usize,
+    pub late: usize,
 }
 
-impl Write for Stingy {
-    fn write(&mut self, buf: &[u8]) -> io::Result<usize> {
-        let Some(first) = buf.first() else {
-            return Ok(0);
-        };
-        if self.left == 0 {
-            return Err(io::Error::from(io::ErrorKind::Interrupted));
+impl Limited {
+    pub fn new(alloc: Global, left: usize, step: usize, fails: bool) -> Limited {
+        Limited {
+            held: Vec::new(alloc),
+            left,
+            step,
+            fails,
+            has_stopped: false,
+            calls: 0,
+            late: 0,
         }
-        self.held.push(*first)?;
-        self.left -= 1;
-        Ok(1)
     }
 
-    fn flush(&mut self) -> io::Result<()> {
-        Ok(())
+    /// How many of so many bytes a call takes, and whether it is one after a stop.
+    fn room(&mut self, wanted: usize) -> usize {
+        self.calls = self.calls.wrapping_add(1);
+        if self.has_stopped {
+            self.late = self.late.wrapping_add(1);
+            return wanted;
+        }
+        wanted.min(self.left).min(self.step)
     }
 }
 
-/// A writer that fails at its first call alone, and takes all from then on.
-#[derive(Drop)]
-pub struct FailsOnce {
-    pub held: Vec<u8>,
-    pub failed: bool,
-}
-
-impl Write for FailsOnce {
+impl Write for Limited {
     fn write(&mut self, buf: &[u8]) -> io::Result<usize> {
-        if !self.failed {
-            self.failed = true;
-            return Err(io::Error::from(io::ErrorKind::Interrupted));
+        let n = self.room(buf.len());
+        let (taken, _) = buf.split_at(buf.len().min(n));
+        if taken.is_empty() {
+            self.has_stopped = true;
+            if self.fails {
+                return Err(io::Error::from(io::ErrorKind::Interrupted));
+            }
         }
-        self.held.extend_from_slice(buf)?;
-        Ok(buf.len())
+        self.held.extend_from_slice(taken)?;
+        self.left = self.left.saturating_sub(taken.len());
+        Ok(taken.len())
     }
 
     fn flush(&mut self) -> io::Result<()> {
@@ -120,24 +132,5 @@ impl Read for Sips<'_> {
             }
             _ => Ok(0),
         }
-    }
-}
-
-/// A writer that takes all, and counts its calls.
-#[derive(Drop)]
-pub struct Counting {
-    pub held: Vec<u8>,
-    pub calls: usize,
-}
-
-impl Write for Counting {
-    fn write(&mut self, buf: &[u8]) -> io::Result<usize> {
-        self.held.extend_from_slice(buf)?;
-        self.calls = self.calls.wrapping_add(1);
-        Ok(buf.len())
-    }
-
-    fn flush(&mut self) -> io::Result<()> {
-        Ok(())
     }
 }

@@ -1,0 +1,77 @@
+//! Writers that stop, on the way and at the end.
+
+use crate::tests::fakes::{Full, Limited};
+use crate::tests::running::{ANSWERS, POLICY, TRACE};
+use hg_replay::{Status, run_texts};
+use std::alloc::Global;
+use std::process::Abort;
+
+/// Of a text the first bytes, so many.
+fn front(text: &str, bytes: usize) -> &[u8] {
+    let (first, _) = text.as_bytes().split_at(text.len().min(bytes));
+    first
+}
+
+/// On a writer that stops after so many bytes a front of the text is written, and no write is tried
+/// after the one that stopped.
+pub fn stops(
+    rt: &impl Abort,
+    alloc: Global,
+    trace: &str,
+    text: &str,
+    mut out: Limited,
+    left: usize,
+) {
+    let mut err = Vec::new(alloc);
+    let status = run_texts(
+        alloc,
+        POLICY.as_bytes(),
+        trace.as_bytes(),
+        &mut out,
+        &mut err,
+    );
+    assert!(rt; out.held.as_slice() == front(text, left), "at {left}");
+    assert!(rt; out.late == 0, "at {left}");
+    let (ended, told) = if left < text.len() {
+        (Status::Failed, "write fault\n")
+    } else {
+        (Status::Done, "")
+    };
+    assert!(rt; status == ended, "at {left}");
+    assert!(rt; err.as_slice() == told.as_bytes(), "at {left}");
+    drop(err);
+    drop(out);
+}
+
+/// Writers that take a byte a call, or all that there is room for; and fail, or take nothing.
+#[test]
+fn failed_writes_are_told(rt: HostRuntime) {
+    for left in 0..ANSWERS.len() + 1 {
+        for (step, fails) in [(1, true), (1, false), (100, true), (100, false)] {
+            let out = Limited::new(rt.alloc(), left, step, fails);
+            stops(&rt, rt.alloc(), TRACE, ANSWERS, out, left);
+        }
+    }
+}
+
+/// Standard error that takes nothing changes no status.
+#[test]
+fn errors_of_errors_change_nothing(rt: HostRuntime) {
+    let a = rt.alloc();
+    let mut out = Limited::new(a, ANSWERS.len(), 1, true);
+    let status = run_texts(a, POLICY.as_bytes(), TRACE.as_bytes(), &mut out, &mut Full);
+    assert!(&rt; status == Status::Done);
+    assert!(&rt; out.held.as_slice() == ANSWERS.as_bytes());
+    let status = run_texts(a, POLICY.as_bytes(), TRACE.as_bytes(), &mut Full, &mut Full);
+    assert!(&rt; status == Status::Failed);
+    drop(out);
+}
+
+/// A write that failed isn't tried again, and nothing is written after it.
+#[test]
+fn failed_write_is_the_last(rt: HostRuntime) {
+    for fails in [true, false] {
+        let out = Limited::new(rt.alloc(), 0, usize::MAX, fails);
+        stops(&rt, rt.alloc(), TRACE, ANSWERS, out, 0);
+    }
+}
