@@ -4,6 +4,7 @@ mod changing;
 mod draws;
 mod machine;
 mod reached;
+mod runs;
 mod secrets;
 mod seeded;
 mod serving;

@@ -21,7 +21,7 @@ impl Machine {
     }
 
     /// What counts against a tenant's limit with the worker, in bytes.
-    fn charge(&self, rt: &impl Abort, worker: u8, tenant: u8) -> usize {
+    pub fn charge(&self, rt: &impl Abort, worker: u8, tenant: u8) -> usize {
         let mut words = 0usize;
         for page in 0..self.classes.len() {
             if self.holder(page / SEGMENT_PAGES) == Holder::Held(worker) {

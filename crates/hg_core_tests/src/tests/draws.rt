@@ -19,7 +19,7 @@ const SEGMENTS: usize = 5;
 const NOWHERE: u8 = 255;
 
 /// The bytes that are asked for: those of each class, and few that no class holds.
-static BYTES: [u64; 40] = [
+pub static BYTES: [u64; 40] = [
     0, 8, 16, 24, 32, 40, 48, 56, 64, 80, 96, 112, 128, 160, 192, 224, 256, 320, 384, 448, 512,
     640, 768, 896, 1024, 1280, 1536, 1792, 2048, 2560, 3072, 3584, 4096, 4097, 8192, 16384, 32768,
     65536, 65537, 1000000,

@@ -2,6 +2,7 @@
 
 use crate::tests::cases::{CASES, Case, RUNS};
 use hg_machine::{Answer, Event, Rule};
+use hg_size::{CLASSES, class_number, class_of, words_of};
 use std::alloc::Global;
 use std::process::Abort;
 
@@ -167,11 +168,12 @@ static DENIALS: [Kind; 7] = [
     Kind::NotGranted,
 ];
 
-/// How often each came.
+/// How often each came, and a bit for each class of which a block was given out.
 #[derive(Drop)]
 pub struct Reached {
     answers: Vec<(Call, Kind, u32)>,
     cases: Vec<(Case, u32)>,
+    classes: u64,
 }
 
 impl Reached {
@@ -180,6 +182,7 @@ impl Reached {
         Reached {
             answers: Vec::new(alloc),
             cases: Vec::new(alloc),
+            classes: 0,
         }
     }
 
@@ -204,6 +207,20 @@ impl Reached {
             }
         }
         self.cases.push((case, 1)).expect(rt, "memory");
+    }
+
+    /// A block was given out to a request of so many bytes.
+    pub fn add_block(&mut self, bytes: u64) {
+        if let Some(class) = class_of(words_of(bytes)) {
+            self.classes |= 1 << class_number(class);
+        }
+    }
+
+    /// A block of each class was given out at least once.
+    pub fn check_classes(&self, rt: &impl Abort) {
+        for number in 0..CLASSES as u32 {
+            assert!(rt; self.classes >> number & 1 == 1, "class {number}");
+        }
     }
 
     /// The event was answered so at least once.

@@ -186,6 +186,7 @@ fn hide_from_each(rt: &impl Abort, alloc: Global, policy: &str, seed: u64) {
         let mut secrets = Secrets::new(rt, alloc, policy, seed, actor);
         secrets.many(rt, alloc, 6000);
         secrets.check(rt);
+        drop(secrets);
     }
 }
 

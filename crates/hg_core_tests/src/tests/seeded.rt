@@ -1,7 +1,7 @@
 //! Seeded events, each answered by the core and by the plain machine.
 
 use crate::tests::cases::Case;
-use crate::tests::draws::Draws;
+use crate::tests::draws::{BYTES, Draws};
 use crate::tests::machine::Machine;
 use crate::tests::reached::Reached;
 use hg_core::Core;
@@ -100,6 +100,9 @@ impl Run {
         let expected = self.machine.step(rt, alloc, worker, event, answer);
         assert_eq!(rt; answer, expected, "{worker} {event:?}");
         self.reached.add(rt, &event, answer);
+        if let (Event::Alloc { bytes, .. }, Answer::Block(_)) = (event, answer) {
+            self.reached.add_block(bytes);
+        }
         answer
     }
 
@@ -129,6 +132,29 @@ impl Run {
             if let Answer::Block(handle) = self.step(rt, alloc, worker, event) {
                 self.draws.add(rt, handle);
             }
+        }
+    }
+
+    /// A worker is given a block, reads its words, frees it and clears its pages.
+    fn give(&mut self, rt: &impl Abort, alloc: Global, worker: u8, bytes: u64) {
+        let actor = ALICE;
+        let event = Event::Alloc {
+            actor,
+            arena: MAIN,
+            bytes,
+        };
+        if let Answer::Block(handle) = self.step(rt, alloc, worker, event) {
+            self.read_all(rt, alloc, worker, actor, handle);
+            self.step(rt, alloc, worker, Event::Free { actor, handle });
+            self.step(rt, alloc, worker, Event::Collect);
+        }
+    }
+
+    /// A worker that holds one segment is given a block of each class.
+    fn give_each(&mut self, rt: &impl Abort, alloc: Global, worker: u8) {
+        self.step(rt, alloc, worker, Event::Refill { arena: MAIN });
+        for bytes in BYTES {
+            self.give(rt, alloc, worker, bytes);
         }
     }
 
@@ -186,6 +212,20 @@ impl Run {
     }
 }
 
+/// What was reached, of a run that is done.
+fn reached_by(run: Run) -> Reached {
+    let Run {
+        core,
+        machine,
+        draws,
+        reached,
+    } = run;
+    drop(core);
+    drop(machine);
+    drop(draws);
+    reached
+}
+
 /// Many events from a seed.
 fn run_from(rt: &impl Abort, alloc: Global, policy: &str, seed: u64) -> Reached {
     let mut run = Run::new(rt, alloc, policy, seed);
@@ -196,16 +236,24 @@ fn run_from(rt: &impl Abort, alloc: Global, policy: &str, seed: u64) -> Reached 
     run.many(rt, alloc, 4000);
     run.visit_all(rt, alloc);
     run.check_holders(rt);
-    run.reached
+    reached_by(run)
+}
+
+/// What is reached from a seed, and a case of it that is rare.
+fn reaches(rt: &impl Abort, alloc: Global, policy: &str, seed: u64, rare: Option<Case>) {
+    let reached = run_from(rt, alloc, policy, seed);
+    reached.check(rt);
+    if let Some(case) = rare {
+        reached.check_case(rt, case);
+    }
+    drop(reached);
 }
 
 // The core does as the plain machine does, where places are soon worn.
 #[test]
 fn core_as_machine_few_lives(rt: HostRuntime) {
     for seed in [7, 2026] {
-        let reached = run_from(&rt, rt.alloc(), FEW_LIVES, seed);
-        reached.check(&rt);
-        reached.check_case(&rt, Case::BesideWorn);
+        reaches(&rt, rt.alloc(), FEW_LIVES, seed, Some(Case::BesideWorn));
     }
 }
 
@@ -217,6 +265,7 @@ fn core_as_machine_one_life(rt: HostRuntime) {
         let reached = run_from(&rt, rt.alloc(), LARGE, seed);
         reached.check_runs(&rt);
         reached.check_case(&rt, Case::BehindWorn);
+        drop(reached);
     }
 }
 
@@ -224,6 +273,16 @@ fn core_as_machine_one_life(rt: HostRuntime) {
 #[test]
 fn core_as_machine_many_lives(rt: HostRuntime) {
     for seed in [11, 4711] {
-        run_from(&rt, rt.alloc(), MANY_LIVES, seed).check(&rt);
+        reaches(&rt, rt.alloc(), MANY_LIVES, seed, None);
     }
+}
+
+// The core gives out a block of each of the 36 classes as the plain machine does.
+#[test]
+fn core_as_machine_each_class(rt: HostRuntime) {
+    let mut run = Run::new(&rt, rt.alloc(), MANY_LIVES, 1);
+    run.give_each(&rt, rt.alloc(), 0);
+    let reached = reached_by(run);
+    reached.check_classes(&rt);
+    drop(reached);
 }

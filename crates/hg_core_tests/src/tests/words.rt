@@ -129,33 +129,58 @@ fn sizes(rt: &impl Abort, alloc: Global) -> Vec<u16> {
     sizes
 }
 
+/// Blocks of so many words fill the segment.
+fn fill(rt: &impl Abort, core: &mut Core, alloc: Global, words: u16) -> Vec<Block> {
+    let mut blocks = Vec::new(alloc);
+    for _ in 0..room(words) {
+        let block = open(rt, core, words).expect(rt, "room");
+        blocks.push(block).expect(rt, "memory");
+    }
+    assert!(rt; open(rt, core, words).is_none());
+    blocks
+}
+
+/// A core is filled with blocks of so many words, which have their own words.
+fn own_words(rt: &impl Abort, alloc: Global, words: u16) {
+    let mut core = core(rt, alloc);
+    let blocks = fill(rt, &mut core, alloc, words);
+    check_words(rt, &mut core, blocks.as_slice());
+    drop(core);
+}
+
 // Blocks of one class fill a segment; each has its own words, the first and the last of them too.
 #[test]
 fn own_words_in_each_class(rt: HostRuntime) {
     for words in sizes(&rt, rt.alloc()).iter() {
-        let mut core = core(&rt, rt.alloc());
-        let mut blocks = Vec::new(rt.alloc());
-        for _ in 0..room(*words) {
-            let block = open(&rt, &mut core, *words).expect(&rt, "room");
-            blocks.push(block).expect(&rt, "memory");
-        }
-        assert!(&rt; open(&rt, &mut core, *words).is_none());
-        check_words(&rt, &mut core, &blocks);
+        own_words(&rt, rt.alloc(), *words);
     }
+}
+
+/// Blocks of these words, where there is room for them.
+fn open_each(rt: &impl Abort, core: &mut Core, alloc: Global, sizes: &[u16]) -> Vec<Block> {
+    let mut blocks = Vec::new(alloc);
+    for words in sizes {
+        if let Some(block) = open(rt, core, *words) {
+            blocks.push(block).expect(rt, "memory");
+        }
+    }
+    assert!(rt; blocks.len() > 3);
+    blocks
+}
+
+/// A block of so many words, with blocks of a page and of one word around it.
+fn own_words_around(rt: &impl Abort, alloc: Global, words: u16) {
+    let mut core = core(rt, alloc);
+    let sizes = [512, words, 1, words, 512, 1];
+    let blocks = open_each(rt, &mut core, alloc, &sizes);
+    check_words(rt, &mut core, blocks.as_slice());
+    drop(core);
 }
 
 // A block of each class, with blocks of a page and of one word around it.
 #[test]
 fn own_words_beside_others(rt: HostRuntime) {
     for words in sizes(&rt, rt.alloc()).iter() {
-        let mut core = core(&rt, rt.alloc());
-        let mut blocks = Vec::new(rt.alloc());
-        for wanted in [512, *words, 1, *words, 512, 1] {
-            if let Some(block) = open(&rt, &mut core, wanted) {
-                blocks.push(block).expect(&rt, "memory");
-            }
-        }
-        assert!(&rt; blocks.len() > 3);
-        check_words(&rt, &mut core, &blocks);
+        own_words_around(&rt, rt.alloc(), *words);
     }
 }
