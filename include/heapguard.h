@@ -10,14 +10,18 @@
  * each call promises, and what of it is proved, is in crates/hg_c/README.md.
  *
  * What the caller owes, which nothing checks:
- *  1. One call at a time on a core. A core may go to another thread; calls of several threads are
- *     ordered by a mutex, by starting or joining a thread, or by sequentially consistent atomics.
+ *  1. One call at a time on a core, but for the questions: those take a const core, and several
+ *     threads may ask at once as long as no other call runs on that core meanwhile, as under a
+ *     reader's lock. A core may go to another thread. Other calls of several threads, and a
+ *     question and another call, are ordered by a lock, by starting or joining a thread, or by
+ *     sequentially consistent atomics.
  *  2. A core is 16 bytes of the caller, aligned to 8, and begins as HG_CORE_INIT. Only the calls
  *     write its fields. It may be moved: copied, and the old place not used again. Two copies are
  *     one core: once one was closed, the other's memory is gone. A pointer to a core isn't null.
  *  3. Lengths are true: a pointer and a length are memory that may be read (a policy, a name) or
- *     written (room) during the call, and that overlaps neither the core nor each other. With
- *     length 0 the pointer may be null.
+ *     written (room) during the call, and that overlaps neither the core nor each other. During
+ *     the call no other thread writes what may be read, nor touches the room. With length 0 the
+ *     pointer may be null.
  *  4. One allocator: malloc, realloc and free are of one allocator, and what they give is aligned
  *     to each power of two up to 16 that divides the size.
  *  5. No call is made from a signal handler, nor in the child of a fork of a program with threads.
@@ -149,16 +153,16 @@ hg_reply hg_look(hg_core *core, uint32_t worker, uint32_t actor, uint32_t place)
 hg_reply hg_abandon(hg_core *core, uint32_t worker, uint32_t segment);
 hg_reply hg_refill(hg_core *core, uint32_t worker, uint32_t arena);
 
-/* Questions, which change nothing: HG_VALUE with the number, or HG_NO_NAME. */
-hg_reply hg_workers(hg_core *core);
-hg_reply hg_segments(hg_core *core); /* of all arenas, numbered from 0 */
-hg_reply hg_holds(hg_core *core, uint32_t worker, uint32_t segment); /* 1 or 0 */
-hg_reply hg_tenant(hg_core *core, const char *name, size_t name_length);
-hg_reply hg_arena(hg_core *core, const char *name, size_t name_length);
+/* Questions, which only read the core: HG_VALUE with the number, or HG_NO_NAME. */
+hg_reply hg_workers(const hg_core *core);
+hg_reply hg_segments(const hg_core *core); /* of all arenas, numbered from 0 */
+hg_reply hg_holds(const hg_core *core, uint32_t worker, uint32_t segment); /* 1 or 0 */
+hg_reply hg_tenant(const hg_core *core, const char *name, size_t name_length);
+hg_reply hg_arena(const hg_core *core, const char *name, size_t name_length);
 
 /* The name of a tenant: HG_VALUE with how many bytes of it stand in the room. A name has 16 bytes
  * at most, and no zero behind it. */
-hg_reply hg_tenant_name(hg_core *core, uint32_t tenant, char *room, size_t room_length);
+hg_reply hg_tenant_name(const hg_core *core, uint32_t tenant, char *room, size_t room_length);
 
 #ifdef __cplusplus
 }

@@ -56,7 +56,8 @@ private:
 };
 #endif
 
-/// A core. One call at a time may be made on it.
+/// A core. One call at a time may be made on it, but for its const ones: several threads may make
+/// those at once, while no other runs.
 class Core {
 public:
     /// A closed one, which answers HG_CLOSED.
@@ -146,27 +147,27 @@ public:
     }
 
     /// How many workers there are, 0 where it is closed.
-    std::uint32_t workers() { return static_cast<std::uint32_t>(hg_workers(&core_).value); }
+    std::uint32_t workers() const { return static_cast<std::uint32_t>(hg_workers(&core_).value); }
 
     /// How many segments all arenas have, 0 where it is closed.
-    std::uint32_t segments() { return static_cast<std::uint32_t>(hg_segments(&core_).value); }
+    std::uint32_t segments() const { return static_cast<std::uint32_t>(hg_segments(&core_).value); }
 
-    bool holds(Worker worker, Segment segment)
+    bool holds(Worker worker, Segment segment) const
     {
         return hg_holds(&core_, number(worker), number(segment)).value == 1;
     }
 
-    std::optional<Tenant> tenant(std::string_view name)
+    std::optional<Tenant> tenant(std::string_view name) const
     {
         return found<Tenant>(hg_tenant(&core_, name.data(), name.size()));
     }
 
-    std::optional<Arena> arena(std::string_view name)
+    std::optional<Arena> arena(std::string_view name) const
     {
         return found<Arena>(hg_arena(&core_, name.data(), name.size()));
     }
 
-    std::optional<std::string> tenant_name(Tenant tenant)
+    std::optional<std::string> tenant_name(Tenant tenant) const
     {
         char room[16];
         Reply told = hg_tenant_name(&core_, number(tenant), room, sizeof room);

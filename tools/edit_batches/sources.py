@@ -35,7 +35,7 @@ class Function:
 
     def __init__(self, file, scope, head, opens, closes, tokens):
         self.file, self.type_name, self.is_of_trait = file, scope[0], scope[1]
-        self.opens, self.closes = opens, closes
+        self.head, self.opens, self.closes = head, opens, closes
         self.name = tokens[head + 1][2]
         start = head
         while start and tokens[start - 1][2] not in ("}", ";", "{"):

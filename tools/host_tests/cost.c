@@ -55,6 +55,11 @@ int main(void)
     COST("read, served", hg_read(&core, 0, 0, block, n & 1));
     COST("write, served", hg_write(&core, 0, 0, block, 1, n));
     COST("look, served", hg_look(&core, 0, 0, hg_place_of(block)));
+    char room[16];
+    COST("question: how many workers", hg_workers(&core));
+    COST("question: whether a worker holds", hg_holds(&core, n & 1, 0));
+    COST("question: a tenant by its name", hg_tenant(&core, "bob", 3));
+    COST("question: the name of a tenant", hg_tenant_name(&core, n & 1, room, sizeof room));
     COST("alloc, denied to a stranger", hg_alloc(&core, 0, 77, 0, 24));
     COST("alloc and free of the block", hg_free(&core, 0, 0, hg_alloc(&core, 0, 0, 0, 24).value));
     hg_free(&core, 0, 0, block);

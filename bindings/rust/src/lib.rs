@@ -32,7 +32,6 @@ pub use number::{Arena, Segment, Tenant, Worker};
 pub use refusal::{FaultKind, OpenError, PolicyFault, Refusal, Rule};
 
 use raw::{RawCore, RawReply};
-use std::cell::UnsafeCell;
 
 /// Room for the line that tells a policy's fault; a longer one is cut.
 const LINE_ROOM: usize = 1024;
@@ -63,14 +62,17 @@ pub struct Row {
     pub bytes: u32,
 }
 
-/// An open core. It may go to another thread, and one thread at a time has it.
+/// An open core. It may go to another thread, and several threads may ask it at once: `Send` and
+/// `Sync`.
 pub struct Core {
-    // Each call takes what the fields point to out and puts it back, questions too.
-    raw: UnsafeCell<RawCore>,
+    raw: RawCore,
 }
 
 // SAFETY: crates/hg_c proves `Send` of the type behind these fields.
 unsafe impl Send for Core {}
+
+// SAFETY: crates/hg_c proves `Sync` of it too, and that what takes `&self` only reads it.
+unsafe impl Sync for Core {}
 
 impl Core {
     /// Opens a core by the text of its policy.
@@ -89,9 +91,7 @@ impl Core {
             )
         };
         if reply.status == raw::DONE {
-            return Ok(Core {
-                raw: UnsafeCell::new(raw),
-            });
+            return Ok(Core { raw });
         }
         Err(OpenError::of(reply.status, &room[..reply.value as usize]))
     }
@@ -112,7 +112,7 @@ impl Core {
     /// Frees a block.
     pub fn free(&mut self, worker: Worker, actor: Tenant, block: Handle) -> Result<Freed, Refusal> {
         let call = |core| unsafe { raw::hg_free(core, worker.0, actor.0, block.to_u64()) };
-        let reply = self.ask(call);
+        let reply = call(&mut self.raw);
         match reply.status {
             raw::DONE => Ok(Freed::Here),
             raw::PARTED => Ok(Freed::InHand),
@@ -189,55 +189,47 @@ impl Core {
 
     /// How many workers there are.
     pub fn workers(&self) -> u32 {
-        self.ask(|core| unsafe { raw::hg_workers(core) }).value as u32
+        // SAFETY: the core is open, and nothing writes it while it is borrowed. So in each question.
+        unsafe { raw::hg_workers(&self.raw) }.value as u32
     }
 
     /// How many segments all arenas have.
     pub fn segments(&self) -> u32 {
-        self.ask(|core| unsafe { raw::hg_segments(core) }).value as u32
+        unsafe { raw::hg_segments(&self.raw) }.value as u32
     }
 
     /// Whether the worker holds the segment.
     pub fn holds(&self, worker: Worker, segment: Segment) -> bool {
-        self.ask(|core| unsafe { raw::hg_holds(core, worker.0, segment.0) })
-            .value
-            == 1
+        unsafe { raw::hg_holds(&self.raw, worker.0, segment.0) }.value == 1
     }
 
     /// The tenant of this name.
     pub fn tenant(&self, name: &str) -> Option<Tenant> {
-        named(self.ask(|core| unsafe { raw::hg_tenant(core, name.as_ptr(), name.len()) }))
-            .map(Tenant)
+        named(unsafe { raw::hg_tenant(&self.raw, name.as_ptr(), name.len()) }).map(Tenant)
     }
 
     /// The arena of this name.
     pub fn arena(&self, name: &str) -> Option<Arena> {
-        named(self.ask(|core| unsafe { raw::hg_arena(core, name.as_ptr(), name.len()) })).map(Arena)
+        named(unsafe { raw::hg_arena(&self.raw, name.as_ptr(), name.len()) }).map(Arena)
     }
 
     /// The name of a tenant.
     pub fn tenant_name(&self, tenant: Tenant) -> Option<String> {
         let mut room = [0; 16];
-        let told = self.ask(|core| unsafe {
-            raw::hg_tenant_name(core, tenant.0, room.as_mut_ptr(), room.len())
-        });
+        let told =
+            unsafe { raw::hg_tenant_name(&self.raw, tenant.0, room.as_mut_ptr(), room.len()) };
         let length = named(told)?;
         Some(String::from_utf8_lossy(&room[..length as usize]).into_owned())
     }
 
-    /// Makes one call on the core. It is open and stays so, and nothing else reaches it meanwhile:
-    /// `Core` is not `Sync`, and no call calls back.
-    fn ask(&self, call: impl FnOnce(*mut RawCore) -> RawReply) -> RawReply {
-        call(self.raw.get())
-    }
-
-    /// Makes a call, and gives its reply where it has that status.
+    /// Makes an event's call, and gives its reply where it has that status. The core is open and
+    /// stays so, and is this call's alone meanwhile.
     fn serve(
         &mut self,
         status: u16,
         call: impl FnOnce(*mut RawCore) -> RawReply,
     ) -> Result<RawReply, Refusal> {
-        let reply = self.ask(call);
+        let reply = call(&mut self.raw);
         if reply.status == status {
             Ok(reply)
         } else {
@@ -249,7 +241,7 @@ impl Core {
 impl Drop for Core {
     fn drop(&mut self) {
         // SAFETY: the core is this value's alone, and isn't used again.
-        unsafe { raw::hg_close(self.raw.get_mut()) };
+        unsafe { raw::hg_close(&mut self.raw) };
     }
 }
 
@@ -263,10 +255,37 @@ fn named(told: RawReply) -> Option<u32> {
 
 #[cfg(test)]
 mod tests {
+    use super::*;
+
     #[test]
     fn crate_and_library_are_of_one_release() {
         let (major, minor, patch) = crate::version();
         let release = format!("{major}.{minor}.{patch}");
         assert_eq!(release, env!("CARGO_PKG_VERSION"));
+    }
+
+    #[test]
+    fn threads_ask_at_once() {
+        let policy = "version = 1
+            workers = 2
+            tenant = [ {name = \"alice\", limit = 64}, {name = \"bob\", limit = 64} ]
+            arena = [ {name = \"main\", segments = 1} ]";
+        let mut core = Core::open(policy).unwrap();
+        core.refill(Worker(1), Arena(0)).unwrap();
+        let ask = || {
+            for _ in 0..10_000 {
+                assert_eq!((core.workers(), core.segments()), (2, 1));
+                assert_eq!(core.tenant("bob"), Some(Tenant(1)));
+                assert_eq!(core.arena("attic"), None);
+                assert_eq!(core.tenant_name(Tenant(0)).as_deref(), Some("alice"));
+                assert!(core.holds(Worker(1), Segment(0)) && !core.holds(Worker(0), Segment(0)));
+            }
+        };
+        std::thread::scope(|threads| {
+            for _ in 0..4 {
+                threads.spawn(ask);
+            }
+        });
+        core.alloc(Worker(1), Tenant(1), Arena(0), 8).unwrap();
     }
 }

@@ -68,13 +68,13 @@ extern "C" {
     pub fn hg_look(core: *mut RawCore, worker: u32, actor: u32, place: u32) -> RawReply;
     pub fn hg_abandon(core: *mut RawCore, worker: u32, segment: u32) -> RawReply;
     pub fn hg_refill(core: *mut RawCore, worker: u32, arena: u32) -> RawReply;
-    pub fn hg_workers(core: *mut RawCore) -> RawReply;
-    pub fn hg_segments(core: *mut RawCore) -> RawReply;
-    pub fn hg_holds(core: *mut RawCore, worker: u32, segment: u32) -> RawReply;
-    pub fn hg_tenant(core: *mut RawCore, name: *const u8, name_length: usize) -> RawReply;
-    pub fn hg_arena(core: *mut RawCore, name: *const u8, name_length: usize) -> RawReply;
+    pub fn hg_workers(core: *const RawCore) -> RawReply;
+    pub fn hg_segments(core: *const RawCore) -> RawReply;
+    pub fn hg_holds(core: *const RawCore, worker: u32, segment: u32) -> RawReply;
+    pub fn hg_tenant(core: *const RawCore, name: *const u8, name_length: usize) -> RawReply;
+    pub fn hg_arena(core: *const RawCore, name: *const u8, name_length: usize) -> RawReply;
     pub fn hg_tenant_name(
-        core: *mut RawCore,
+        core: *const RawCore,
         tenant: u32,
         room: *mut u8,
         room_length: usize,

@@ -20,6 +20,7 @@ pub use Rattle.hg_choice.specs.ChosenSteps
 pub use Rattle.hg_choice.specs.Choice
 pub use Rattle.hg_choice.specs.ListsAfter
 pub use Rattle.hg_choice.specs.QueuesAfter
+pub use Rattle.hg_core.specs.Held
 pub use Rattle.hg_core.specs.Opening
 pub mod Answers
 pub use Rattle.hg_policy.specs.Names

@@ -4,19 +4,16 @@ use Rattle.hg_machine.specs.Lists.{Kept}
 use Rattle.hg_machine.specs.Holders.{holds}
 use Rattle.hg_place.specs.Words.{bit_of}
 use Rattle.hg_c.specs.declared.reply.Reply.{Reply}
-use Rattle.hg_c.specs.declared.host_core.HostCore.{HostCore}
+use Rattle.hg_c.specs.declared.lent_core.LentCore.{LentCore}
 use Rattle.hg_c.specs.declared.asking.Question.{Question}
 use Rattle.hg_c.specs.declared.asking.Question.TheVariants as question
-use Rattle.hg_c.specs.Calls.{IsSame}
 use Rattle.hg_c.specs.Owning.{open_mark}
 use Rattle.hg_c.specs.Replies.{closed, valued}
 
--- a question changes nothing; an open core is answered by its state, and a closed one as closed
-pub record Tells (old : HostCore) (answer : Kept → Reply) (reply : Reply) (new : HostCore)
-    : Type 0 where
-  pub shut : old.mark ≢ open_mark → reply ≡ closed
-  pub told : old.mark ≡ open_mark → reply ≡ answer old.core
-  pub same : IsSame old new
+-- an open core is answered by its state, and a closed one as closed
+pub record Tells (host : LentCore) (answer : Kept → Reply) (reply : Reply) : Type 0 where
+  pub shut : host.mark ≢ open_mark → reply ≡ closed
+  pub told : host.mark ≡ open_mark → reply ≡ answer host.core
 
 abbrev pub answer_to : Question → Kept → Reply
 answer_to question.Workers core = valued 4 core.state.policy.workers

@@ -2,9 +2,10 @@
 use Rattle.std.specs.Prelude.{ℕ, ◌==◌, Bool, true, false, []}
 use Rattle.hg_machine.specs.Lists.{Kept}
 use Rattle.hg_machine.specs.State.{opening}
-use base.Fml.{Fml, ftrue}
+use base.Fml.{Lft, Share, Fml, ftrue, fsep, fex, flft}
 use denote.RattleType.{RattleType}
 use denote.RawPtr.{Ptr}
+use denote.Struct.Lending.{lent_at}
 use mir.Syntax.{Ty}
 use Rattle.std.specs.Global.{Global}
 use Rattle.std.specs.contracts.impls.GlobalAllocator.TheImpl.{ghosts}
@@ -29,6 +30,15 @@ when false owned = ftrue
 -- with the open mark: a value on the heap, and the right to free it; with any other: nothing
 abbrev pub owns_if_open : (R : RattleType) → ℕ → Ptr → R.Denot → Fml
 owns_if_open R mark at value = when (mark == open_mark) (box_owns may_free R at value)
+
+-- a value that may be read for a lifetime, and some part of what keeps that from ending: both can be
+-- had twice, so this can
+abbrev pub lent_for : (R : RattleType) → Ptr → R.Denot → Lft → Fml
+lent_for R at value life = fsep (fex Share (λ q. flft life q)) (lent_at R at value life)
+
+-- with the open mark: a value on the heap, lent for reading; with any other: nothing
+abbrev pub lent_if_open : (R : RattleType) → ℕ → Ptr → R.Denot → Lft → Fml
+lent_if_open R mark at value life = when (mark == open_mark) (lent_for R at value life)
 
 -- what stands for the core of one that is closed
 abbrev pub no_core : Kept

@@ -3,11 +3,10 @@
 ghost use Rattle.std.specs.Prelude.{◌≡◌};
 ghost use Rattle.hg_c.specs.Asking.{Tells, answer_to};
 
-use crate::host_core::HostCore;
+use crate::lent_core::LentCore;
 use crate::reply::Reply;
-use crate::serving::{CLOSED, taken};
+use crate::serving::CLOSED;
 use hg_core::Core;
-use std::alloc::Global;
 
 /// A number is told, or a word.
 pub const VALUE: u16 = 4;
@@ -33,13 +32,11 @@ fn answer(core: &Core, question: Question) -> Reply
 }
 
 /// Asks a core.
-pub fn ask(alloc: Global, host: &mut HostCore, question: Question) -> Reply
-    ensures { Tells host.old (answer_to question) result host.new }
+pub fn ask(host: &LentCore, question: Question) -> Reply
+    ensures { Tells host.now (answer_to question) result }
 {
-    let Some(core) = taken(alloc, host) else {
-        return Reply::plain(CLOSED);
-    };
-    let reply = answer(&core, question);
-    *host = HostCore::of(core);
-    reply
+    match host.core() {
+        Some(core) => answer(core, question),
+        None => Reply::plain(CLOSED),
+    }
 }

@@ -14,6 +14,7 @@ ghost use Rattle.hg_c.specs.Version.{release};
 
 use crate::asking::{Question, ask};
 use crate::host_core::HostCore;
+use crate::lent_core::LentCore;
 use crate::naming::{Name, find_name, find_number, unnamed};
 use crate::numbers::{actor_of, byte_of, place_of};
 use crate::opening::{DONE, open};
@@ -214,40 +215,40 @@ pub extern "C" fn hg_refill(alloc: Global, host: &mut HostCore, worker: u32, are
 
 /// How many workers there are.
 #[unsafe(no_mangle)]
-pub extern "C" fn hg_workers(alloc: Global, host: &mut HostCore) -> Reply
-    ensures { Tells host.old (answer_to question.Workers) result host.new }
+pub extern "C" fn hg_workers(host: &LentCore) -> Reply
+    ensures { Tells host.now (answer_to question.Workers) result }
 {
-    ask(alloc, host, Question::Workers)
+    ask(host, Question::Workers)
 }
 
 /// How many segments there are, in all arenas.
 #[unsafe(no_mangle)]
-pub extern "C" fn hg_segments(alloc: Global, host: &mut HostCore) -> Reply
-    ensures { Tells host.old (answer_to question.Segments) result host.new }
+pub extern "C" fn hg_segments(host: &LentCore) -> Reply
+    ensures { Tells host.now (answer_to question.Segments) result }
 {
-    ask(alloc, host, Question::Segments)
+    ask(host, Question::Segments)
 }
 
 /// Whether the worker holds the segment, as 1 or 0.
 #[unsafe(no_mangle)]
-pub extern "C" fn hg_holds(alloc: Global, host: &mut HostCore, worker: u32, segment: u32) -> Reply
-    ensures { Tells host.old (answer_to (question.Holds (byte_of worker) (byte_of segment)))
-        result host.new }
+pub extern "C" fn hg_holds(host: &LentCore, worker: u32, segment: u32) -> Reply
+    ensures { Tells host.now (answer_to (question.Holds (byte_of worker) (byte_of segment)))
+        result }
 {
     let (worker, segment) = (byte_of(worker), byte_of(segment));
-    ask(alloc, host, Question::Holds { worker, segment })
+    ask(host, Question::Holds { worker, segment })
 }
 
 /// The number of the tenant of this name; with each status but that of a number, 255, which is
 /// nobody's.
 #[unsafe(no_mangle)]
-pub extern "C" fn hg_tenant(alloc: Global, host: &mut HostCore, name: &[u8]) -> Reply
+pub extern "C" fn hg_tenant(host: &LentCore, name: &[u8]) -> Reply
     ensures text { IsUtf8 name.now
-        → Finds host.old (λ core. tenant_number core.state.policy name.now) result host.new }
-    ensures no_text { ¬ (IsUtf8 name.now) → (result ≡ unnamed) × IsSame host.old host.new }
+        → Finds host.now (λ core. tenant_number core.state.policy name.now) result }
+    ensures no_text { ¬ (IsUtf8 name.now) → result ≡ unnamed }
 {
     match str::from_utf8(name) {
-        Ok(name) => find_number(alloc, host, Name::Tenant(name)),
+        Ok(name) => find_number(host, Name::Tenant(name)),
         Err(_) => unnamed(),
     }
 }
@@ -255,27 +256,22 @@ pub extern "C" fn hg_tenant(alloc: Global, host: &mut HostCore, name: &[u8]) -> 
 /// The number of the arena of this name; with each status but that of a number, 255, which is
 /// none's.
 #[unsafe(no_mangle)]
-pub extern "C" fn hg_arena(alloc: Global, host: &mut HostCore, name: &[u8]) -> Reply
+pub extern "C" fn hg_arena(host: &LentCore, name: &[u8]) -> Reply
     ensures text { IsUtf8 name.now
-        → Finds host.old (λ core. arena_number core.state.policy name.now) result host.new }
-    ensures no_text { ¬ (IsUtf8 name.now) → (result ≡ unnamed) × IsSame host.old host.new }
+        → Finds host.now (λ core. arena_number core.state.policy name.now) result }
+    ensures no_text { ¬ (IsUtf8 name.now) → result ≡ unnamed }
 {
     match str::from_utf8(name) {
-        Ok(name) => find_number(alloc, host, Name::Arena(name)),
+        Ok(name) => find_number(host, Name::Arena(name)),
         Err(_) => unnamed(),
     }
 }
 
 /// The name of the tenant of this number: the value is how many bytes of it stand in `room`.
 #[unsafe(no_mangle)]
-pub extern "C" fn hg_tenant_name(
-    alloc: Global,
-    host: &mut HostCore,
-    tenant: u32,
-    room: &mut [u8],
-) -> Reply
-    ensures { TellsName host.old (byte_of tenant) room.old result host.new room.new }
+pub extern "C" fn hg_tenant_name(host: &LentCore, tenant: u32, room: &mut [u8]) -> Reply
+    ensures { TellsName host.now (byte_of tenant) room.old result room.new }
 {
     let tenant = byte_of(tenant);
-    find_name(alloc, host, tenant, room)
+    find_name(host, tenant, room)
 }

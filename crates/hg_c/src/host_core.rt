@@ -31,7 +31,7 @@ impl Model for HostCore {
 // A core is plain data, in memory that any thread may free.
 unsafe impl Send for HostCore {}
 
-const OPEN: u64 = 3_550_334_381_634_438_984;
+pub const OPEN: u64 = 3_550_334_381_634_438_984;
 
 impl HostCore {
     /// An open one, of the pointer of a core.

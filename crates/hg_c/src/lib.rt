@@ -8,6 +8,7 @@ mod asking;
 mod box_pointer;
 mod exports;
 mod host_core;
+mod lent_core;
 mod naming;
 mod numbers;
 mod opening;

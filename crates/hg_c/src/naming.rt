@@ -5,12 +5,11 @@ ghost use Rattle.hg_policy.specs.Names.{tenant_name};
 ghost use Rattle.hg_c.specs.Naming.{Finds, IsNamed, TellsName, named, number_of, unnamed};
 
 use crate::asking::VALUE;
-use crate::host_core::HostCore;
+use crate::lent_core::LentCore;
 use crate::reply::Reply;
-use crate::serving::{CLOSED, taken};
+use crate::serving::CLOSED;
 use crate::telling::tell;
 use hg_core::Core;
-use std::alloc::Global;
 
 /// No tenant, or no arena, has the name; or no tenant the number.
 const NO_NAME: u16 = 68;
@@ -52,15 +51,13 @@ pub fn unnamed() -> Reply
 }
 
 /// Finds the number of a name.
-pub fn find_number(alloc: Global, host: &mut HostCore, name: Name<'_>) -> Reply
-    ensures { Finds host.old (number_of name.entry) result host.new }
+pub fn find_number(host: &LentCore, name: Name<'_>) -> Reply
+    ensures { Finds host.now (number_of name.entry) result }
 {
-    let Some(core) = taken(alloc, host) else {
-        return Reply::valued(CLOSED, NOBODY);
-    };
-    let reply = named(number_of(&core, name));
-    *host = HostCore::of(core);
-    reply
+    match host.core() {
+        Some(core) => named(number_of(core, name)),
+        None => Reply::valued(CLOSED, NOBODY),
+    }
 }
 
 fn tell_name(core: &Core, tenant: u8, room: &mut [u8]) -> Reply
@@ -73,13 +70,11 @@ fn tell_name(core: &Core, tenant: u8, room: &mut [u8]) -> Reply
 }
 
 /// Finds the name of a tenant.
-pub fn find_name(alloc: Global, host: &mut HostCore, tenant: u8, room: &mut [u8]) -> Reply
-    ensures { TellsName host.old tenant room.old result host.new room.new }
+pub fn find_name(host: &LentCore, tenant: u8, room: &mut [u8]) -> Reply
+    ensures { TellsName host.now tenant room.old result room.new }
 {
-    let Some(core) = taken(alloc, host) else {
-        return Reply::plain(CLOSED);
-    };
-    let reply = tell_name(&core, tenant, room);
-    *host = HostCore::of(core);
-    reply
+    match host.core() {
+        Some(core) => tell_name(core, tenant, room),
+        None => Reply::plain(CLOSED),
+    }
 }

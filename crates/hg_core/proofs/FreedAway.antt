@@ -41,7 +41,8 @@ use Rattle.hg_events.proofs.WordAt.{unheld_is_pooled}
 use Rattle.hg_chosen.proofs.Parted.{parted_in_heap_is_chosen, parted_in_pool_is_chosen}
 use Rattle.hg_core.specs.declared.stores.Stores.TheInside.{Inside}
 use Rattle.hg_core.specs.Keeping.{state_in, IsKept}
-use Rattle.hg_core.specs.Stored.{core_of, worker_in, IsStored}
+use Rattle.hg_core.specs.Held.{worker_in}
+use Rattle.hg_core.specs.Stored.{core_of, IsStored}
 use Rattle.hg_core.proofs.After.{IsAfter, after_still, heap_read}
 use Rattle.hg_core.proofs.Away.{is_away}
 use Rattle.hg_core.proofs.Delivered.{hand_read}

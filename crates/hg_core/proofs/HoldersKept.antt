@@ -14,7 +14,8 @@ use Rattle.hg_machine.specs.Holders.{holds}
 use Rattle.hg_machine.specs.Served.{IsServed}
 use Rattle.hg_machine.specs.Steps.{Step, successor}
 use Rattle.hg_machine.proofs.Cases.{step_cases}
-use Rattle.hg_core.specs.Stored.{worker_in, AreHolders}
+use Rattle.hg_core.specs.Held.{worker_in}
+use Rattle.hg_core.specs.Stored.{AreHolders}
 
 -- the event moves no segment
 abbrev pub MovesNone : Event → Type 0

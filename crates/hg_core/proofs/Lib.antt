@@ -13,4 +13,5 @@ mod Away
 mod Words
 mod FreedAway
 mod Kept
+mod Charged
 mod Runs

@@ -34,7 +34,8 @@ use Rattle.hg_core.specs.declared.stores.Stores.TheInside.{Inside}
 use Rattle.hg_core.specs.Keeping.{state_in}
 use Rattle.hg_core.specs.Opened.{IsUnusedOne, IsFreshPool}
 use Rattle.hg_core.specs.Opening.{empty_queues}
-use Rattle.hg_core.specs.Stored.{core_of, worker_in, IsStored}
+use Rattle.hg_core.specs.Held.{worker_in}
+use Rattle.hg_core.specs.Stored.{core_of, IsStored}
 use Rattle.hg_core.proofs.Opened.{heap_none}
 
 -- a list of so many of one value

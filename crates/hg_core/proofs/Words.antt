@@ -22,7 +22,8 @@ use Rattle.hg_events.proofs.PoolSpots.{pool_word_is_word_at}
 use Rattle.hg_events.proofs.WordAt.{heap_word_is_word_at, nowhere_word_is_zero}
 use Rattle.hg_core.specs.declared.stores.Stores.TheInside.{Inside}
 use Rattle.hg_core.specs.Keeping.{state_in, IsKept}
-use Rattle.hg_core.specs.Stored.{core_of, worker_in, IsStored}
+use Rattle.hg_core.specs.Held.{worker_in}
+use Rattle.hg_core.specs.Stored.{core_of, IsStored}
 use Rattle.hg_core.proofs.After.{heap_read, heap_below}
 
 -- who holds it, by its holder

@@ -1,4 +1,5 @@
 pub mod Answers
+pub mod Held
 pub mod Keeping
 pub mod Stored
 pub mod Opened

@@ -1,11 +1,12 @@
 -- What the stores' fields stand for, and what holds of them.
-use Rattle.std.specs.Prelude.{◌≡◌, ℕ, List, length, map, option_map, Option, Some, None}
+use Rattle.std.specs.Prelude.{◌≡◌, ℕ, List, length, map, option_map, Option, None}
 use Rattle.std.specs.Prelude.{slice_index_or}
 use Rattle.std.specs.Box.{boxed_slice_items}
 use Rattle.hg_place.specs.declared.geometry.TheConstants.{MAX_SEGMENTS}
 use Rattle.hg_place.specs.Places.{number_of}
-use Rattle.hg_machine.specs.State.{State, Holder, fresh, orphan, held, holder_at}
+use Rattle.hg_machine.specs.State.{State, holder_at}
 use Rattle.hg_events.specs.Core.{Core}
+use Rattle.hg_core.specs.Held.{worker_in}
 use Rattle.hg_core.specs.Keeping.{state_in, IsKept}
 use Rattle.hg_core.specs.declared.stores.Stores.TheInside.{Inside}
 
@@ -18,12 +19,6 @@ core_of a = record {
   pool = a.pool;
   hands = map (option_map number_of) (boxed_slice_items a.hands);
 }
-
--- the worker that holds a segment, if one does
-abbrev pub worker_in : Holder → Option ℕ
-worker_in fresh = None
-worker_in orphan = None
-worker_in (held worker) = Some worker
 
 -- by segment, the worker that holds it
 abbrev pub AreHolders : List (Option ℕ) → State → Type 0

@@ -1,13 +1,15 @@
 //! The core, and which event is served how.
 
-ghost use Rattle.std.specs.Prelude.{◌≡◌, ◌≤◌, ◌<◌, [], IfOk, OnErr, All, length, vec_capacity};
+ghost use Rattle.std.specs.Prelude.{◌≡◌, ◌<◌, IfOk};
+ghost use Rattle.hg_machine.specs.Charge.{charge};
 ghost use Rattle.hg_machine.specs.Holders.{holds};
-ghost use Rattle.hg_machine.specs.State.{opening};
-ghost use Rattle.hg_machine.specs.Steps.{Step, Run};
+ghost use Rattle.hg_machine.specs.State.{opening, holder_at};
+ghost use Rattle.hg_machine.specs.Steps.{Step};
 ghost use Rattle.hg_machine.specs.Soundness.{IsSound};
 ghost use Rattle.hg_machine.specs.Lists.{IsPartition};
-ghost use Rattle.hg_choice.specs.ChosenSteps.{ChosenStep, Chosen};
+ghost use Rattle.hg_choice.specs.ChosenSteps.{ChosenStep};
 ghost use Rattle.hg_core.specs.Opening.{opened};
+ghost use Rattle.hg_core.specs.Held.{worker_in};
 
 use crate::answers::{
     abandon_answer, alloc_answer, deliver_answer, free_answer, look_answer, read_answer,
@@ -38,14 +40,6 @@ impl Model for Core {
     ghost invariant = { λ c. IsKept c.stores };
 }
 
-/// Room for so many answers, and for no more.
-fn room_for_answers(alloc: Global, count: usize) -> Result<Vec<Answer>, AllocError>
-    ensures empty { IfOk result (λ answers. answers.items ≡ []) }
-    ensures room { IfOk result (λ answers. vec_capacity answers ≡ count) }
-{
-    Vec::with_capacity(alloc, count)
-}
-
 impl Core {
     /// A service in which no place was ever given out, nobody holds a segment, and nothing stands
     /// on a list or in a queue.
@@ -71,6 +65,22 @@ impl Core {
         ensures { result ≡ holds self.now.state worker segment }
     {
         self.stores.holds(worker, segment)
+    }
+
+    /// The worker that holds the segment, if one does. Nobody holds one that the policy lacks.
+    pub fn holder(&self, segment: u8) -> Option<u8>
+        ensures { result ≡ worker_in (holder_at self.now.state segment) }
+    {
+        self.stores.holder_of(segment)
+    }
+
+    /// What counts against a tenant's limit with a worker, in bytes, of all arenas. A worker that
+    /// the policy lacks has 0, and so has a number from 64 on; from `open` on a tenant that it lacks
+    /// has 0 too, since each owner is a tenant (law `owners_are_tenants`).
+    pub fn charge(&self, worker: u8, tenant: u8) -> u64
+        ensures { result ≡ charge self.now.state worker tenant }
+    {
+        self.stores.charge(worker, tenant)
     }
 
     /// Serves one event of a worker.
@@ -105,39 +115,5 @@ impl Core {
             Event::Abandon { segment } => abandon_answer(self.abandon(worker, segment)),
             Event::Refill { arena } => refill_answer(self.refill(worker, arena)),
         }
-    }
-
-    /// Serves events of any workers in turn, and puts their answers into the room for them.
-    fn serve_all(&mut self, events: &[(u8, Event)], answers: &mut Vec<Answer>)
-        requires workers { All (λ event. event.0 < self.old.state.policy.workers) events.now }
-        requires empty { answers.old.items ≡ [] }
-        requires room { length events.now ≤ vec_capacity answers.old }
-        ensures run { Run self.old.state events.now answers.new.items self.new.state }
-        ensures chosen { Chosen self.old events.now answers.new.items self.new }
-        ensures kept { IsSound self.new.state × IsPartition self.new }
-        ensures room { vec_capacity answers.new ≡ vec_capacity answers.old }
-    {
-        let _stores = &self.stores; // so that what holds of them is known before the first event
-        for event in events {
-            let answer = self.step(event.0, event.1);
-            answers.push_reserved(answer);
-        }
-    }
-
-    /// Serves events of any workers in turn. Where there is no memory for the answers, it serves
-    /// none.
-    pub fn run(&mut self, alloc: Global, events: &[(u8, Event)]) -> Result<Vec<Answer>, AllocError>
-        requires workers { All (λ event. event.0 < self.old.state.policy.workers) events.now }
-        ensures run { IfOk result
-            (λ answers. Run self.old.state events.now answers.items self.new.state) }
-        ensures chosen { IfOk result
-            (λ answers. Chosen self.old events.now answers.items self.new) }
-        ensures kept { IsSound self.new.state × IsPartition self.new }
-        ensures err { OnErr result (self.new ≡ self.old) }
-    {
-        let _stores = &self.stores; // so that what holds of them is known where there is no memory
-        let mut answers = room_for_answers(alloc, events.len())?;
-        self.serve_all(events, &mut answers);
-        Ok(answers)
     }
 }

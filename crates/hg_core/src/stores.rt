@@ -7,7 +7,7 @@ ghost use Rattle.hg_agreement.specs.Parts.{kept_of};
 ghost use Rattle.hg_events.specs.Core.{parts_of};
 ghost use Rattle.hg_core.specs.Keeping.{state_in, IsKept};
 ghost use Rattle.hg_core.specs.Opening.{opened};
-ghost use Rattle.hg_core.specs.Stored.{worker_in};
+ghost use Rattle.hg_core.specs.Held.{worker_in};
 
 use crate::opening::{empty_heaps, empty_remotes, fresh_pool, no_holders};
 use hg_heap::Heap;
@@ -21,7 +21,8 @@ use std::marker::Model;
 
 /// The heap of each worker, the remote list of each segment, the pool of the segments that nobody
 /// holds, and what each worker has in hand. Each segment stands in one heap or in the pool;
-/// `holders` says in which heap, so that it isn't searched for. No field can grow.
+/// `holders` says in which heap, so that it isn't searched for. No field can
+/// grow but the policy, which no call changes.
 #[derive(Drop)]
 pub struct Stores {
     pub(crate) policy: Policy,

@@ -3,8 +3,9 @@ ghost use Rattle.std.specs.Prelude.{◌<◌, ◌≤◌};
 use hg_decision::{judge, judge_alloc};
 use hg_machine::{AllocVerdict, Rule, Verdict};
 use hg_place::{Actor, Handle, Place, Right, pack};
-use hg_policy::read_policy;
+use hg_policy::{Policy, read_policy};
 use hg_size::block_words;
+use std::process::Abort;
 use std::test::Fail;
 
 const DOCUMENT: &str = r#"
@@ -36,6 +37,9 @@ const MAIN: u8 = 0;
 
 const VAULT: u8 = 1;
 
+/// What is no slot word, though it shows generation 1.
+const NO_SLOT: u64 = 0x0000_0001_0000_0081;
+
 fn handle(segment: u8, generation: u32) -> Handle
     requires segment { segment < 64 }
     requires generation { 1 ≤ generation }
@@ -53,36 +57,56 @@ fn block() -> u64 {
     pack(1, 0, true)
 }
 
+/// Who asks for which right, with which handle, on which slot word, and the rule that denies it.
+#[derive(Clone, Copy)]
+struct Asked(Actor, Right, Handle, u64, Option<Rule>);
+
+fn judges(rt: &impl Abort, policy: &Policy, cases: &[Asked]) {
+    for Asked(actor, right, handle, word, rule) in cases {
+        let want = rule.map_or(Verdict::Allowed, Verdict::Denied);
+        assert_eq!(rt; judge(policy, *actor, *right, *handle, *word), want);
+    }
+}
+
 #[test]
 fn blocks_by_the_first_rule(rt: HostRuntime) -> Result<(), Fail> {
     let policy = read_policy(rt.alloc(), DOCUMENT.as_bytes())?;
     let first = handle(0, 1);
-    let read = Right::Read;
-    assert_eq!(rt; judge(&policy, BOB, read, first, block()), Verdict::Allowed);
-    assert_eq!(rt;
-        judge(&policy, ALICE, Right::Write, first, block()),
-        Verdict::Allowed
-    );
-    assert_eq!(rt;
-        judge(&policy, BOB, Right::Free, first, block()),
-        Verdict::Allowed
-    );
-    for right in [Right::Write, Right::List] {
-        let verdict = judge(&policy, BOB, right, first, block());
-        assert_eq!(rt; verdict, Verdict::Denied(Rule::NotGranted));
-    }
-    let stranger = judge(&policy, NOBODY, read, handle(9, 1), block());
-    assert_eq!(rt; stranger, Verdict::Denied(Rule::Stranger));
-    let stale = judge(&policy, BOB, Right::Write, handle(0, 2), block());
-    assert_eq!(rt; stale, Verdict::Denied(Rule::Stale(1)));
-    let freed = judge(&policy, BOB, Right::Write, first, pack(1, 0, false));
-    assert_eq!(rt; freed, Verdict::Denied(Rule::AlreadyFreed));
-    let foreign = judge(&policy, BOB, read, handle(2, 1), block());
-    assert_eq!(rt; foreign, Verdict::Denied(Rule::ForeignArena));
-    let no_segment = judge(&policy, BOB, read, handle(3, 1), block());
-    assert_eq!(rt; no_segment, Verdict::Denied(Rule::Stale(0)));
-    let no_slot = judge(&policy, ALICE, read, first, 0x0000_0001_0000_0081);
-    assert_eq!(rt; no_slot, Verdict::Denied(Rule::Stale(0)));
+    let second = handle(0, 2);
+    let freed = pack(1, 0, false);
+    let cases = [
+        Asked(BOB, Right::Read, first, block(), None),
+        Asked(ALICE, Right::Write, first, block(), None),
+        Asked(BOB, Right::Free, first, block(), None),
+        Asked(BOB, Right::Write, first, block(), Some(Rule::NotGranted)),
+        Asked(BOB, Right::List, first, block(), Some(Rule::NotGranted)),
+        Asked(
+            NOBODY,
+            Right::Read,
+            handle(9, 1),
+            block(),
+            Some(Rule::Stranger),
+        ),
+        Asked(BOB, Right::Write, second, block(), Some(Rule::Stale(1))),
+        Asked(BOB, Right::Write, first, freed, Some(Rule::AlreadyFreed)),
+        Asked(
+            BOB,
+            Right::Read,
+            handle(2, 1),
+            block(),
+            Some(Rule::ForeignArena),
+        ),
+        Asked(
+            BOB,
+            Right::Read,
+            handle(3, 1),
+            block(),
+            Some(Rule::Stale(0)),
+        ),
+        Asked(ALICE, Right::Read, first, NO_SLOT, Some(Rule::Stale(0))),
+    ];
+    judges(&rt, &policy, &cases);
+    drop(policy);
     Ok(())
 }
 
@@ -91,31 +115,25 @@ fn blocks_by_the_first_rule(rt: HostRuntime) -> Result<(), Fail> {
 fn denied_before_the_grant(rt: HostRuntime) -> Result<(), Fail> {
     let policy = read_policy(rt.alloc(), DENYING.as_bytes())?;
     let first = handle(0, 1);
-    for right in [Right::Read, Right::Write] {
-        let verdict = judge(&policy, BOB, right, first, block());
-        assert_eq!(rt; verdict, Verdict::Denied(Rule::Forbidden));
-        assert_eq!(rt;
-            judge(&policy, ALICE, right, first, block()),
-            Verdict::Allowed
-        );
-    }
-    let free = Right::Free;
-    assert_eq!(rt; judge(&policy, BOB, free, first, block()), Verdict::Allowed);
-    let listed = judge(&policy, BOB, Right::List, first, block());
-    assert_eq!(rt; listed, Verdict::Denied(Rule::NotGranted));
+    let second = handle(0, 2);
+    let vaulted = handle(2, 1);
+    let freed = pack(1, 0, false);
     let bobs = pack(1, 1, true);
-    assert_eq!(rt;
-        judge(&policy, ALICE, Right::Read, first, bobs),
-        Verdict::Allowed
-    );
-    let foreign = judge(&policy, BOB, Right::Read, handle(2, 1), block());
-    assert_eq!(rt; foreign, Verdict::Denied(Rule::ForeignArena));
-    let freed = judge(&policy, BOB, Right::Read, first, pack(1, 0, false));
-    assert_eq!(rt; freed, Verdict::Denied(Rule::AlreadyFreed));
-    let stale = judge(&policy, BOB, Right::Read, handle(0, 2), block());
-    assert_eq!(rt; stale, Verdict::Denied(Rule::Stale(1)));
-    let stranger = judge(&policy, NOBODY, Right::Read, first, block());
-    assert_eq!(rt; stranger, Verdict::Denied(Rule::Stranger));
+    let cases = [
+        Asked(BOB, Right::Read, first, block(), Some(Rule::Forbidden)),
+        Asked(BOB, Right::Write, first, block(), Some(Rule::Forbidden)),
+        Asked(ALICE, Right::Read, first, block(), None),
+        Asked(ALICE, Right::Write, first, block(), None),
+        Asked(BOB, Right::Free, first, block(), None),
+        Asked(BOB, Right::List, first, block(), Some(Rule::NotGranted)),
+        Asked(ALICE, Right::Read, first, bobs, None),
+        Asked(BOB, Right::Read, vaulted, block(), Some(Rule::ForeignArena)),
+        Asked(BOB, Right::Read, first, freed, Some(Rule::AlreadyFreed)),
+        Asked(BOB, Right::Read, second, block(), Some(Rule::Stale(1))),
+        Asked(NOBODY, Right::Read, first, block(), Some(Rule::Stranger)),
+    ];
+    judges(&rt, &policy, &cases);
+    drop(policy);
     Ok(())
 }
 
@@ -127,29 +145,43 @@ fn fits(verdict: AllocVerdict, words: u16) -> bool {
     }
 }
 
+/// Who asks for how many words in which arena, at which charge, and the rule that denies it; none
+/// where there is no class of so many words.
+#[derive(Clone, Copy)]
+struct Allocated(Actor, u8, u64, u64, Option<Rule>);
+
+fn refuses(rt: &impl Abort, policy: &Policy, cases: &[Allocated]) {
+    for Allocated(actor, arena, words, charge, rule) in cases {
+        let want = rule.map_or(AllocVerdict::TooLarge, AllocVerdict::Denied);
+        assert_eq!(rt; judge_alloc(policy, *actor, *arena, *words, *charge), want);
+    }
+}
+
+fn fits_by_class(rt: &impl Abort, policy: &Policy) {
+    for (words, charge, class) in [(9, 0, 10), (512, 4096, 512), (513, 0, 1024)] {
+        assert!(rt; fits(judge_alloc(policy, ALICE, MAIN, words, charge), class));
+    }
+}
+
 #[test]
 fn allocations_by_the_first_rule(rt: HostRuntime) -> Result<(), Fail> {
     let policy = read_policy(rt.alloc(), DOCUMENT.as_bytes())?;
-    assert!(rt; fits(judge_alloc(&policy, ALICE, MAIN, 9, 0), 10));
-    assert!(rt; fits(judge_alloc(&policy, ALICE, MAIN, 512, 4096), 512));
-    assert!(rt; fits(judge_alloc(&policy, ALICE, MAIN, 513, 0), 1024));
-    let over = AllocVerdict::Denied(Rule::OverLimit);
-    assert_eq!(rt; judge_alloc(&policy, ALICE, MAIN, 512, 4097), over);
-    assert_eq!(rt; judge_alloc(&policy, ALICE, MAIN, 8192, 0), over);
-    assert_eq!(rt; judge_alloc(&policy, ALICE, MAIN, 1, u64::MAX), over);
-    assert_eq!(rt; judge_alloc(&policy, BOB, MAIN, 9, 0), over);
-    let foreign = AllocVerdict::Denied(Rule::ForeignArena);
-    assert_eq!(rt; judge_alloc(&policy, BOB, VAULT, 8193, 0), foreign);
-    assert_eq!(rt; judge_alloc(&policy, ALICE, 255, 1, 0), foreign);
-    let stranger = AllocVerdict::Denied(Rule::Stranger);
-    assert_eq!(rt; judge_alloc(&policy, NOBODY, VAULT, 8193, 0), stranger);
-    assert_eq!(rt;
-        judge_alloc(&policy, ALICE, MAIN, 8193, u64::MAX),
-        AllocVerdict::TooLarge
-    );
-    assert_eq!(rt;
-        judge_alloc(&policy, ALICE, MAIN, u64::MAX, 0),
-        AllocVerdict::TooLarge
-    );
+    fits_by_class(&rt, &policy);
+    let over = Some(Rule::OverLimit);
+    let foreign = Some(Rule::ForeignArena);
+    let stranger = Some(Rule::Stranger);
+    let cases = [
+        Allocated(ALICE, MAIN, 512, 4097, over),
+        Allocated(ALICE, MAIN, 8192, 0, over),
+        Allocated(ALICE, MAIN, 1, u64::MAX, over),
+        Allocated(BOB, MAIN, 9, 0, over),
+        Allocated(BOB, VAULT, 8193, 0, foreign),
+        Allocated(ALICE, 255, 1, 0, foreign),
+        Allocated(NOBODY, VAULT, 8193, 0, stranger),
+        Allocated(ALICE, MAIN, 8193, u64::MAX, None),
+        Allocated(ALICE, MAIN, u64::MAX, 0, None),
+    ];
+    refuses(&rt, &policy, &cases);
+    drop(policy);
     Ok(())
 }

@@ -1,7 +1,7 @@
 -- Where the view has room, by the order of choice.
 use Rattle.std.proofs.Common.{◌≡◌, ℕ, zero, suc, inl, inr, ◌+◌, ◌*◌, ◌%◌, ◌<◌, Bool, true}
 use Rattle.std.proofs.Common.{false, cond, [], ◌∷◌, List, Option, Some, None, refl, sym, ap}
-use Rattle.std.proofs.Common.{subst, ◌∙◌, arith, find, is_some, Contains}
+use Rattle.std.proofs.Common.{subst, ◌∙◌, arith, find, Contains}
 use Rattle.std.specs.List.{range_with_len}
 use Rattle.std.proofs.lemmas.Bool.{cases_Bool, true≢false}
 use Rattle.hg_place.specs.declared.standing.Standing.{Standing}

@@ -21,7 +21,7 @@ use Rattle.hg_segment.specs.Kept.{Kept, class_at, refilled}
 use Rattle.hg_segment.specs.Right.{IsBlockPlace}
 use Rattle.hg_heap.specs.Held.{Held, is_of, segment_in, class_by, class_on, lists_on, is_some_place}
 use Rattle.hg_heap.proofs.Blanks.{blank_classed}
-use Rattle.hg_heap.specs.Choice.{next_index, blank_of, blank_by, blank_on, begun_or, front_page}
+use Rattle.hg_heap.specs.Choice.{next_index, blank_by, blank_on, begun_or, front_page}
 use Rattle.hg_heap.specs.Choice.{blank_page, chosen_page, chosen_place, lists_for}
 use Rattle.hg_heap.specs.Queues.{AreQueued, key_by}
 use Rattle.hg_heap.specs.Requeued.{requeued}

@@ -1,6 +1,6 @@
 -- A page without a class gets one.
 use Rattle.std.proofs.Common.{◌≡◌, ◌≢◌, ◌⊎◌, ℕ, ◌+◌, ◌*◌, ◌/◌, ◌%◌, ◌==◌, ◌<◌, ◌++◌, inl, inr}
-use Rattle.std.proofs.Common.{Bool, true, false, cond, ◌≤◌}
+use Rattle.std.proofs.Common.{Bool, true, false, cond}
 use Rattle.std.proofs.Common.{◌∷◌, [], List, length, Option, Some, None, refl, sym, ap, subst}
 use Rattle.std.proofs.Common.{◌∙◌, arith, slice_set}
 use Rattle.std.proofs.Common.{get_or-set_other, get_or-set_same}

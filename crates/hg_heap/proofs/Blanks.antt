@@ -1,5 +1,5 @@
 -- Which pages are blank, as a segment tells of its pages; and the first page that is.
-use Rattle.std.proofs.Common.{◌==◌, ◌≡◌, ◌≢◌, ℕ, zero, suc, ◌+◌, ◌-◌, ◌*◌, ◌/◌, ◌%◌, ◌<◌, ◌≤◌, inl, inr}
+use Rattle.std.proofs.Common.{◌≡◌, ◌≢◌, ℕ, zero, suc, ◌+◌, ◌-◌, ◌*◌, ◌/◌, ◌%◌, ◌<◌, ◌≤◌, inl, inr}
 use Rattle.std.proofs.Common.{Bool, true, false, cond, ◌∷◌, ◌++◌, [], List, get_or}
 use Rattle.std.proofs.Common.{Option, Some, None, refl, sym, ap, ◌∙◌, arith, find, is_some}
 use Rattle.std.proofs.Common.{slice_get, filter, subst}

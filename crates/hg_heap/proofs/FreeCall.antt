@@ -216,7 +216,7 @@ module _ {S : Type 0} (number : S → ℕ) (records : S → List Standing) (show
         (Home (word_generation word)) (Home 0) refl
         (let b = slot_below place in omega (arith, h.sized, b))
 
-    closed_step : Stepped number shows steps place word (word - 1) items
+    pub closed_step : Stepped number shows steps place word (word - 1) items
         (slice_set items found after)
     closed_step = record {
       found = found;

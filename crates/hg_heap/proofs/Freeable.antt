@@ -1,12 +1,12 @@
 -- Of the words that fit an open place, one alone may be freed.
-use Rattle.std.proofs.Common.{◌≡◌, ℕ, ◌*◌, ◌+◌, ◌/◌, ◌%◌, ◌==◌, true, false, if◌then◌else◌, inl, inr}
+use Rattle.std.proofs.Common.{◌≡◌, ℕ, ◌/◌, ◌%◌, ◌==◌, true, false, if◌then◌else◌, inl, inr}
 use Rattle.std.proofs.Common.{Some, None, refl, sym, ap, ◌∙◌, arith}
 use Rattle.std.proofs.lemmas.Bool.{cases_Bool, eqb-true, true≢false}
 use Rattle.hg_place.specs.declared.Handle.{Handle}
 use Rattle.hg_place.specs.declared.Right.TheVariants as right
 use Rattle.hg_place.specs.declared.standing.Standing.TheVariants.{Open}
 use Rattle.hg_place.specs.Lives.{IsSlotWord}
-use Rattle.hg_place.specs.Slots.{Slot, slot_in, is_foreign, unused_slot}
+use Rattle.hg_place.specs.Slots.{slot_in, is_foreign, unused_slot}
 use Rattle.hg_place.specs.Standings.{Fits}
 use Rattle.hg_place.specs.Words.{word_of}
 use Rattle.hg_machine.specs.declared.Rule.{Rule}
@@ -18,7 +18,7 @@ use Rattle.hg_heap.specs.Freeing.{free_denial}
 use Rattle.hg_heap.proofs.Looking.{denied_by}
 
 -- a word whose slot is live is odd
-live_odd : (word : ℕ) → (slot_in word).live ≡ true → word % 2 ≡ 1
+pub live_odd : (word : ℕ) → (slot_in word).live ≡ true → word % 2 ≡ 1
 live_odd word e = elim (cases_Bool (is_foreign word)) as (λ _. word % 2 ≡ 1) [
   | inl foreign ↦
       let f : false ≡ true = ap (λ b. (if b then unused_slot else record {

@@ -29,7 +29,7 @@ use Rattle.hg_segment.proofs.WentOut.{vacant_home}
 use Rattle.hg_heap.specs.Held.{Held, kind_of, segment_in, is_held, lists_by, lists_on}
 use Rattle.hg_heap.specs.Held.{has_place, is_some_place}
 use Rattle.hg_heap.proofs.Blanks.{blank_classed}
-use Rattle.hg_heap.specs.Choice.{blank_of, blank_by, lists_for, begun_or}
+use Rattle.hg_heap.specs.Choice.{blank_by, lists_for, begun_or}
 use Rattle.hg_heap.specs.Lists.{GivenOut}
 use Rattle.hg_heap.specs.Requeued.{requeued}
 use Rattle.hg_heap.specs.Queues.{key_by, key_on, AreQueued}

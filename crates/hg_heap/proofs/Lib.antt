@@ -44,3 +44,5 @@ pub mod PagesRemoved
 pub mod Gone
 pub mod Released
 pub mod Witnessed
+pub mod Judging
+pub mod Homecoming

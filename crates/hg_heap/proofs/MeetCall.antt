@@ -1,5 +1,5 @@
 -- What a meeting at a place of a held segment leaves of the heap.
-use Rattle.std.proofs.Common.{◌≡◌, ℕ, List, Option, Some, ap, ◌∙◌, slice_set}
+use Rattle.std.proofs.Common.{◌≡◌, ℕ, List, map, Option, Some, refl, ap, ◌∙◌, slice_set}
 use Rattle.hg_place.specs.declared.Place.{Place}
 use Rattle.hg_place.specs.declared.standing.Standing.{Standing}
 use Rattle.hg_place.specs.Standings.{slot_of}
@@ -7,8 +7,10 @@ use Rattle.hg_segment.specs.Kept.{Kept}
 use Rattle.hg_heap.specs.Held.{kind_of, segment_in, KeepsLists}
 use Rattle.hg_heap.specs.Settled.{IsSettled}
 use Rattle.hg_heap.specs.Right.{IsRight}
+use Rattle.hg_heap.specs.Keeping.{rest_of, KeepsAll}
 use Rattle.hg_heap.specs.Met.{Met}
-use Rattle.hg_heap.proofs.Founds.{Found, found_is, number_is}
+use Rattle.hg_heap.proofs.Founds.{Found, found_is, map_same, number_is}
+use Rattle.hg_heap.proofs.Judging.{rest_same}
 use Rattle.hg_heap.proofs.RightKept.{lists_kept, right_kept}
 
 module _ {S Other : Type 0} (number : S → ℕ) (records : S → List Standing)
@@ -61,3 +63,15 @@ module _ {S Other : Type 0} (number : S → ℕ) (records : S → List Standing)
       shown = shown;
       met = met;
     }
+
+module _ {S Other : Type 0} (number : S → ℕ) (records : S → List Standing)
+    (shows : S → ℕ → ℕ → Type 0) (meets : S → Other → ℕ → ℕ → S → Other → Type 0) where
+  -- all segments are as they were
+  pub met_keeps : (place : Place) (word : ℕ) (old new : List (Kept S)) (other theirs : Other)
+      → Met number records shows meets place word old other new theirs
+      → KeepsAll number records old new
+  met_keeps place word old new other theirs m =
+      ap (map (rest_of number records)) m.now
+      ∙ map_same (rest_of number records) old m.found m.one (record m.one { slots = m.slots }) m.at
+      (rest_same number records m.one (record m.one { slots = m.slots }) m.same_number
+      m.same_records refl refl)

@@ -12,7 +12,7 @@ use Rattle.hg_place.specs.declared.standing.Standing.{Standing}
 use Rattle.hg_place.specs.Places.{segment_of, segment_of_page, page_of, index_of}
 use Rattle.hg_size.specs.Sizes.{sizes, places_of}
 use Rattle.hg_machine.specs.Policy.{Policy, arena_of}
-use Rattle.hg_segment.specs.Kept.{Kept, class_at}
+use Rattle.hg_segment.specs.Kept.{Kept}
 use Rattle.hg_size.proofs.Table.{places_small}
 use Rattle.hg_agreement.specs.Views.{View}
 use Rattle.hg_agreement.specs.Seen.{is_open_to_in, has_open_in, is_room_in, has_room_in}

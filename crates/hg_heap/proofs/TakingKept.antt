@@ -68,3 +68,13 @@ module _ {S : Type 0} (number : S → ℕ) (records : S → List Standing) (show
       let rest = counts_places segment t.1 places t.0 new t.2 in
       ⊎_elim (λ taken. (let e = taken.1 in omega (arith, rest, e)))
       (λ passed. (let e = passed.1 in omega (arith, rest, e))) t.3
+
+  pub none_keeps_queues : (segment count : ℕ) (places : List ℕ) (old new : Held S)
+      → Takes number records shows steps segment places old new count → count ≡ 0
+      → new.queues ≡ old.queues
+  none_keeps_queues segment count [] old new t none = ap (λ (h : Held S). h.queues) t.0
+  none_keeps_queues segment count (place ∷ places) old new t none = ⊎_elim
+      (λ taken. absurd (let e = taken.1 in omega (arith, none, e)))
+      (λ passed.
+      none_keeps_queues segment t.1 places t.0 new t.2 (sym passed.1 ∙ none)
+      ∙ passed.0.queues) t.3

@@ -5,6 +5,8 @@ use Rattle.hg_place.specs.declared.standing.Standing.{Standing}
 use Rattle.hg_machine.specs.Policy.{Policy}
 use Rattle.hg_segment.specs.Kept.{Kept}
 use Rattle.hg_heap.specs.Held.{Held, kinds, segment_in}
+use Rattle.hg_heap.specs.Keeping.{KeepsAll}
+use Rattle.hg_heap.specs.Met.{Met}
 use Rattle.hg_heap.specs.Policies.{AreOf}
 use Rattle.hg_heap.specs.Taking.{Takes}
 use Rattle.hg_heap.specs.Ties.{Stepped}
@@ -54,3 +56,17 @@ module _ {S : Type 0} (number : S → ℕ) (records : S → List Standing) (show
   -- no more came home than there were places
   abbrev pub TakingCountsPlaces : Type 0
   TakingCountsPlaces = TakingMakes (λ segment places old new count. count ≤ length places)
+
+  -- where none came home the queues are as they were
+  abbrev pub TakingNoneKeepsQueues : Type 0
+  TakingNoneKeepsQueues =
+      TakingMakes (λ segment places old new count. count ≡ 0 → new.queues ≡ old.queues)
+
+-- a meeting leaves all segments as they were, but for what slot words know
+abbrev pub MeetingKeepsAll
+    : {S Other : Type 0} → (S → ℕ) → (S → List Standing) → (S → ℕ → ℕ → Type 0)
+    → (S → Other → ℕ → ℕ → S → Other → Type 0) → Type 0
+MeetingKeepsAll {S} {Other} number records shows meets =
+    (place : Place) (word : ℕ) (old new : List (Kept S)) (other after : Other)
+    → Met number records shows meets place word old other new after
+    → KeepsAll number records old new

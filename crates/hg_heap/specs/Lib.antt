@@ -27,3 +27,6 @@ pub mod HeapLaws
 pub mod Witnessed
 pub mod Retiring
 pub mod Taking
+pub mod Keeping
+pub mod Judged
+pub mod Homecoming

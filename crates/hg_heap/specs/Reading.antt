@@ -1,5 +1,5 @@
 -- What a read, a write and a look answer, by the verdict on the word that was shown and the block.
-use Rattle.std.specs.Prelude.{◌≡◌, ℕ, ◌*◌, nat_lt, if◌then◌else◌, List, length}
+use Rattle.std.specs.Prelude.{◌≡◌, ℕ, ◌*◌, nat_lt, if◌then◌else◌, List, [], length}
 use Rattle.std.specs.Prelude.{Option, Some, None, Result, Ok, Err}
 use Rattle.hg_place.specs.declared.Place.{Place}
 use Rattle.hg_place.specs.declared.Handle.{Handle}
@@ -11,6 +11,9 @@ use Rattle.hg_machine.specs.declared.Rule.{Rule}
 use Rattle.hg_machine.specs.declared.Row.{Row}
 use Rattle.hg_machine.specs.Policy.{Policy}
 use Rattle.hg_machine.specs.Denial.{denial_on}
+use Rattle.hg_segment.specs.Kept.{Kept}
+use Rattle.hg_segment.specs.Blocks.{block_at}
+use Rattle.hg_heap.specs.Held.{segment_in}
 use Rattle.hg_heap.specs.declared.refused.Refused.{Refused}
 use Rattle.hg_heap.specs.declared.refused.Refused.TheVariants as refused
 
@@ -24,6 +27,15 @@ abbrev pub reached : {X : Type 0} → Option Rule → List ℕ → ℕ → X →
 reached (Some rule) block index value = Err (refused.Denied rule)
 reached None block index value =
     if nat_lt index (length block) then Ok value else Err refused.OutOfBlock
+
+module _ {S : Type 0} (number : S → ℕ) where
+  abbrev pub block_by : Option (Kept S) → Place → List ℕ
+  block_by None place = []
+  block_by (Some k) place = block_at k.words k.classes place.page place.index
+
+  -- the words of the block at a place of a heap
+  abbrev pub block_in : List (Kept S) → Place → List ℕ
+  block_in segments place = block_by (segment_in number segments place.segment) place
 
 -- the row of a block, by the word of its place
 pub record IsRowOf (place : Place) (word : ℕ) (block : List ℕ) (row : Row) : Type 0 where

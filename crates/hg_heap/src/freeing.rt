@@ -2,6 +2,7 @@
 
 ghost use Rattle.std.specs.Prelude.{◌≡◌, ◌≢◌, ◌==◌, ◌-◌, ℕ, true, false, None, Some, Err};
 ghost use Rattle.std.specs.Prelude.{OnOk, IfOk, IfErr, IfSome, IfNone};
+ghost use Rattle.hg_place.specs.declared.Right.TheVariants as Right;
 ghost use Rattle.hg_place.specs.Lives.{word_owner, IsLiveWord};
 ghost use Rattle.hg_place.specs.Places.{page_number};
 ghost use Rattle.hg_place.specs.Standings.{IsSane};
@@ -10,6 +11,8 @@ ghost use Rattle.hg_machine.specs.declared.Event.TheVariants as Event;
 ghost use Rattle.hg_machine.specs.declared.Rule.{Rule};
 ghost use Rattle.hg_heap.specs.declared.refused.Refused.TheVariants.{Elsewhere, Denied};
 ghost use Rattle.hg_heap.specs.Freeing.{free_denial, IsNeverFreed, IsOnlyFreed};
+ghost use Rattle.hg_heap.specs.Judged.{IsJudged};
+ghost use Rattle.hg_heap.specs.Keeping.{KeepsAll};
 ghost use Rattle.hg_heap.specs.Held.{is_held, lists_on, has_place, greatest_in, KeepsLists};
 ghost use Rattle.hg_heap.specs.Lists.{CameHome};
 ghost use Rattle.hg_heap.specs.Queues.{key_on};
@@ -62,6 +65,16 @@ impl<S: SlotWords> Heap<S> {
         ensures same_lists { IfErr result (λ refused.
             KeepsLists S.number self.old.segments self.new.segments) }
         ensures same_queues { IfErr result (λ refused. self.new.queues ≡ self.old.queues) }
+        ensures served { OnOk result ((word : ℕ) × Stepped S.number S.shows S.steps handle.place
+            word (word - 1) self.old.segments self.new.segments
+            × IsJudged policy.now actor.0 Right.Free handle word None) }
+        ensures judged { is_held S.number self.old.segments handle.place.segment ≡ true
+            → IfErr result (λ refused. (word : ℕ) × (rule : Rule) × (refused ≡ Denied rule)
+            × Stepped S.number S.shows S.steps handle.place word word
+            self.old.segments self.new.segments
+            × IsJudged policy.now actor.0 Right.Free handle word (Some rule)) }
+        ensures kept { IfErr result (λ refused.
+            KeepsAll S.number S.records self.old.segments self.new.segments) }
     {
         let Some(found) = self.found(handle.place.segment) else {
             return Err(Refused::Elsewhere);

@@ -2,7 +2,8 @@
 
 ghost use Rattle.hg_heap.specs.HeapLaws.{StepsKeepPolicy, KindsKeepPolicy, TakingKeepsKinds};
 ghost use Rattle.hg_heap.specs.HeapLaws.{TakingKeepsClasses, TakingKeepsOthers};
-ghost use Rattle.hg_heap.specs.HeapLaws.{TakingCountsPlaces};
+ghost use Rattle.hg_heap.specs.HeapLaws.{TakingCountsPlaces, TakingNoneKeepsQueues};
+ghost use Rattle.hg_heap.specs.HeapLaws.{MeetingKeepsAll};
 ghost use Rattle.hg_heap.specs.Witnessed.{SettledAreRight, NoTieIsEmpty};
 
 use hg_place::SlotWords;
@@ -19,13 +20,20 @@ pub fn kinds_keep_policy<S: SlotWords>()
 {}
 
 /// Places that are taken in leave the segments in their order, each with its number, its arena, its
-/// greatest generation and the classes of its pages, and the other segments as they were; and no
-/// more come home than there are places.
+/// greatest generation and the classes of its pages, and the other segments as they were; no more
+/// come home than there are places; and where none does, the queues are as they were.
 pub fn taking_keeps<S: SlotWords>()
     ensures kinds { TakingKeepsKinds S.number S.records S.shows S.steps }
     ensures classes { TakingKeepsClasses S.number S.records S.shows S.steps }
     ensures others { TakingKeepsOthers S.number S.records S.shows S.steps }
     ensures count { TakingCountsPlaces S.number S.records S.shows S.steps }
+    ensures queues { TakingNoneKeepsQueues S.number S.records S.shows S.steps }
+{}
+
+/// Slot words that meet others leave all segments as they were, but for what they know: records,
+/// classes, lists and words stay.
+pub fn meeting_keeps<S: SlotWords>()
+    ensures { MeetingKeepsAll S.number S.records S.shows S.meets }
 {}
 
 /// A segment that keeps what it promises, and is as a policy has it, is such as the witness state

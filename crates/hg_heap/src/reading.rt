@@ -4,7 +4,7 @@ ghost use Rattle.std.specs.Prelude.{◌≡◌, ◌≢◌, ◌<◌, ℕ, true, fa
 ghost use Rattle.std.specs.Prelude.{slice_index, slice_set, IfSome, IfNone, OnOk, OnErr};
 ghost use Rattle.hg_place.specs.declared.geometry.TheConstants.{SEGMENT_PAGES, PAGE_PLACES};
 ghost use Rattle.hg_place.specs.declared.Right.TheVariants as Right;
-ghost use Rattle.hg_place.specs.Lives.{word_generation};
+ghost use Rattle.hg_place.specs.Lives.{word_generation, IsLiveWord};
 ghost use Rattle.hg_place.specs.Standings.{standing_at, is_home};
 ghost use Rattle.hg_segment.specs.Kept.{slot, class_at};
 ghost use Rattle.hg_segment.specs.Blocks.{block_at, KeepsOtherBlocks};
@@ -15,7 +15,9 @@ ghost use Rattle.hg_heap.specs.Held.{is_held, KeepsLists};
 ghost use Rattle.hg_heap.specs.Ties.{HeapTies, Stepped, shown_at};
 ghost use Rattle.hg_heap.specs.Answers.{read_answer, done_answer, look_answer, list_denial};
 ghost use Rattle.hg_heap.specs.Stays.{Looked};
-ghost use Rattle.hg_heap.specs.Reading.{use_denial, reached, IsRowOf};
+ghost use Rattle.hg_heap.specs.Reading.{use_denial, reached, block_in, IsRowOf};
+ghost use Rattle.hg_heap.specs.Judged.{IsJudged, rule_in};
+ghost use Rattle.hg_heap.specs.Keeping.{KeepsAll, Wrote};
 
 use crate::{Heap, Refused};
 use hg_decision::{Verdict, judge};
@@ -49,6 +51,11 @@ impl<S: SlotWords> Heap<S> {
             → result ≢ Err Elsewhere }
         ensures lists { KeepsLists S.number self.old.segments self.new.segments }
         ensures queues { self.new.queues ≡ self.old.queues }
+        ensures judged { is_held S.number self.old.segments handle.place.segment ≡ true
+            → (word : ℕ) × Stepped S.number S.shows S.steps handle.place word word
+            self.old.segments self.new.segments
+            × IsJudged policy.now actor.0 Right.Read handle word (rule_in result) }
+        ensures kept { KeepsAll S.number S.records self.old.segments self.new.segments }
     {
         let Some(found) = self.found(handle.place.segment) else {
             return Err(Refused::Elsewhere);
@@ -82,6 +89,14 @@ impl<S: SlotWords> Heap<S> {
             → result ≢ Err Elsewhere }
         ensures lists { KeepsLists S.number self.old.segments self.new.segments }
         ensures queues { self.new.queues ≡ self.old.queues }
+        ensures judged { is_held S.number self.old.segments handle.place.segment ≡ true
+            → (word : ℕ) × Stepped S.number S.shows S.steps handle.place word word
+            self.old.segments self.new.segments
+            × IsJudged policy.now actor.0 Right.Write handle word (rule_in result) }
+        ensures kept { OnErr result
+            (KeepsAll S.number S.records self.old.segments self.new.segments) }
+        ensures wrote { OnOk result (Wrote S.number S.records handle.place index value
+            self.old.segments self.new.segments) }
     {
         let Some(found) = self.found(handle.place.segment) else {
             return Err(Refused::Elsewhere);
@@ -110,6 +125,14 @@ impl<S: SlotWords> Heap<S> {
             self.old.segments self.new.segments }
         ensures lists { KeepsLists S.number self.old.segments self.new.segments }
         ensures queues { self.new.queues ≡ self.old.queues }
+        ensures denied { IfNone result ((rule : Rule)
+            × (list_denial policy.now actor place shown.new ≡ Some rule)) }
+        ensures allowed { IfSome result (λ row.
+            list_denial policy.now actor place shown.new ≡ None) }
+        ensures live { IfSome result (λ row. IsLiveWord shown.new) }
+        ensures row { IfSome result (λ row. IsRowOf place shown.new
+            (block_in S.number self.old.segments place) row) }
+        ensures kept { KeepsAll S.number S.records self.old.segments self.new.segments }
     {
         let Some(found) = self.found(place.segment) else {
             unreachable!()

@@ -6,9 +6,10 @@ ghost use Rattle.hg_place.specs.declared.geometry.TheConstants.{SEGMENT_PLACES};
 ghost use Rattle.hg_place.specs.declared.standing.Standing.TheVariants.{Open};
 ghost use Rattle.hg_place.specs.Standings.{standing_at};
 ghost use Rattle.hg_segment.specs.Kept.{slot};
-ghost use Rattle.hg_remote.specs.Remote.{nothing_sent};
+ghost use Rattle.hg_remote.specs.Remote.{contents, nothing_sent};
 ghost use Rattle.hg_remote.specs.Order.{drained};
 ghost use Rattle.hg_heap.specs.Held.{is_held};
+ghost use Rattle.hg_heap.specs.Homecoming.{HaveComeHome};
 ghost use Rattle.hg_heap.specs.Taking.{WentHome, StayedAway, IsTaken, IsPassed, Takes};
 
 use crate::Heap;
@@ -18,18 +19,28 @@ use hg_remote::RemoteList;
 use hg_segment::Segment;
 
 impl<S: SlotWords> Heap<S> {
-    /// Takes in what was sent to a segment that is held, in the order in which it is drained: each
-    /// place that is open and whose life has ended comes home, in front of its page's `local_free`,
-    /// or on no list where its generation is the greatest; any other is passed over. Tells how many
-    /// came home.
+    /// Takes in what was sent to a segment, in the order in which it is drained: each place that is
+    /// open and whose life has ended comes home, in front of its page's `local_free`, or on no list
+    /// where its generation is the greatest; any other is passed over. Tells how many came home. A
+    /// segment that isn't held takes nothing in.
     pub fn take(&mut self, segment: u8, remote: &mut RemoteList) -> u32
-        requires { is_held S.number self.old.segments segment ≡ true }
-        ensures empty { remote.new ≡ nothing_sent }
-        ensures taken { Takes S.number S.records S.shows S.steps segment (drained remote.old)
+        ensures unheld { is_held S.number self.old.segments segment ≡ false
+            → (result ≡ 0) × (remote.new ≡ remote.old) × (self.new ≡ self.old) }
+        ensures empty { is_held S.number self.old.segments segment ≡ true
+            → remote.new ≡ nothing_sent }
+        ensures taken { is_held S.number self.old.segments segment ≡ true
+            → Takes S.number S.records S.shows S.steps segment (drained remote.old)
             self.old self.new result }
         ensures few { result ≤ SEGMENT_PLACES }
+        ensures whole { is_held S.number self.old.segments segment ≡ true
+            → HaveComeHome S.number S.records segment (contents remote.old)
+            self.old.segments self.new.segments result }
     {
-        // a call on a remote list hands out how its places stand
+        if !self.holds(segment) {
+            return 0;
+        }
+        // these hand out what a heap keeps, and how the places of a remote list stand
+        self.settled();
         let _is_empty = remote.is_empty();
         let mut count = 0;
         while let Some((page, index)) = remote.drain_one() {

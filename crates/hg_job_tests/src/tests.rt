@@ -37,10 +37,11 @@ fn comes_to(rt: &impl Abort, alloc: Global, words: &[&str], name: &str, policy: 
 }
 
 /// A command line, its words with blanks between them, must come to the refusal of this name.
-fn is_refused(rt: &impl Abort, alloc: Global, line: &str, name: &str) -> Result<(), AllocError> {
-    let words: Vec<&str> = line.split_whitespace().collect(alloc)?;
+fn is_refused(rt: &impl Abort, alloc: Global, line: &str, name: &str) {
+    let words: Result<Vec<&str>, AllocError> = line.split_whitespace().collect(alloc);
+    let words = words.expect(rt, "memory");
     comes_to(rt, alloc, words.as_slice(), name, "", "");
-    Ok(())
+    drop(words);
 }
 
 /// The text of a refusal, behind the stream that it is for.
@@ -52,8 +53,18 @@ fn text(alloc: Global, words: &[&str]) -> Result<String, AllocError> {
     }
 }
 
-fn has_all(text: &str, parts: &[&str]) -> bool {
-    parts.iter().all(|part| text.contains(*part))
+/// The text of a refusal must have each of these parts.
+fn has_all(rt: &impl Abort, text: &str, parts: &[&str]) {
+    for part in parts {
+        assert!(rt; text.contains(*part), "{part} in {text}");
+    }
+}
+
+/// Words must be refused with a text that has each of these parts.
+fn tells(rt: &impl Abort, alloc: Global, words: &[&str], parts: &[&str]) {
+    let text = text(alloc, words).expect(rt, "memory");
+    has_all(rt, text.as_str(), parts);
+    drop(text);
 }
 
 /// Command lines that are refused by a line.
@@ -74,139 +85,114 @@ static NO_JOBS: [&str; 11] = [
 /// Command lines that ask for help.
 static HELPS: [&str; 4] = ["-h", "--help", "check --help", "replay p --help"];
 
+/// Command lines that come to a job, with its name and its operands.
+static JOBS: [(&[&str], &str, &str, &str); 5] = [
+    (&[], "joined", "", ""),
+    (&["check", "p"], "check", "p", ""),
+    (&["check", "--", "-p"], "check", "-p", ""),
+    (&["replay", "p", "t"], "replay", "p", "t"),
+    (&["replay", "check", "replay"], "replay", "check", "replay"),
+];
+
 #[test]
-fn job_words(rt: HostRuntime) -> Result<(), AllocError> {
-    let alloc = rt.alloc();
-    comes_to(&rt, alloc, &[], "joined", "", "");
-    comes_to(&rt, alloc, &["check", "p"], "check", "p", "");
-    comes_to(&rt, alloc, &["check", "--", "-p"], "check", "-p", "");
-    comes_to(&rt, alloc, &["replay", "p", "t"], "replay", "p", "t");
-    comes_to(
-        &rt,
-        alloc,
-        &["replay", "check", "replay"],
-        "replay",
-        "check",
-        "replay",
-    );
-    comes_to(&rt, alloc, &[""], "line", "", "");
+fn job_words(rt: HostRuntime) {
+    for (words, name, policy, trace) in JOBS {
+        comes_to(&rt, rt.alloc(), words, name, policy, trace);
+    }
+    comes_to(&rt, rt.alloc(), &[""], "line", "", "");
     for line in NO_JOBS {
-        is_refused(&rt, alloc, line, "line")?;
+        is_refused(&rt, rt.alloc(), line, "line");
     }
     for line in HELPS {
-        is_refused(&rt, alloc, line, "print")?;
+        is_refused(&rt, rt.alloc(), line, "print");
     }
-    Ok(())
+}
+
+/// Parts of the program's help.
+static HELP: [&str; 13] = [
+    "out\nReplays traces",
+    "\nUsage: heapguard [COMMAND]\n",
+    "\n  check   ",
+    "\n  replay  ",
+    "standard input",
+    "`---`",
+    "16777216 bytes",
+    "\nExit status:\n",
+    "\n  0  done\n",
+    "\n  1  the policy ",
+    "\n  2  the trace ",
+    "\n  3  reading or writing ",
+    "\n  4  the command line ",
+];
+
+#[test]
+fn help_of_the_program(rt: HostRuntime) {
+    let help = text(rt.alloc(), &["--help"]).expect(&rt, "memory");
+    has_all(&rt, help.as_str(), &HELP);
+    assert!(&rt; help.lines().count() <= 24, "more than a screen");
+    drop(help);
+}
+
+/// Parts of the help of each command.
+static HELP_OF_CHECK: [&str; 9] = [
+    "out\nReads a policy",
+    "\nUsage: heapguard check <POLICY>\n",
+    "\n  <POLICY>  ",
+    "`ok workers N tenants N arenas N segments N`",
+    "\nExit status:\n",
+    "\n  0  ",
+    "\n  1  ",
+    "\n  3  ",
+    "\n  4  ",
+];
+
+static HELP_OF_REPLAY: [&str; 10] = [
+    "out\nRuns a trace",
+    "\nUsage: heapguard replay <POLICY> <TRACE>\n",
+    "\n  <POLICY>  ",
+    "\n  <TRACE>   ",
+    "\nExit status:\n",
+    "\n  0  ",
+    "\n  1  ",
+    "\n  2  ",
+    "\n  3  ",
+    "\n  4  ",
+];
+
+#[test]
+fn help_of_each_command(rt: HostRuntime) {
+    tells(&rt, rt.alloc(), &["check", "--help"], &HELP_OF_CHECK);
+    tells(&rt, rt.alloc(), &["replay", "--help"], &HELP_OF_REPLAY);
 }
 
 #[test]
-fn help_of_the_program(rt: HostRuntime) -> Result<(), AllocError> {
-    let help = text(rt.alloc(), &["--help"])?;
-    assert!(rt;
-        has_all(
-            help.as_str(),
-            &[
-                "out\nReplays traces",
-                "\nUsage: heapguard [COMMAND]\n",
-                "\n  check   ",
-                "\n  replay  ",
-                "standard input",
-                "`---`",
-                "16777216 bytes",
-                "\nExit status:\n",
-                "\n  0  done\n",
-                "\n  1  the policy ",
-                "\n  2  the trace ",
-                "\n  3  reading or writing ",
-                "\n  4  the command line ",
-            ]
-        ),
-        "{help}"
-    );
-    assert!(rt; help.lines().count() <= 24, "more than a screen");
-    Ok(())
-}
-
-#[test]
-fn help_of_each_command(rt: HostRuntime) -> Result<(), AllocError> {
-    let check = text(rt.alloc(), &["check", "--help"])?;
-    assert!(rt;
-        has_all(
-            check.as_str(),
-            &[
-                "out\nReads a policy",
-                "\nUsage: heapguard check <POLICY>\n",
-                "\n  <POLICY>  ",
-                "`ok workers N tenants N arenas N segments N`",
-                "\nExit status:\n",
-                "\n  0  ",
-                "\n  1  ",
-                "\n  3  ",
-                "\n  4  ",
-            ]
-        ),
-        "{check}"
-    );
-    let replay = text(rt.alloc(), &["replay", "--help"])?;
-    assert!(rt;
-        has_all(
-            replay.as_str(),
-            &[
-                "out\nRuns a trace",
-                "\nUsage: heapguard replay <POLICY> <TRACE>\n",
-                "\n  <POLICY>  ",
-                "\n  <TRACE>   ",
-                "\nExit status:\n",
-                "\n  0  ",
-                "\n  1  ",
-                "\n  2  ",
-                "\n  3  ",
-                "\n  4  ",
-            ]
-        ),
-        "{replay}"
-    );
-    Ok(())
-}
-
-#[test]
-fn version_of_the_program(rt: HostRuntime) -> Result<(), AllocError> {
+fn version_of_the_program(rt: HostRuntime) {
     for flag in ["--version", "-V"] {
-        let version = text(rt.alloc(), &[flag])?;
-        assert_eq!(rt; version.as_str(), "out\nheapguard 0.1.0\n", "{flag}");
+        let version = text(rt.alloc(), &[flag]).expect(&rt, "memory");
+        assert_eq!(&rt; version.as_str(), "out\nheapguard 0.1.0\n", "{flag}");
+        drop(version);
     }
-    Ok(())
 }
 
+/// Parts of the lines that refuse a command that there isn't, and one that lacks an operand.
+static NO_COMMAND: [&str; 4] = [
+    "err\n",
+    "'jump'",
+    "\nUsage: heapguard [COMMAND]\n",
+    "'--help'",
+];
+
+static NO_OPERAND: [&str; 4] = [
+    "err\n",
+    "<POLICY>",
+    "\nUsage: heapguard check <POLICY>\n",
+    "'--help'",
+];
+
 #[test]
-fn lines_name_the_program(rt: HostRuntime) -> Result<(), AllocError> {
-    let jump = text(rt.alloc(), &["jump"])?;
-    assert!(rt;
-        has_all(
-            jump.as_str(),
-            &[
-                "err\n",
-                "'jump'",
-                "\nUsage: heapguard [COMMAND]\n",
-                "'--help'",
-            ]
-        ),
-        "{jump}"
-    );
-    let check = text(rt.alloc(), &["check"])?;
-    assert!(rt;
-        has_all(
-            check.as_str(),
-            &[
-                "err\n",
-                "<POLICY>",
-                "\nUsage: heapguard check <POLICY>\n",
-                "'--help'",
-            ]
-        ),
-        "{check}"
-    );
-    Ok(())
+fn lines_name_the_program(rt: HostRuntime) {
+    tells(&rt, rt.alloc(), &["jump"], &NO_COMMAND);
+    tells(&rt, rt.alloc(), &["check"], &NO_OPERAND);
 }
 
 /// A command line must come to this job with these operands, or meet want of memory.
@@ -252,6 +238,21 @@ fn are_alike(rt: &impl Abort, one: &Option<String>, other: &Option<String>) {
     }
 }
 
+/// Words must meet one text, to be printed or a line, or one of them want of memory.
+fn are_refused_alike(
+    rt: &impl Abort,
+    alloc: Global,
+    one: &[&str],
+    other: &[&str],
+    is_printed: bool,
+) {
+    let one = refused_with(rt, alloc, one, is_printed);
+    let other = refused_with(rt, alloc, other, is_printed);
+    are_alike(rt, &one, &other);
+    drop(one);
+    drop(other);
+}
+
 /// The right answer, or want of memory: for a run in which each allocation is refused in turn. Of
 /// two texts for the same words only one can meet the refusal, and would differ if it cut it short.
 #[test]
@@ -259,10 +260,6 @@ fn refused_in_turn(rt: HostRuntime) {
     let alloc = rt.alloc();
     may_come_to(&rt, alloc, &[], "joined", "", "");
     may_come_to(&rt, alloc, &["replay", "p", "t"], "replay", "p", "t");
-    let short = refused_with(&rt, alloc, &["check", "-h"], true);
-    let long = refused_with(&rt, alloc, &["check", "--help"], true);
-    are_alike(&rt, &short, &long);
-    let one = refused_with(&rt, alloc, &["jump"], false);
-    let other = refused_with(&rt, alloc, &["jump"], false);
-    are_alike(&rt, &one, &other);
+    are_refused_alike(&rt, alloc, &["check", "-h"], &["check", "--help"], true);
+    are_refused_alike(&rt, alloc, &["jump"], &["jump"], false);
 }

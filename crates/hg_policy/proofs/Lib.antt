@@ -12,6 +12,7 @@ pub mod Sound
 pub mod TenantNumbers
 pub mod GrantTable
 pub mod TenantBits
+pub mod RightBits
 pub mod Parts
 pub mod PlainLines
 pub mod Versions

@@ -1,8 +1,6 @@
 -- The table of what lines name.
-use Rattle.std.proofs.Common.{◌≡◌, ◌≢◌, eq-eqb, ℕ, ◌+◌, ◌*◌, ◌<◌, ◌≤◌, Bool, false, ◌||◌, ◌&&◌, ◌==◌, nat_lt, max, zero, suc, bit_or, List, [], ◌∷◌, ◌++◌, length, map, take, get_or, set, refl, sym, ap, ◌∙◌, inl, inr, arith}
-use Rattle.std.specs.Int.{bit_at}
+use Rattle.std.proofs.Common.{◌≡◌, ◌≢◌, ℕ, ◌+◌, ◌<◌, ◌≤◌, Bool, false, ◌||◌, ◌&&◌, nat_lt, List, [], ◌∷◌, ◌++◌, length, map, take, get_or, set, refl, sym, ap, ◌∙◌, inl, inr, arith}
 use Rattle.std.specs.List.{list_any, range_with_len}
-use Rattle.std.proofs.lemmas.Nat.Bits.{and_pow, bit_at_or}
 use Rattle.hg_place.specs.declared.Right.{Right}
 use Rattle.hg_place.specs.declared.Right.TheVariants as right
 use Rattle.hg_machine.specs.Policy.{has_right}
@@ -23,24 +21,6 @@ use Rattle.std.proofs.lemmas.List.FromFn.{fill_by_all, get_or-map-range_with_len
 use Rattle.hg_policy.proofs.Names.{list_any-map}
 use Rattle.hg_policy.proofs.GrantTable.{ne-eqb}
 use Rattle.hg_policy.proofs.OwnRows.{same_rights, own_here}
-
--- the bits of two sets
-either : (k x y : ℕ) → x ≤ 1 → y ≤ 1 → (max x y * suc k == suc k) ≡ ((x * suc k == suc k) || (y * suc k == suc k))
-either k zero zero a b = rw (ne-eqb (0 * suc k) (suc k) (λ e. omega (arith, e))) refl
-either k zero (suc zero) a b = rw (ne-eqb (0 * suc k) (suc k) (λ e. omega (arith, e))) refl
-either k (suc zero) zero a b = rw (eq-eqb (1 * suc k) (suc k) (omega arith)) refl
-either k (suc zero) (suc zero) a b = rw (eq-eqb (1 * suc k) (suc k) (omega arith)) refl
-either k (suc (suc x)) y a b = absurd (omega arith)
-either k x (suc (suc y)) a b = absurd (omega arith)
-
-bit_small : (n i : ℕ) → bit_at n i ≤ 1
-bit_small n i = omega arith
-
-pub or_rights : (x y z : Rights) → x.0 ≡ bit_or y.0 z.0 → (r : Right) → has_right (rights_of x) r ≡ (has_right (rights_of y) r || has_right (rights_of z) r)
-or_rights x y z e right.Read = rw (e, and_pow (bit_or y.0 z.0) 0, and_pow y.0 0, and_pow z.0 0, bit_at_or y.0 z.0 0) (either 0 (bit_at y.0 0) (bit_at z.0 0) (bit_small y.0 0) (bit_small z.0 0))
-or_rights x y z e right.Write = rw (e, and_pow (bit_or y.0 z.0) 1, and_pow y.0 1, and_pow z.0 1, bit_at_or y.0 z.0 1) (either 1 (bit_at y.0 1) (bit_at z.0 1) (bit_small y.0 1) (bit_small z.0 1))
-or_rights x y z e right.List = rw (e, and_pow (bit_or y.0 z.0) 2, and_pow y.0 2, and_pow z.0 2, bit_at_or y.0 z.0 2) (either 3 (bit_at y.0 2) (bit_at z.0 2) (bit_small y.0 2) (bit_small z.0 2))
-or_rights x y z e right.Free = rw (e, and_pow (bit_or y.0 z.0) 3, and_pow y.0 3, and_pow z.0 3, bit_at_or y.0 z.0 3) (either 7 (bit_at y.0 3) (bit_at z.0 3) (bit_small y.0 3) (bit_small z.0 3))
 
 -- after so many actors the rights of each of them in the set are more
 abbrev pub AddedTo : ℕ → List Rights → List Rights → TenantSet → Rights → Type 0

@@ -1,17 +1,11 @@
 -- The rights on one's own blocks.
-use Rattle.std.proofs.Common.{◌≡◌, ℕ, false, List, refl, ap, ◌∙◌, eq-eqb}
+use Rattle.std.proofs.Common.{◌≡◌, ℕ, List, refl, ap, ◌∙◌, eq-eqb}
 use Rattle.hg_place.specs.declared.Right.{Right}
 use Rattle.hg_place.specs.declared.Right.TheVariants as right
 use Rattle.hg_machine.specs.Policy as meaning
-use Rattle.hg_machine.specs.Policy.{has_right, no_rights}
+use Rattle.hg_machine.specs.Policy.{has_right}
 use Rattle.hg_policy.specs.Lines as lines
 use Rattle.hg_policy.specs.Lines.{rights_by}
-
-pub has_none : (r : Right) → has_right no_rights r ≡ false
-has_none right.Read = refl
-has_none right.Write = refl
-has_none right.List = refl
-has_none right.Free = refl
 
 pub same_rights : (a b : meaning.Rights) → ((r : Right) → has_right a r ≡ has_right b r) → a ≡ b
 same_rights a b h =

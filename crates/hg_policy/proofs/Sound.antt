@@ -15,7 +15,8 @@ use Rattle.hg_policy.specs.Lines.{Line, rights_by, table_by, forbidden_by}
 use Rattle.hg_policy.specs.Heads.{Heads, AreHeads}
 use Rattle.hg_policy.specs.Document.{policy_from}
 use Rattle.hg_policy.proofs.ArenaEntries.{IsArenas}
-use Rattle.hg_policy.proofs.OwnRows.{has_none, own_here}
+use Rattle.hg_policy.proofs.GrantTable.{has_none}
+use Rattle.hg_policy.proofs.OwnRows.{own_here}
 
 -- an index at which something else than the default stands
 within : {X : Type 0} (xs : List X) (i : ℕ) (d : X) (test : X → Bool) → test d ≡ false → test (get_or xs i d) ≡ true → i < length xs

@@ -1,9 +1,10 @@
 -- Sets of rights as bits.
-use Rattle.std.specs.Prelude.{ℕ, ◌==◌, Bool, true, List, [], ◌∷◌, codes}
+use Rattle.std.specs.Prelude.{ℕ, ◌≡◌, ◌==◌, ◌&&◌, Bool, true, not, List, [], ◌∷◌, codes}
 use Rattle.std.specs.Int.RustNames.{bit_and}
 use Rattle.hg_place.specs.declared.Right.{Right}
 use Rattle.hg_place.specs.declared.Right.TheVariants as right
 use Rattle.hg_machine.specs.Policy as meaning
+use Rattle.hg_machine.specs.Policy.{has_right}
 use Rattle.hg_policy.specs.declared.rights.Rights.{Rights}
 
 -- the bits' names
@@ -36,6 +37,12 @@ rights_of rights = record {
   list = has_bit rights right.List;
   free = has_bit rights right.Free;
 }
+
+-- the rights of one set that another lacks, as a third
+abbrev pub IsWithout : Rights → Rights → Rights → Type 0
+IsWithout rights less rest =
+    (right : Right) → has_right (rights_of rest) right
+    ≡ (has_right (rights_of rights) right && not (has_right (rights_of less) right))
 
 abbrev pub all_rights : meaning.Rights
 all_rights = record { read = true; write = true; list = true; free = true }

@@ -2,7 +2,7 @@
 
 ghost use Rattle.std.specs.Prelude.{◌≡◌};
 ghost use Rattle.hg_machine.specs.Policy.{has_right};
-ghost use Rattle.hg_policy.specs.Rights.{rights_of};
+ghost use Rattle.hg_policy.specs.Rights.{rights_of, IsWithout};
 ghost use Rattle.hg_policy.specs.Refusals.{refused};
 
 use crate::rights::Rights;
@@ -20,20 +20,36 @@ pub enum Refusal {
 /// Rights on the blocks of one owner, by actor.
 pub(crate) type Held = [Rights; 64];
 
-/// What one actor is granted on the blocks of one owner, and what it is forbidden there.
-#[derive(Clone, Copy, Debug, PartialEq, Eq)]
+/// How one actor stands to the blocks of one owner.
+#[derive(Clone, Copy)]
 pub(crate) struct Standing {
+    /// What it is granted, whatever is forbidden.
     pub(crate) granted: Rights,
     pub(crate) forbidden: Rights,
+    /// What is granted and not forbidden, so that a verdict that allows tests one set.
+    allowed: Rights,
+    ghost allowed_is: { IsWithout granted forbidden allowed },
 }
 
 impl Standing {
-    /// Why the actor may not do what needs a right, if so. What may be done is found first.
-    pub(crate) fn refusal(self, right: Right) -> Option<Refusal>
-        ensures { result ≡ refused (has_right (rights_of self.forbidden) right)
-            (has_right (rights_of self.granted) right) }
+    pub(crate) fn new(granted: Rights, forbidden: Rights) -> Standing
+        ensures granted { result.granted ≡ granted }
+        ensures forbidden { result.forbidden ≡ forbidden }
     {
-        if self.granted.has(right) && !self.forbidden.has(right) {
+        let allowed = granted.without(forbidden);
+        Standing {
+            granted,
+            forbidden,
+            allowed,
+        }
+    }
+
+    /// Why the actor may not do what needs a right, if so. What may be done is found first.
+    pub(crate) fn refusal(&self, right: Right) -> Option<Refusal>
+        ensures { result ≡ refused (has_right (rights_of self.now.forbidden) right)
+            (has_right (rights_of self.now.granted) right) }
+    {
+        if self.allowed.has(right) {
             return None;
         }
         if self.forbidden.has(right) {

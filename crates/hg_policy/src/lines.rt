@@ -78,16 +78,9 @@ fn beside(granted: &Held, forbidden: &Held) -> Standings
     ensures granted { map (λ standing. standing.granted) result ≡ granted.now }
     ensures forbidden { map (λ standing. standing.forbidden) result ≡ forbidden.now }
 {
-    let none = Standing {
-        granted: Rights::none(),
-        forbidden: Rights::none(),
-    };
-    let mut standings = [none; 64];
+    let mut standings = [Standing::new(Rights::none(), Rights::none()); 64];
     for actor in 0..64_usize {
-        standings[actor] = Standing {
-            granted: granted[actor],
-            forbidden: forbidden[actor],
-        };
+        standings[actor] = Standing::new(granted[actor], forbidden[actor]);
     }
     standings
 }

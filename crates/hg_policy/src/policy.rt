@@ -1,11 +1,12 @@
 //! A policy.
 
 ghost use Rattle.std.specs.Prelude.{◌≡◌, ◌≤◌, ◌<◌, ◌^◌, true, length, IfSome, IsTrue, is_some};
-ghost use Rattle.std.specs.Prelude.{option_map, IfNone, false};
+ghost use Rattle.std.specs.Prelude.{option_map, IfNone, false, slice_index_or};
 ghost use Rattle.hg_place.specs.declared.Right.{Right};
 ghost use Rattle.hg_machine.specs.Policy as meaning;
 ghost use Rattle.hg_machine.specs.Policy.{has_right};
 ghost use Rattle.hg_policy.specs.Rights.{rights_of};
+ghost use Rattle.hg_policy.specs.declared.granted.Standing.{Standing};
 ghost use Rattle.hg_policy.specs.Refusals.{refusal_of};
 ghost use Rattle.hg_machine.specs.SoundPolicy.{IsSoundPolicy};
 ghost use Rattle.hg_policy.specs.Names.{tenant_number, tenant_name, arena_number};
@@ -21,7 +22,7 @@ use std::marker::Model;
 /// What each request asks is a flat table, so that no answer costs more with more grants: limits by
 /// tenant, whom an arena admits, one word by arena, the arena of each segment, and the rights on an
 /// owner's blocks, by owner and actor: what is granted, among it all rights of each owner on its
-/// own, and beside it what is forbidden, so that one look-up finds both.
+/// own, and beside it what is forbidden and what is allowed, so that one look-up finds all three.
 #[derive(Drop)]
 pub struct Policy {
     pub(crate) workers: u8,
@@ -32,7 +33,7 @@ pub struct Policy {
     pub(crate) arenas: IndexMap<String, TenantSet>,
     /// The arena of each segment.
     pub(crate) segments: Vec<u8>,
-    /// By owner what each actor is granted and what it is forbidden.
+    /// By owner what each actor is granted, forbidden and allowed.
     pub(crate) standings: Vec<Standings>,
 }
 
@@ -162,18 +163,18 @@ impl Policy {
     }
 
     /// How an actor stands to an owner's blocks, where each of them is a tenant.
-    fn standing(&self, owner: u8, actor: Actor) -> Option<Standing>
+    fn standing(&self, owner: u8, actor: Actor) -> Option<&Standing>
         ensures found { IfSome result (λ standing. (right : Right)
-            → (has_right (rights_of standing.granted) right
+            → (has_right (rights_of standing.now.granted) right
             ≡ meaning.grants self.now owner actor.0 right)
-            × (has_right (rights_of standing.forbidden) right
+            × (has_right (rights_of standing.now.forbidden) right
             ≡ meaning.forbids self.now owner actor.0 right)) }
         ensures nobody { IfNone result ((right : Right)
             → (meaning.grants self.now owner actor.0 right ≡ false)
             × (meaning.forbids self.now owner actor.0 right ≡ false)) }
     {
         match self.standings.get(usize::from(owner)) {
-            Some(by_actor) if self.is_tenant(actor) => Some(by_actor[usize::from(actor.0)]),
+            Some(by_actor) if self.is_tenant(actor) => Some(standing_in(by_actor, actor)),
             _ => None,
         }
     }
@@ -209,4 +210,12 @@ impl Policy {
             None => false,
         }
     }
+}
+
+/// How an actor stands, in the row of an owner.
+fn standing_in(by_actor: &Standings, actor: Actor) -> &Standing
+    requires { actor.0 < 64 }
+    ensures { (other : Standing) → result.now ≡ slice_index_or by_actor.now actor.0 other }
+{
+    &by_actor[usize::from(actor.0)]
 }

@@ -4,6 +4,7 @@ ghost use Rattle.std.specs.Prelude.{⊤, ◌≡◌, ◌||◌};
 ghost use Rattle.hg_place.specs.declared.Right.{Right};
 ghost use Rattle.hg_machine.specs.Policy.{has_right, no_rights};
 ghost use Rattle.hg_policy.specs.Rights.{rights_of, bit_of, rights_table, all_rights, and_right};
+ghost use Rattle.hg_policy.specs.Rights.{IsWithout};
 
 use bitflags::{Flag, Flags, bitflag_items};
 use hg_place::Right;
@@ -83,6 +84,13 @@ impl Rights {
             ≡ (has_right (rights_of self) right || has_right (rights_of more) right) }
     {
         self.union(more)
+    }
+
+    /// The rights of this set that the other lacks.
+    pub(crate) fn without(self, less: Rights) -> Rights
+        ensures { IsWithout self less result }
+    {
+        self.difference(less)
     }
 
     /// Whether the set has a right.

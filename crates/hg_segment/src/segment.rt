@@ -15,7 +15,7 @@ ghost use Rattle.hg_segment.specs.Blocks.{block_at};
 ghost use Rattle.hg_segment.specs.Charges.{charge_of};
 ghost use Rattle.hg_segment.specs.Right.{AreListsRight, IsBlockPlace};
 
-use crate::charges::Charges;
+use crate::charges::{Charges, TENANTS};
 use crate::lists::no_pages;
 use crate::page_classes::PageClasses;
 use hg_page::Page;
@@ -149,11 +149,16 @@ impl<S: SlotWords> Segment<S> {
         self.pages[page as usize].is_full(&self.memory)
     }
 
-    /// What the places that are open count against the tenant's limit, in bytes.
+    /// What the places that are open count against the tenant's limit, in bytes; a number that no
+    /// tenant may have is charged nothing.
     pub fn charge(&self, tenant: u8) -> u64
-        requires { tenant < TENANTS }
-        ensures { result ≡ charge_of (S.records self.now.slots) self.now.classes tenant }
+        ensures counted { tenant < TENANTS
+            → result ≡ charge_of (S.records self.now.slots) self.now.classes tenant }
+        ensures nobody { ¬ tenant < TENANTS → result ≡ 0 }
     {
+        if tenant as usize >= TENANTS {
+            return 0;
+        }
         self.charges.of(tenant)
     }
 

@@ -1,10 +1,12 @@
 mod handles;
 mod lists;
 mod page;
+mod page_vectors;
 mod plain_words;
 mod queue;
 mod seeded;
 mod segment;
+mod segment_parts;
 mod sizes;
 mod slot_word;
 mod words;

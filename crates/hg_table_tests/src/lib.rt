@@ -10,4 +10,6 @@ mod policies;
 #[cfg(test)]
 mod refused;
 #[cfg(test)]
+mod seeded;
+#[cfg(test)]
 mod two_parts;

@@ -4,7 +4,7 @@ use std::alloc::Global;
 /// Two segments, two workers.
 const DOCUMENT: &str = r#"version = 1
 workers = 2
-tenant = [ {name = "alice", limit = 65536} ]
+tenant = [ {name = "alice", limit = 131072} ]
 arena = [ {name = "main", segments = 2} ]
 "#;
 

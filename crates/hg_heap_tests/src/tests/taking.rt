@@ -61,13 +61,15 @@ impl Sent {
         free_far(rt, &mut self.segment, &mut self.remote, handle, 0);
     }
 
-    /// The heap gets the segment and takes in what was sent; so many come home.
+    /// The heap takes nothing in before it has the segment, and then what was sent; so many come
+    /// home.
     fn take(self, rt: &impl Abort, expected: u32) -> Tried {
         let Sent {
             mut tried,
             segment,
             mut remote,
         } = self;
+        assert_eq!(rt; tried.heap.take(0, &mut remote), 0);
         tried.adopt(rt, segment);
         assert!(rt; tried.heap.holds(0));
         let count = tried.heap.take(0, &mut remote);

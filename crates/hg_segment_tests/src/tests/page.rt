@@ -6,13 +6,12 @@ ghost use Rattle.hg_page.specs.Shapes.{shape_of};
 
 use hg_page::{Page, Worn};
 use hg_place::{SEGMENT_PAGES, SEGMENT_WORDS};
-use hg_size::{Class, block_words, class_of, pages_of, per_page};
+use hg_size::{Class, class_of, pages_of};
 use hg_words::WordMemory;
-use std::alloc::Global;
 use std::process::Abort;
 
 /// Puts an index that is used on `local_free`.
-fn push(rt: &impl Abort, page: &mut Page, memory: &mut WordMemory, index: u16)
+pub fn push(rt: &impl Abort, page: &mut Page, memory: &mut WordMemory, index: u16)
     requires { IsLinked page.old memory.old }
     ensures linked { IsLinked page.new memory.new }
     ensures shape { shape_of page.new ≡ shape_of page.old }
@@ -23,7 +22,7 @@ fn push(rt: &impl Abort, page: &mut Page, memory: &mut WordMemory, index: u16)
 }
 
 /// A page of a class, of which few places may be worn.
-fn formatted(
+pub fn formatted(
     rt: &impl Abort,
     memory: &mut WordMemory,
     number: u8,
@@ -41,45 +40,198 @@ fn formatted(
     page
 }
 
-/// A page gives these places next, in rising order.
-fn check_pops(rt: &impl Abort, page: &mut Page, memory: &WordMemory, first: u16, end: u16)
-    requires { IsLinked page.old memory.now }
-    ensures { IsLinked page.new memory.now }
+/// A call on a page with its memory, and what it must be answered.
+enum Step {
+    Idle(bool),
+    Full(bool),
+    Used(u16, bool),
+    // no place is used
+    NoneUsed,
+    // a word of the memory
+    Word(usize, u64),
+    // each of so many blocks of 10 words links to the next
+    Links(usize),
+    Pop(Option<u16>),
+    // these places are next, in rising order
+    Pops(u16, u16),
+    Push(u16),
+    Splice,
+    Wear(u16),
+    Retire,
+}
+
+/// Whether an index is used.
+fn is_used(rt: &impl Abort, page: &Page, memory: &WordMemory, index: u16) -> bool
+    requires { IsLinked page.now memory.now }
 {
+    assert!(rt; index < 512);
+    page.is_used(memory, index)
+}
+
+/// Whether no place is used.
+fn none_used(page: &Page, memory: &WordMemory) -> bool
+    requires { IsLinked page.now memory.now }
+{
+    let mut none = true;
+    for index in 0..512u16 {
+        none &= !page.is_used(memory, index);
+    }
+    none
+}
+
+/// A word of the memory.
+fn word(rt: &impl Abort, memory: &WordMemory, at: usize) -> u64 {
+    assert!(rt; at < SEGMENT_WORDS);
+    memory.get(at)
+}
+
+/// Whether each of so many blocks of 10 words links to the next.
+fn has_links(rt: &impl Abort, memory: &WordMemory, blocks: usize) -> bool {
+    let mut all = true;
+    for index in 0..blocks {
+        assert!(rt; index < 100);
+        all &= word(rt, memory, 10 * index) == index as u64 + 2;
+    }
+    all
+}
+
+/// Whether a page answers a question so.
+fn is_told(rt: &impl Abort, page: &Page, memory: &WordMemory, step: &Step) -> bool
+    requires { IsLinked page.now memory.now }
+{
+    match step {
+        Step::Idle(expected) => page.is_idle(memory) == *expected,
+        Step::Full(expected) => page.is_full(memory) == *expected,
+        Step::Used(index, expected) => is_used(rt, page, memory, *index) == *expected,
+        Step::NoneUsed => none_used(page, memory),
+        Step::Word(at, expected) => word(rt, memory, *at) == *expected,
+        Step::Links(blocks) => has_links(rt, memory, *blocks),
+        _ => false,
+    }
+}
+
+/// Whether a page gives these places next, in rising order.
+fn pops(page: &mut Page, memory: &WordMemory, first: u16, end: u16) -> bool
+    requires { IsLinked page.old memory.now }
+    ensures linked { IsLinked page.new memory.now }
+    ensures shape { shape_of page.new ≡ shape_of page.old }
+{
+    let mut all = true;
     for index in first..end {
-        assert_eq!(rt; page.pop(memory), Some(index));
+        all &= page.pop(memory) == Some(index);
+    }
+    all
+}
+
+/// Takes a used index for a worn one.
+fn wear(rt: &impl Abort, page: &mut Page, memory: &WordMemory, index: u16)
+    requires { IsLinked page.old memory.now }
+    ensures linked { IsLinked page.new memory.now }
+    ensures shape { shape_of page.new ≡ shape_of page.old }
+{
+    assert!(rt; index < 512);
+    assert!(rt; page.is_used(memory, index));
+    page.wear(memory, index);
+}
+
+/// Retires a page that is idle.
+fn retire(rt: &impl Abort, page: &mut Page, memory: &WordMemory)
+    requires { IsLinked page.old memory.now }
+    ensures linked { IsLinked page.new memory.now }
+    ensures shape { shape_of page.new ≡ shape_of page.old }
+{
+    assert!(rt; page.is_idle(memory));
+    page.retire(memory);
+}
+
+/// Makes a call that writes no word. Whether it was answered so.
+fn is_served(rt: &impl Abort, page: &mut Page, memory: &WordMemory, step: &Step) -> bool
+    requires { IsLinked page.old memory.now }
+    ensures linked { IsLinked page.new memory.now }
+    ensures shape { shape_of page.new ≡ shape_of page.old }
+{
+    match step {
+        Step::Pop(expected) => return page.pop(memory) == *expected,
+        Step::Pops(first, end) => return pops(page, memory, *first, *end),
+        Step::Wear(index) => wear(rt, page, memory, *index),
+        Step::Retire => retire(rt, page, memory),
+        _ => return is_told(rt, page, memory, step),
+    }
+    true
+}
+
+/// Makes a call. Whether it was answered so.
+fn is_met(rt: &impl Abort, page: &mut Page, memory: &mut WordMemory, step: &Step) -> bool
+    requires { IsLinked page.old memory.old }
+    ensures linked { IsLinked page.new memory.new }
+    ensures shape { shape_of page.new ≡ shape_of page.old }
+{
+    match step {
+        Step::Push(index) => push(rt, page, memory, *index),
+        Step::Splice => page.splice(memory),
+        _ => return is_served(rt, page, memory, step),
+    }
+    true
+}
+
+/// Each step must be met.
+fn meets(rt: &impl Abort, page: &mut Page, memory: &mut WordMemory, steps: &[Step])
+    requires { IsLinked page.old memory.old }
+    ensures linked { IsLinked page.new memory.new }
+    ensures shape { shape_of page.new ≡ shape_of page.old }
+{
+    for (number, step) in steps.iter().enumerate() {
+        assert!(rt; is_met(rt, page, memory, step), "step {number}");
     }
 }
 
 // The links of a page of blocks of 10 words, through each call.
+static LINKS: [Step; 18] = [
+    Step::Links(50),
+    Step::Word(500, 0),
+    Step::Idle(true),
+    Step::Full(false),
+    Step::Pop(Some(0)),
+    Step::Pop(Some(1)),
+    Step::Idle(false),
+    Step::Push(0),
+    Step::Push(1),
+    Step::Splice,
+    Step::Word(500, 2),
+    Step::Word(10, 1),
+    Step::Word(0, 0),
+    Step::Pops(2, 51),
+    Step::Pop(Some(1)),
+    Step::Pop(Some(0)),
+    Step::Pop(None),
+    Step::Full(true),
+];
+
 #[test]
 fn page_links(rt: HostRuntime) {
     let mut memory = WordMemory::new(rt.alloc()).expect(&rt, "memory");
     let class = class_of(10).expect(&rt, "a class");
     let mut page = formatted(&rt, &mut memory, 0, class, &Worn::none());
-    for index in 0..50usize {
-        assert_eq!(&rt; memory.get(10 * index), index as u64 + 2);
-    }
-    assert_eq!(&rt; memory.get(500), 0);
-    assert!(&rt; page.is_idle(&memory));
-    assert!(&rt; !page.is_full(&memory));
-    assert_eq!(&rt; page.pop(&memory), Some(0));
-    assert_eq!(&rt; page.pop(&memory), Some(1));
-    assert!(&rt; !page.is_idle(&memory));
-    push(&rt, &mut page, &mut memory, 0);
-    push(&rt, &mut page, &mut memory, 1);
-    page.splice(&mut memory);
-    assert_eq!(&rt; memory.get(500), 2);
-    assert_eq!(&rt; memory.get(10), 1);
-    assert_eq!(&rt; memory.get(0), 0);
-    check_pops(&rt, &mut page, &memory, 2, 51);
-    assert_eq!(&rt; page.pop(&memory), Some(1));
-    assert_eq!(&rt; page.pop(&memory), Some(0));
-    assert_eq!(&rt; page.pop(&memory), None);
-    assert!(&rt; page.is_full(&memory));
+    meets(&rt, &mut page, &mut memory, &LINKS);
+    drop(page);
+    drop(memory);
 }
 
 // Worn places are on no list.
+static WORN: [Step; 11] = [
+    Step::Word(10, 4),
+    Step::Pop(Some(1)),
+    Step::Pop(Some(3)),
+    Step::Used(3, true),
+    Step::Wear(3),
+    Step::Used(3, false),
+    Step::Push(1),
+    Step::Idle(true),
+    Step::Retire,
+    Step::Full(true),
+    Step::Pop(None),
+];
+
 #[test]
 fn worn_places(rt: HostRuntime) {
     let mut memory = WordMemory::new(rt.alloc()).expect(&rt, "memory");
@@ -89,18 +241,31 @@ fn worn_places(rt: HostRuntime) {
     generations[2] = 7;
     let worn = Worn::of_generations(&generations, 7);
     let mut page = formatted(&rt, &mut memory, 0, class, &worn);
-    assert_eq!(&rt; memory.get(10), 4);
-    assert_eq!(&rt; page.pop(&memory), Some(1));
-    assert_eq!(&rt; page.pop(&memory), Some(3));
-    assert!(&rt; page.is_used(&memory, 3));
-    page.wear(&memory, 3);
-    assert!(&rt; !page.is_used(&memory, 3));
-    push(&rt, &mut page, &mut memory, 1);
-    assert!(&rt; page.is_idle(&memory));
-    page.retire(&memory);
-    assert!(&rt; page.is_full(&memory));
-    assert_eq!(&rt; page.pop(&memory), None);
+    meets(&rt, &mut page, &mut memory, &WORN);
+    drop(page);
+    drop(memory);
 }
+
+static IN_USE: [Step; 5] = [
+    Step::Pop(Some(0)),
+    Step::Pop(Some(1)),
+    Step::Pop(Some(2)),
+    Step::Push(2),
+    Step::Push(0),
+];
+
+static FORMATTED: [Step; 10] = [
+    Step::Idle(true),
+    Step::NoneUsed,
+    Step::Word(1536, 3),
+    Step::Word(1536 + 2 * 112, 4),
+    Step::Word(1536 + 3 * 112, 0),
+    Step::Pop(Some(0)),
+    Step::Pop(Some(2)),
+    Step::Pop(Some(3)),
+    Step::Pop(None),
+    Step::Full(true),
+];
 
 // A page in use takes another class: nothing of what it had is left on its lists, or used.
 #[test]
@@ -108,179 +273,13 @@ fn formats_a_page_in_use(rt: HostRuntime) {
     let mut memory = WordMemory::new(rt.alloc()).expect(&rt, "memory");
     let class = class_of(10).expect(&rt, "a class");
     let mut page = formatted(&rt, &mut memory, 3, class, &Worn::none());
-    let popped = [page.pop(&memory), page.pop(&memory), page.pop(&memory)];
-    assert_eq!(&rt; popped, [Some(0), Some(1), Some(2)]);
-    push(&rt, &mut page, &mut memory, 2);
-    push(&rt, &mut page, &mut memory, 0);
+    meets(&rt, &mut page, &mut memory, &IN_USE);
     let greater = class_of(100).expect(&rt, "a class");
     let mut worn = Worn::none();
     worn.mark(1);
     assert!(&rt; pages_of(greater) as usize <= SEGMENT_PAGES - 3);
     page.format(&mut memory, greater, &worn);
-    assert!(&rt; page.is_idle(&memory));
-    for index in 0..512u16 {
-        assert!(&rt; !page.is_used(&memory, index));
-    }
-    assert_eq!(&rt; memory.get(1536), 3);
-    assert_eq!(&rt; memory.get(1536 + 2 * 112), 4);
-    assert_eq!(&rt; memory.get(1536 + 3 * 112), 0);
-    assert_eq!(&rt; page.pop(&memory), Some(0));
-    assert_eq!(&rt; page.pop(&memory), Some(2));
-    assert_eq!(&rt; page.pop(&memory), Some(3));
-    assert_eq!(&rt; page.pop(&memory), None);
-    assert!(&rt; page.is_full(&memory));
-}
-
-/// The lists of a page as vectors, the first of each list last.
-#[derive(Drop)]
-struct Plain {
-    free: Vec<u16>,
-    local_free: Vec<u16>,
-    used: Vec<u16>,
-}
-
-impl Plain {
-    /// The places of a class as `format` leaves them.
-    fn new(rt: &impl Abort, alloc: Global, class: Class, worn: &Worn) -> Plain {
-        let mut free = Vec::new(alloc);
-        for index in (0..per_page(class).min(512)).rev() {
-            if !worn.has(index) {
-                free.push(index).expect(rt, "memory");
-            }
-        }
-        Plain {
-            free,
-            local_free: Vec::new(alloc),
-            used: Vec::new(alloc),
-        }
-    }
-
-    /// Takes the used index that a number picks.
-    fn take_used(&mut self, number: usize) -> Option<u16> {
-        if self.used.is_empty() {
-            return None;
-        }
-        let at = number % self.used.len();
-        Some(self.used.swap_remove(at))
-    }
-
-    fn is_full(&self) -> bool {
-        self.free.is_empty() && self.local_free.is_empty()
-    }
-}
-
-/// Takes a place from a page, and from plain lists.
-fn pop_both(rt: &impl Abort, page: &mut Page, memory: &WordMemory, plain: &mut Plain)
-    requires { IsLinked page.old memory.now }
-    ensures { IsLinked page.new memory.now }
-{
-    let index = page.pop(memory);
-    assert_eq!(rt; plain.free.pop(), index);
-    if let Some(index) = index {
-        plain.used.push(index).expect(rt, "memory");
-    }
-}
-
-/// Puts `local_free` behind `free` in a page, and in plain lists.
-fn splice_both(rt: &impl Abort, page: &mut Page, memory: &mut WordMemory, plain: &mut Plain)
-    requires { IsLinked page.old memory.old }
-    ensures { IsLinked page.new memory.new }
-{
-    page.splice(memory);
-    plain
-        .local_free
-        .append(&mut plain.free)
-        .expect(rt, "memory");
-    std::mem::swap(&mut plain.local_free, &mut plain.free);
-}
-
-/// One call on a page, and the same on plain lists.
-fn step(rt: &impl Abort, page: &mut Page, memory: &mut WordMemory, plain: &mut Plain, number: usize)
-    requires { IsLinked page.old memory.old }
-    ensures { IsLinked page.new memory.new }
-{
-    let call = number % 16;
-    if call < 7 {
-        return pop_both(rt, page, memory, plain);
-    }
-    if call > 13 {
-        return splice_both(rt, page, memory, plain);
-    }
-    let Some(index) = plain.take_used(number / 16) else {
-        return;
-    };
-    if call < 13 {
-        plain.local_free.push(index).expect(rt, "memory");
-        return push(rt, page, memory, index);
-    }
-    assert!(rt; index < 512);
-    assert!(rt; page.is_used(memory, index));
-    page.wear(memory, index);
-}
-
-/// A page tells of its lists what plain lists do.
-fn check_page(rt: &impl Abort, page: &Page, memory: &WordMemory, plain: &Plain)
-    requires { IsLinked page.now memory.now }
-{
-    assert_eq!(rt; page.is_idle(memory), plain.used.is_empty());
-    assert_eq!(rt; page.is_full(memory), plain.is_full());
-}
-
-/// The words link a list to its end.
-fn check_links(rt: &impl Abort, memory: &WordMemory, base: u16, class: Class, list: &[u16]) {
-    let mut link = 0;
-    for index in list {
-        let start = base as usize + block_words(class) as usize * *index as usize;
-        assert!(rt; start < SEGMENT_WORDS);
-        assert_eq!(rt; memory.get(start), link);
-        link = *index as u64 + 1;
-    }
-}
-
-/// The next number of a row that seems random.
-fn next(number: u64) -> u64 {
-    number
-        .wrapping_mul(6364136223846793005)
-        .wrapping_add(1442695040888963407)
-}
-
-/// Many calls on a page of a class, some of whose places are worn from the first.
-fn many_steps(
-    rt: &impl Abort,
-    alloc: Global,
-    memory: &mut WordMemory,
-    number: u8,
-    class: Class,
-    seed: u64,
-)
-    requires number { number < SEGMENT_PAGES }
-    requires words { length memory.old ≡ SEGMENT_WORDS }
-    ensures { length memory.new ≡ SEGMENT_WORDS }
-{
-    let mut random = seed;
-    let mut worn = Worn::none();
-    for _ in 0..40u8 {
-        random = next(random);
-        worn.mark(((random >> 33) % 512) as u16);
-    }
-    let mut page = formatted(rt, memory, number, class, &worn);
-    let mut plain = Plain::new(rt, alloc, class, &worn);
-    let base = number as u16 * 512;
-    for _ in 0..1000u16 {
-        random = next(random);
-        step(rt, &mut page, memory, &mut plain, (random >> 33) as usize);
-        check_page(rt, &page, memory, &plain);
-        check_links(rt, memory, base, class, &plain.free);
-        check_links(rt, memory, base, class, &plain.local_free);
-    }
-}
-
-// A page does as plain lists do, and links them in its words.
-#[test]
-fn page_as_vectors(rt: HostRuntime) {
-    let mut memory = WordMemory::new(rt.alloc()).expect(&rt, "memory");
-    for (number, words) in [(0, 1), (5, 3), (15, 10), (3, 160), (8, 512), (12, 2048)] {
-        let class = class_of(words).expect(&rt, "a class");
-        many_steps(&rt, rt.alloc(), &mut memory, number, class, words);
-    }
+    meets(&rt, &mut page, &mut memory, &FORMATTED);
+    drop(page);
+    drop(memory);
 }

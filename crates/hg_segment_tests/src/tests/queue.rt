@@ -29,34 +29,89 @@ fn part(queues: &mut PageQueues, arena: u8, class: Class) -> Option<u16>
     Some(page)
 }
 
+/// A call on queues, which answers a page, if one.
+enum Call {
+    // an arena and a page that is in no queue
+    Push(u8, u16),
+    Remove(u16),
+    // the page at the front of an arena's queue, which is taken out or stays
+    Part(u8),
+    Front(u8),
+    Next(u16),
+}
+
+/// Makes a call on the queues of a class.
+fn answer(rt: &impl Abort, queues: &mut PageQueues, class: Class, call: &Call) -> Option<u16> {
+    match call {
+        Call::Push(arena, page) => {
+            assert!(rt; *arena < ARENAS && *page < PAGES);
+            push(rt, queues, *arena, class, *page);
+            None
+        }
+        Call::Remove(page) => {
+            assert!(rt; *page < PAGES);
+            queues.remove(*page);
+            None
+        }
+        Call::Part(arena) => {
+            assert!(rt; *arena < ARENAS);
+            part(queues, *arena, class)
+        }
+        Call::Front(arena) => {
+            assert!(rt; *arena < ARENAS);
+            queues.front(*arena, class)
+        }
+        Call::Next(page) => {
+            assert!(rt; *page < PAGES);
+            queues.next(*page)
+        }
+    }
+}
+
+/// The queues of a class must answer each call so.
+fn answers(rt: &impl Abort, queues: &mut PageQueues, class: Class, calls: &[(Call, Option<u16>)]) {
+    for (number, (call, expected)) in calls.iter().enumerate() {
+        let told = answer(rt, queues, class, call);
+        assert_eq!(rt; told, *expected, "call {number}");
+    }
+}
+
 // Three pages of one key, one taken from the middle and one from the front.
+static THREE: [(Call, Option<u16>); 13] = [
+    (Call::Push(2, 3), None),
+    (Call::Push(2, 7), None),
+    (Call::Push(2, 1023), None),
+    (Call::Front(2), Some(1023)),
+    (Call::Next(1023), Some(7)),
+    (Call::Remove(7), None),
+    (Call::Next(1023), Some(3)),
+    (Call::Part(2), Some(1023)),
+    (Call::Front(2), Some(3)),
+    (Call::Remove(7), None),
+    (Call::Next(7), None),
+    (Call::Next(3), None),
+    (Call::Front(1), None),
+];
+
 #[test]
 fn queue_lists(rt: HostRuntime) {
     let mut queues = PageQueues::new(rt.alloc()).expect(&rt, "memory");
-    let class = class(&rt, 10);
-    push(&rt, &mut queues, 2, class, 3);
-    push(&rt, &mut queues, 2, class, 7);
-    push(&rt, &mut queues, 2, class, 1023);
-    assert_eq!(&rt; queues.front(2, class), Some(1023));
-    assert_eq!(&rt; queues.next(1023), Some(7));
-    queues.remove(7);
-    assert_eq!(&rt; queues.next(1023), Some(3));
-    assert_eq!(&rt; part(&mut queues, 2, class), Some(1023));
-    assert_eq!(&rt; queues.front(2, class), Some(3));
-    queues.remove(7);
-    assert_eq!(&rt; queues.next(7), None);
-    assert_eq!(&rt; queues.next(3), None);
-    assert_eq!(&rt; queues.front(1, class), None);
+    answers(&rt, &mut queues, class(&rt, 10), &THREE);
+    drop(queues);
 }
+
+static LAST: [(Call, Option<u16>); 3] = [
+    (Call::Front(ARENAS - 1), None),
+    (Call::Push(ARENAS - 1, PAGES - 1), None),
+    (Call::Front(ARENAS - 1), Some(PAGES - 1)),
+];
 
 // The queues are there, or memory was refused: for a run in which requests are refused in turn.
 #[test]
 fn queues_refused_in_turn(rt: HostRuntime) {
     if let Ok(mut queues) = PageQueues::new(rt.alloc()) {
-        let class = class(&rt, 512);
-        assert_eq!(&rt; queues.front(ARENAS - 1, class), None);
-        push(&rt, &mut queues, ARENAS - 1, class, PAGES - 1);
-        assert_eq!(&rt; queues.front(ARENAS - 1, class), Some(PAGES - 1));
+        answers(&rt, &mut queues, class(&rt, 512), &LAST);
+        drop(queues);
     }
 }
 
@@ -160,4 +215,6 @@ fn queues_as_vectors(rt: HostRuntime) {
             check_queue(&rt, &queues, *arena, class(&rt, *words), &plain.queues[key]);
         }
     }
+    drop(plain);
+    drop(queues);
 }

@@ -3,26 +3,33 @@
 use hg_trace::split_joined;
 use std::process::Abort;
 
-fn parts(rt: &impl Abort, joined: &[u8], policy: &[u8], trace: &[u8]) {
-    let (one, other) = split_joined(joined);
-    assert_eq!(rt; one, policy);
-    assert_eq!(rt; other, trace);
+/// Bytes, and the two parts of them.
+static JOINED: [(&str, &str, &str); 9] = [
+    ("", "", ""),
+    ("a\nb", "a\nb", ""),
+    ("---", "", ""),
+    ("---\n", "", ""),
+    ("a\n---\nb\n---\nc", "a\n", "b\n---\nc"),
+    ("a\n---\r\nb\n", "a\n", "b\n"),
+    ("a\r\n---\r", "a\r\n", ""),
+    (
+        "a\n --- \n----\n--- \n---\r\r\nb",
+        "a\n --- \n----\n--- \n---\r\r\nb",
+        "",
+    ),
+    ("a ---\n---\nb", "a ---\n", "b"),
+];
+
+/// The bytes are parted so, for each row.
+fn part_each(rt: &impl Abort, rows: &[(&str, &str, &str)]) {
+    for (joined, policy, trace) in rows {
+        let (one, other) = split_joined(joined.as_bytes());
+        assert!(rt; one == policy.as_bytes(), "{joined}");
+        assert!(rt; other == trace.as_bytes(), "{joined}");
+    }
 }
 
 #[test]
 fn the_first_mark_parts(rt: HostRuntime) {
-    parts(&rt, b"", b"", b"");
-    parts(&rt, b"a\nb", b"a\nb", b"");
-    parts(&rt, b"---", b"", b"");
-    parts(&rt, b"---\n", b"", b"");
-    parts(&rt, b"a\n---\nb\n---\nc", b"a\n", b"b\n---\nc");
-    parts(&rt, b"a\n---\r\nb\n", b"a\n", b"b\n");
-    parts(&rt, b"a\r\n---\r", b"a\r\n", b"");
-    parts(
-        &rt,
-        b"a\n --- \n----\n--- \n---\r\r\nb",
-        b"a\n --- \n----\n--- \n---\r\r\nb",
-        b"",
-    );
-    parts(&rt, b"a ---\n---\nb", b"a ---\n", b"b");
+    part_each(&rt, &JOINED);
 }

@@ -1,7 +1,4 @@
-use Rattle.std.proofs.Common.{◌≡◌, sym, ap, subst, ◌∙◌}
-use Rattle.hg_place.specs.declared.standing.Standing.{Standing}
-use Rattle.hg_place.specs.Standings.{Fits}
-use Rattle.hg_heap.specs.Freeing.{free_denial}
+use Rattle.std.proofs.Common.{sym}
 use Rattle.hg_heap.proofs.Freeable.{one_may_be_freed}
 use Rattle.hg_heap.proofs.freeing.freeable.Goals as goal
 

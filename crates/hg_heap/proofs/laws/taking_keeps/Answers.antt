@@ -1,4 +1,4 @@
-use Rattle.hg_heap.proofs.TakingKept.{taking_keeps, counts_places}
+use Rattle.hg_heap.proofs.TakingKept.{taking_keeps, counts_places, none_keeps_queues}
 use Rattle.hg_heap.proofs.laws.taking_keeps.Goals as goal
 
 pub returns : goal.returns
@@ -12,4 +12,6 @@ returns g c =
       others = λ segment count places old new t.
           (taking_keeps w.number w.records w.shows w.steps segment count places old new t).others;
       count = counts_places w.number w.records w.shows w.steps;
+      queues = λ segment count places old new t none.
+          none_keeps_queues w.number w.records w.shows w.steps segment count places old new t none;
     }

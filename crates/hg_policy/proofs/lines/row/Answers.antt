@@ -8,7 +8,7 @@ use Rattle.hg_policy.specs.Rights.{rights_of, nothing}
 use Rattle.hg_policy.specs.TenantSets.{has_tenant}
 use Rattle.hg_policy.specs.Kept.{line_of}
 use Rattle.hg_policy.specs.Lines.{names_right}
-use Rattle.hg_policy.proofs.OwnRows.{has_none}
+use Rattle.hg_policy.proofs.GrantTable.{has_none}
 use Rattle.hg_policy.proofs.LineTable.{row_more, row_is}
 use Rattle.hg_policy.proofs.lines.row.Goals.{then-has, else-has}
 use Rattle.hg_policy.proofs.lines.row.Goals as goal

@@ -2,7 +2,7 @@ use Rattle.std.proofs.Common.{None, sym, ap, ◌∙◌, arith}
 use Rattle.std.proofs.lemmas.List.{get_or_past}
 use Rattle.hg_machine.specs.State.{holder_at}
 use Rattle.hg_core.specs.Keeping.{state_in}
-use Rattle.hg_core.specs.Stored.{worker_in}
+use Rattle.hg_core.specs.Held.{worker_in}
 use Rattle.hg_core.proofs.stores.Stores.holder_of.Goals as goal
 
 pub returns-then-from-ge-MAX_SEGMENTS-clause-value :

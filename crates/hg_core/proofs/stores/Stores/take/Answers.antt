@@ -43,12 +43,13 @@ after : (c : goal.After-self-3-1) → IsAfter c.args.self.now
     })
     c.args.worker (event.Take c.args.segment) (answer.Taken c.take-count.result)
 after c =
+    let held = sym c.holds.ensures ∙ c.if-not-holds.false in
     after_take c.self.inside c.args.self.now c.from.result c.args.worker c.args.segment
     c.index_mut-heap.result.now c.self.view_is c.self.invariant c.requires c.from.ensures
-    c.index_mut-heap.ensures.value (sym c.holds.ensures ∙ c.if-not-holds.false) c.from-2.result
-    c.take-count.result c.take-count.new.self c.index_mut.result.now c.take-count.new.remote
-    c.from-2.ensures c.index_mut.ensures.value c.take-count.ensures.empty
-    c.take-count.ensures.taken c.settled.ensures.each
+    c.index_mut-heap.ensures.value held c.from-2.result c.take-count.result
+    c.take-count.new.self c.index_mut.result.now c.take-count.new.remote
+    c.from-2.ensures c.index_mut.ensures.value
+    (c.take-count.ensures.empty held) (c.take-count.ensures.taken held) c.settled.ensures.each
 
 pub invariant_of-self-2 : goal.invariant_of-self-2
 invariant_of-self-2 c = (after c).stored

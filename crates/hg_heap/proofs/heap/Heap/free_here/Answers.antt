@@ -1,7 +1,8 @@
-use Rattle.std.proofs.Common.{◌≡◌, ◌∙◌, ◌*◌, ◌-◌, ℕ, Bool, not, Some, sym, refl, ap, slice_set}
+use Rattle.std.proofs.Common.{◌≡◌, ◌∙◌, ◌*◌, ◌-◌, ℕ, Bool, not, Some, None, sym, refl, ap, slice_set}
 use Rattle.std.proofs.Common.{slice_index}
 use Rattle.std.proofs.lemmas.Bool.{true≢false}
 use Rattle.std.proofs.lemmas.List.{length-set}
+use Rattle.hg_place.specs.declared.Right.TheVariants as right
 use Rattle.hg_place.specs.Lives.{word_generation, word_owner}
 use Rattle.hg_place.specs.Places.{page_number}
 use Rattle.hg_place.specs.Standings.{slot_of}
@@ -15,10 +16,11 @@ use Rattle.hg_heap.proofs.Requeuing.{has_place_is}
 use Rattle.hg_heap.proofs.PageChanged.{its_own}
 use Rattle.hg_heap.proofs.ChargeChanged.{charge_covers, charge_lowered}
 use Rattle.hg_heap.proofs.RightChanged.{right_changed}
-use Rattle.hg_heap.proofs.Looking.{heap_lists, heap_right}
+use Rattle.hg_heap.proofs.Judging.{judged_as, all_kept}
+use Rattle.hg_heap.proofs.Looking.{heap_lists, heap_right, stepped}
 use Rattle.hg_heap.proofs.FreeCall.{Frees, denied_ends, done_ends, generation_freed, was_open}
 use Rattle.hg_heap.proofs.FreeCall.{has_class, owner_below, page_change, place_change, key_was}
-use Rattle.hg_heap.proofs.FreeCall.{place_now, came_home}
+use Rattle.hg_heap.proofs.FreeCall.{place_now, came_home, closed_step}
 use Rattle.hg_heap.proofs.heap.Heap.free_here.Goals as goal
 
 pub close_block-closed-requires : goal.close_block-closed-requires
@@ -68,6 +70,32 @@ returns-in-Err-clause-denied g c = let w = g.S.SlotWords in let d = c.in-Err.ens
     c.index_mut-segment.ensures.value)
     d.1 c.in-Err.ensures.words c.in-Err.rule d.2 in
     rw (← c.self.view_is) (e.0, c.in-Err.rule, refl, e.1, e.2)
+
+pub returns-in-Err-clause-judged : goal.returns-in-Err-clause-judged
+returns-in-Err-clause-judged g c = let w = g.S.SlotWords in let d = c.in-Err.ensures.denied in
+    λ _. rw (← c.self.view_is) (
+      d.0,
+      c.in-Err.rule,
+      refl,
+      stepped w.number w.records w.shows w.steps c.self.inside.segments.items c.in-Some.found d.0
+          c.args.handle.place c.index_mut-segment.result.now c.close_block-closed.new.segment
+          (found_of w.number c.self.inside.segments.items c.args.handle.place.segment
+          c.in-Some.found c.index_mut-segment.result.now
+          (rw (← c.self.view_is) at c.in-Some.ensures.some) c.index_mut-segment.ensures.value)
+          d.1,
+      judged_as w.number w.records w.shows w.steps g.met.S.SlotWords.fits c.args.policy.now
+          c.args.actor.0 right.Free c.args.handle d.0 c.index_mut-segment.result.now
+          (Some c.in-Err.rule) d.1.shown d.2,
+    )
+
+pub returns-in-Err-clause-kept : goal.returns-in-Err-clause-kept
+returns-in-Err-clause-kept g c = let w = g.S.SlotWords in let d = c.in-Err.ensures.denied in
+    rw (← c.self.view_is) (all_kept w.number w.records w.shows w.steps
+    c.self.inside.segments.items c.in-Some.found d.0 c.args.handle.place
+    c.index_mut-segment.result.now c.close_block-closed.new.segment
+    (found_of w.number c.self.inside.segments.items c.args.handle.place.segment c.in-Some.found
+    c.index_mut-segment.result.now (rw (← c.self.view_is) at c.in-Some.ensures.some)
+    c.index_mut-segment.ensures.value) d.1 c.in-Err.ensures.words)
 
 pub returns-in-Err-clause-same_lists : goal.returns-in-Err-clause-same_lists
 returns-in-Err-clause-same_lists g c = let w = g.S.SlotWords in let d = c.in-Err.ensures.denied in
@@ -323,4 +351,15 @@ returns g c = let w = g.S.SlotWords in let k = c.in-Ok.ensures.closed in
       );
       same_lists = tt;
       same_queues = tt;
+      served = rw (← c.self.view_is) (
+        k.0,
+        closed_step w.number w.records w.shows w.steps c.self.inside.segments.items
+            c.in-Some.found k.0 c.args.handle.place c.index_mut-segment.result.now
+            c.close_block-closed.new.segment h,
+        judged_as w.number w.records w.shows w.steps g.met.S.SlotWords.fits c.args.policy.now
+            c.args.actor.0 right.Free c.args.handle k.0 c.index_mut-segment.result.now None
+            k.1.shown k.2,
+      );
+      judged = λ _. tt;
+      kept = tt;
     }

@@ -1,5 +1,6 @@
 use Rattle.std.proofs.Common.{ap}
 use Rattle.hg_heap.proofs.Founds.{found_of}
+use Rattle.hg_heap.proofs.Judging.{all_kept, row_kept, shown_live, some_row}
 use Rattle.hg_heap.proofs.Looking.{stepped, heap_lists, heap_right}
 use Rattle.hg_heap.proofs.LookCall.{look_tied}
 use Rattle.hg_heap.proofs.heap.Heap.look.Goals as goal
@@ -50,4 +51,21 @@ returns g c = let w = g.S.SlotWords in let r = c.row_of-row.ensures in record {
       c.index_mut-segment.result.now (rw (← c.self.view_is) at c.in-Some.ensures.some)
       c.index_mut-segment.ensures.value) r.looked);
   queues = ap (λ h. h.queues) c.self.view_is;
+  denied = r.none;
+  allowed = r.allowed;
+  live = shown_live w.number w.records w.shows w.steps g.met.S.SlotWords.fits c.args.policy.now
+      c.args.actor c.args.place c.row_of-row.new.shown c.index_mut-segment.result.now
+      c.row_of-row.result r.looked.shown r.allowed;
+  row = rw (← c.self.view_is) (some_row _ (row_kept w.number w.records w.shows w.steps
+      c.self.inside.segments.items c.in-Some.found c.row_of-row.new.shown c.args.place
+      c.index_mut-segment.result.now c.row_of-row.new.segment
+      (found_of w.number c.self.inside.segments.items c.args.place.segment c.in-Some.found
+      c.index_mut-segment.result.now (rw (← c.self.view_is) at c.in-Some.ensures.some)
+      c.index_mut-segment.ensures.value) r.looked r.words) c.row_of-row.result r.row);
+  kept = rw (← c.self.view_is)
+      (all_kept w.number w.records w.shows w.steps c.self.inside.segments.items c.in-Some.found
+      c.row_of-row.new.shown c.args.place c.index_mut-segment.result.now c.row_of-row.new.segment
+      (found_of w.number c.self.inside.segments.items c.args.place.segment c.in-Some.found
+      c.index_mut-segment.result.now (rw (← c.self.view_is) at c.in-Some.ensures.some)
+      c.index_mut-segment.ensures.value) r.looked r.words);
 }

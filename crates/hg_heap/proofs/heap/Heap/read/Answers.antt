@@ -1,7 +1,10 @@
 use Rattle.std.proofs.Common.{◌∙◌, sym, ap}
 use Rattle.std.proofs.lemmas.Bool.{true≢false}
+use Rattle.hg_place.specs.declared.Right.TheVariants as right
+use Rattle.hg_heap.specs.Judged.{rule_in}
 use Rattle.hg_heap.proofs.Founds.{found_of, found_held}
-use Rattle.hg_heap.proofs.Looking.{never_elsewhere, heap_lists, heap_right}
+use Rattle.hg_heap.proofs.Judging.{rule_reached, judged_as, all_kept}
+use Rattle.hg_heap.proofs.Looking.{never_elsewhere, heap_lists, heap_right, stepped}
 use Rattle.hg_heap.proofs.ReadCall.{read_ends}
 use Rattle.hg_heap.proofs.heap.Heap.read.Goals as goal
 
@@ -49,4 +52,22 @@ returns g c = let w = g.S.SlotWords in let r = c.read_word-value.ensures.read in
       c.index_mut-segment.ensures.value) r.1);
   queues = ap (λ h. h.queues) c.self.view_is;
   here = λ _. never_elsewhere _ _ c.args.index _ c.read_word-value.result r.2;
+  judged = λ _. rw (← c.self.view_is) (
+    r.0,
+    stepped w.number w.records w.shows w.steps c.self.inside.segments.items c.in-Some.found r.0
+        c.args.handle.place c.index_mut-segment.result.now c.read_word-value.new.segment
+        (found_of w.number c.self.inside.segments.items c.args.handle.place.segment c.in-Some.found
+        c.index_mut-segment.result.now (rw (← c.self.view_is) at c.in-Some.ensures.some)
+        c.index_mut-segment.ensures.value) r.1,
+    judged_as w.number w.records w.shows w.steps g.met.S.SlotWords.fits c.args.policy.now
+        c.args.actor.0 right.Read c.args.handle r.0 c.index_mut-segment.result.now
+        (rule_in c.read_word-value.result) r.1.shown
+        (sym (ap rule_in r.2 ∙ rule_reached _ _ c.args.index _)),
+  );
+  kept = rw (← c.self.view_is)
+      (all_kept w.number w.records w.shows w.steps c.self.inside.segments.items c.in-Some.found
+      r.0 c.args.handle.place c.index_mut-segment.result.now c.read_word-value.new.segment
+      (found_of w.number c.self.inside.segments.items c.args.handle.place.segment c.in-Some.found
+      c.index_mut-segment.result.now (rw (← c.self.view_is) at c.in-Some.ensures.some)
+      c.index_mut-segment.ensures.value) r.1 c.read_word-value.ensures.words);
 }

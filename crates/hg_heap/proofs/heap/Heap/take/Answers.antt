@@ -1,5 +1,9 @@
-use Rattle.std.proofs.Common.{refl, ◌∙◌, arith}
-use Rattle.hg_remote.proofs.OrderLemmas.{empty_sent}
+use Rattle.std.proofs.Common.{refl, sym, ◌∙◌, arith}
+use Rattle.std.proofs.lemmas.Bool.{true≢false}
+use Rattle.hg_remote.specs.Order.{drained}
+use Rattle.hg_remote.specs.Remote.{contents}
+use Rattle.hg_remote.proofs.OrderLemmas.{empty_sent, order_all}
+use Rattle.hg_heap.proofs.Homecoming.{home_again}
 use Rattle.hg_heap.proofs.TakeLoop.{Comes, none_taken, shorter, room, one_taken, one_passed}
 use Rattle.hg_heap.proofs.TakeLoop.{all_taken}
 use Rattle.hg_heap.proofs.heap.Heap.take.Goals as goal
@@ -8,7 +12,8 @@ pub loop-page-init : goal.loop-page-init
 loop-page-init g c =
     let w = g.S.SlotWords in
     none_taken w.number w.records w.shows w.steps c.args.segment c.args.remote.now
-    c.args.self.now c.requires c.is_empty-is_empty.ensures.right
+    c.args.self.now (sym c.holds.ensures ∙ c.if-not-holds.false)
+    c.is_empty-is_empty.ensures.right
 
 pub take_one-requires-clause-held : goal.take_one-requires-clause-held
 take_one-requires-clause-held g c = c.loop-page.invariant.held
@@ -97,16 +102,42 @@ loop-page-preserved g c =
     (c.take_one.ensures.passed c.if-take_one.false)
 
 pub returns-clause-empty : goal.returns-clause-empty
-returns-clause-empty g c =
+returns-clause-empty g c = λ held.
     c.in_default.ensures.unchanged
     ∙ empty_sent c.loop-page.remote c.loop-page.invariant.right (c.in_default.ensures.none.0 refl)
 
 pub returns-clause-taken : goal.returns-clause-taken
 returns-clause-taken g c =
     let w = g.S.SlotWords in
-    all_taken w.number w.records w.shows w.steps c.args.segment c.loop-page.count
+    λ held. all_taken w.number w.records w.shows w.steps c.args.segment c.loop-page.count
     c.args.remote.now c.loop-page.remote c.args.self.now c.loop-page.self c.loop-page.invariant
     (c.in_default.ensures.none.0 refl)
 
 pub returns-clause-few : goal.returns-clause-few
 returns-clause-few g c = let few = c.loop-page.invariant.few in omega (arith, few)
+
+pub returns-then-not-holds-clause-empty : goal.returns-then-not-holds-clause-empty
+returns-then-not-holds-clause-empty g c = λ held.
+    absurd (true≢false (sym held ∙ (sym c.holds.ensures ∙ c.if-not-holds.true)))
+
+pub returns-then-not-holds-clause-taken : goal.returns-then-not-holds-clause-taken
+returns-then-not-holds-clause-taken g c = λ held.
+    absurd (true≢false (sym held ∙ (sym c.holds.ensures ∙ c.if-not-holds.true)))
+
+pub returns-then-not-holds-clause-whole : goal.returns-then-not-holds-clause-whole
+returns-then-not-holds-clause-whole g c = λ held.
+    absurd (true≢false (sym held ∙ (sym c.holds.ensures ∙ c.if-not-holds.true)))
+
+pub returns-clause-unheld : goal.returns-clause-unheld
+returns-clause-unheld g c = λ unheld.
+    absurd (true≢false (sym (sym c.holds.ensures ∙ c.if-not-holds.false) ∙ unheld))
+
+pub returns-clause-whole : goal.returns-clause-whole
+returns-clause-whole g c = let w = g.S.SlotWords in
+    λ held. home_again w.number w.records w.shows w.steps c.args.segment c.loop-page.count
+    (drained c.args.remote.now) (contents c.args.remote.now) c.args.self.now c.loop-page.self
+    c.settled.ensures.once held
+    (λ place. ((order_all c.args.remote.now c.is_empty-is_empty.ensures.right).same place).0)
+    (all_taken w.number w.records w.shows w.steps c.args.segment c.loop-page.count
+    c.args.remote.now c.loop-page.remote c.args.self.now c.loop-page.self c.loop-page.invariant
+    (c.in_default.ensures.none.0 refl))

@@ -1,4 +1,4 @@
-use Rattle.hg_policy.proofs.LineTable.{or_rights}
+use Rattle.hg_policy.proofs.RightBits.{or_rights}
 use Rattle.hg_policy.proofs.rights.Rights.and.Goals as goal
 
 pub returns : goal.returns

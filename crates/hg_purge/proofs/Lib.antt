@@ -1,0 +1,13 @@
+pub mod SameAt
+pub mod Agreeing
+pub mod Facts
+pub mod Filters
+pub mod Filing
+pub mod Staying
+pub mod Following
+pub mod Serving
+pub mod Listing
+pub mod Changing
+pub mod Choosing
+pub mod Parting
+pub mod Purges
