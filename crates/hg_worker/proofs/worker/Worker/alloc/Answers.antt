@@ -1,0 +1,106 @@
+use Rattle.std.proofs.Common.{◌≡◌, [], None, refl, sym, ap, ◌∙◌, subst}
+use Rattle.hg_place.specs.Lives.{live_word}
+use Rattle.hg_heap.specs.Held.{Held}
+use Rattle.hg_heap.specs.Policies.{AreOf}
+use Rattle.hg_heap.specs.Ties.{shown_at}
+use Rattle.hg_heap.proofs.PolicyKept.{steps_keep_policy}
+use Rattle.hg_heap.specs.declared.refused.Refused.{Refused}
+use Rattle.hg_heap.specs.Answers.{refused_answer}
+use Rattle.hg_machine.specs.declared.Answer.{Answer}
+use Rattle.hg_machine.specs.declared.Answer.TheVariants as answer
+use Rattle.hg_machine.specs.declared.Event.TheVariants as event
+use Rattle.hg_machine.specs.Request.{size_of}
+use Rattle.hg_worker.specs.Answers.{block_in}
+use Rattle.hg_worker.specs.Had.{hand_place, hand_generation}
+use Rattle.hg_worker.specs.Seats.{number_in, part_of_seat}
+use Rattle.hg_worker.specs.Seen.{word_of, Decided}
+use Rattle.hg_worker.specs.Workers.{had}
+use Rattle.hg_worker.proofs.Allocs.{no_block, by_none, if_no_block, given_follows, given_arena}
+use Rattle.hg_worker.proofs.Allocs.{live_ends_none}
+use Rattle.hg_worker.specs.Hands.{KnowsHand}
+use Rattle.hg_worker.proofs.Hands.{knows_still, stepped_grown, the_same}
+use Rattle.hg_worker.proofs.Seats.{machines_shown, machines_unseen}
+use Rattle.hg_worker.proofs.Steps.{either_way, held_decides, seat_shows, seat_steps}
+use Rattle.hg_worker.proofs.Workers.{whole_of}
+use Rattle.hg_worker.proofs.worker.Worker.alloc.Goals as goal
+
+pub invariant_of-self : goal.invariant_of-self
+invariant_of-self g c =
+    let s = c.args.self.now in
+    let of : AreOf number_in s.policy c.alloc.new.self.segments =
+    either_way c.alloc.result _ _ c.alloc.ensures.given c.alloc.ensures.refused
+    (λ handle e. steps_keep_policy number_in (seat_shows number_in part_of_seat)
+    (seat_steps number_in part_of_seat) s.policy handle.place e.0.word
+    (live_word handle.generation c.args.actor.0) s.heap.segments c.alloc.new.self.segments
+    e.0.stepped s.of)
+    (λ _ e. subst (λ (h : Held _). AreOf number_in s.policy h.segments) (sym e.0) s.of) in
+    record {
+      serves = s.serves;
+      sound = s.sound;
+      below = s.below;
+      words = s.words;
+      of = of;
+      reach = s.reach;
+      known = either_way c.alloc.result _ _ c.alloc.ensures.given c.alloc.ensures.refused
+          (λ handle e. knows_still number_in part_of_seat (the_same (had s).own)
+          (stepped_grown number_in part_of_seat e.0.stepped) s.known)
+          (λ _ e. subst (λ (h : Held _). KnowsHand number_in part_of_seat s.hand (had s).own
+          h.segments) (sym e.0) s.known);
+    }
+
+pub returns-in-Ok-clause-alloc : goal.returns-in-Ok-clause-alloc
+returns-in-Ok-clause-alloc g c =
+    let s = c.args.self.now in
+    let old = had s in
+    let handle = c.in-Ok.handle in
+    let place = handle.place in
+    let given = c.in-Ok.ensures.given.0 in
+    let ties = c.in-Ok.ensures.given.1 s.number (hand_place s.hand) (hand_generation s.hand)
+    s.below in
+    let new = record old { heap = c.alloc.new.self } in
+    let arena = given_arena s.policy (size_of c.args.bytes) c.args.actor.0 handle s.heap.segments
+    c.alloc.new.self.segments given s.of in
+    let decided : Decided number_in part_of_seat place given.word
+    (live_word handle.generation c.args.actor.0) [] old new =
+    held_decides number_in part_of_seat place given.word
+    (live_word handle.generation c.args.actor.0) [] old new c.settled.ensures.once given.stepped
+    refl
+    (given_follows s.policy (size_of c.args.bytes) c.args.actor.0 handle s.heap.segments
+    c.alloc.new.self.segments given)
+    (live_ends_none (word_of place) given.word handle.generation c.args.actor.0) in (
+      given.word,
+      decided,
+      machines_shown old new place given.word arena.0
+          (event.Alloc c.args.actor c.args.arena c.args.bytes) (answer.Block handle)
+          (shown_at place (live_word handle.generation c.args.actor.0))
+          (whole_of s c.settled.ensures.each) arena.1 decided.shown ties,
+    )
+
+pub returns-in-Err-clause-alloc : goal.returns-in-Err-clause-alloc
+returns-in-Err-clause-alloc g c =
+    let s = c.args.self.now in
+    let old = had s in
+    let e = c.in-Err.ensures.refused in
+    let new = record old { heap = c.alloc.new.self } in
+    let ties = e.1 None s.number (hand_place s.hand) (hand_generation s.hand) s.below in
+    by_none (block_in c.refused_answer.result) _ _
+    (ap block_in c.refused_answer.ensures ∙ no_block c.in-Err.refused)
+    (machines_unseen old new (event.Alloc c.args.actor c.args.arena c.args.bytes)
+    c.refused_answer.result None (whole_of s c.settled.ensures.each)
+    (rw (c.refused_answer.ensures, e.0) ties))
+
+-- a refusal of the heap is no block
+refusal : (why : Refused) (answer : Answer) → answer ≡ refused_answer why
+    → block_in answer ≡ None
+refusal why answer is = ap block_in is ∙ no_block why
+
+pub returns-in-Err-clause-given : goal.returns-in-Err-clause-given
+returns-in-Err-clause-given g c =
+    if_no_block _ _ (refusal c.in-Err.refused c.refused_answer.result c.refused_answer.ensures)
+
+pub returns-in-Err-clause-chosen : goal.returns-in-Err-clause-chosen
+returns-in-Err-clause-chosen g c =
+    if_no_block _ _ (refusal c.in-Err.refused c.refused_answer.result c.refused_answer.ensures)
+
+pub returns-in-Ok-clause-given : goal.returns-in-Ok-clause-given
+returns-in-Ok-clause-given g c = c.in-Ok.ensures.given.0

@@ -1,0 +1,243 @@
+use Rattle.hg_worker.proofs.worker.Worker.free_away.Goals as goal
+use Rattle.std.proofs.Common.{◌≡◌, ◌-◌, [], ◌∷◌, true, not, is_some, Some, None, refl, sym, ap, ◌∙◌}
+use Rattle.hg_place.specs.declared.Right.TheVariants as right
+use Rattle.hg_place.specs.Lives.{word_generation, IsLiveWord}
+use Rattle.hg_heap.specs.Ties.{shown_at}
+use Rattle.hg_heap.proofs.Looking.{denied_by, allowed_by}
+use Rattle.hg_machine.specs.declared.Answer.TheVariants as answer
+use Rattle.hg_machine.specs.declared.Event.TheVariants as event
+use Rattle.hg_machine.specs.Policy.{arena_of}
+use Rattle.hg_table.specs.Seats.{part_on}
+use Rattle.hg_table.proofs.Knowing.{itself}
+use Rattle.hg_table.proofs.Told.{is_ended}
+use Rattle.hg_table.proofs.WordSteps.{freed_word_after}
+use Rattle.hg_worker.specs.Seats.{number_in, records_in, part_of_seat}
+use Rattle.hg_worker.specs.Seen.{word_of, Decided, Looked}
+use Rattle.hg_worker.specs.Workers.{had}
+use Rattle.hg_worker.proofs.Frees.{word_within, within_reach, hand_full, undenied_live}
+use Rattle.hg_worker.proofs.Frees.{lost_is_denied, own_decides_twice, free_denied, free_busy}
+use Rattle.hg_worker.proofs.Frees.{free_parted}
+use Rattle.hg_worker.proofs.Hands.{own_saw, saw_freed, knows_new}
+use Rattle.hg_worker.proofs.Seats.{some_arena, machines_unseen, machines_looked, machines_shown}
+use Rattle.hg_worker.proofs.Steps.{none_in, own_looks, seats_stay, looked_ends}
+use Rattle.hg_worker.proofs.Workers.{whole_of}
+
+pub returns-then-is_none-clause-refused : goal.returns-then-is_none-clause-refused
+returns-then-is_none-clause-refused g c = λ _.
+    let s = c.args.self.now in
+    let old = had s in
+    let e = c.denied_answer.ensures in
+    let at : arena_of s.policy c.args.handle.place.segment ≡ None =
+    sym c.arena_of.ensures
+    ∙ none_in c.arena_of.result (c.is_none.ensures ∙ ap not c.if-is_none.true) in
+    let ties = free_denied number_in records_in old None s.below c.args.actor c.args.handle at e.0
+    e.1 in (
+      None,
+      (at, seats_stay number_in part_of_seat old old refl refl),
+      machines_unseen old old (event.Free c.args.actor c.args.handle) c.denied_answer.result None
+          (whole_of s c.settled.ensures.each) (rw e.2 ties),
+    )
+
+pub look-word-requires : goal.look-word-requires
+look-word-requires g c =
+    let s = c.args.self.now in
+    word_within s.policy c.args.handle.place _ s.words
+    (ap is_some (sym c.arena_of.ensures) ∙ (c.is_none.ensures ∙ ap not c.if-is_none.false))
+
+pub returns-in-Denied-clause-refused : goal.returns-in-Denied-clause-refused
+returns-in-Denied-clause-refused g c = λ _.
+    let s = c.args.self.now in
+    let old = had s in
+    let place = c.args.handle.place in
+    let word = c.look-word.result in
+    let some : is_some (arena_of s.policy place.segment) ≡ true =
+    ap is_some (sym c.arena_of.ensures) ∙ (c.is_none.ensures ∙ ap not c.if-is_none.false) in
+    let denied = denied_by _ c.in-Denied.rule c.in-Denied.ensures in
+    let ties = free_denied number_in records_in old (shown_at place word) s.below c.args.actor
+    c.args.handle refl c.in-Denied.rule denied in
+    let new = record old { own = part_on c.look-word.new.self.inner.badge } in
+    let looked : Looked number_in part_of_seat place (shown_at place word) old new = (
+      some,
+      refl,
+      own_looks number_in part_of_seat place word old new c.requires refl
+          c.look-word.ensures.shown c.look-word.ensures.step,
+    ) in (
+      shown_at place word,
+      looked,
+      machines_looked old new place (shown_at place word)
+          (event.Free c.args.actor c.args.handle) (answer.Denied c.in-Denied.rule)
+          (whole_of s c.settled.ensures.each) looked ties,
+    )
+
+pub returns-then-is_some-clause-refused : goal.returns-then-is_some-clause-refused
+returns-then-is_some-clause-refused g c = λ _.
+    let s = c.args.self.now in
+    let old = had s in
+    let place = c.args.handle.place in
+    let word = c.look-word.result in
+    let some : is_some (arena_of s.policy place.segment) ≡ true =
+    ap is_some (sym c.arena_of.ensures) ∙ (c.is_none.ensures ∙ ap not c.if-is_none.false) in
+    let ties = free_busy number_in records_in old (shown_at place word) s.below c.args.actor
+    c.args.handle refl c.requires (allowed_by _ c.in_default.ensures)
+    (hand_full s.hand (sym c.if-is_some.ensures)) in
+    let new = record old { own = part_on c.look-word.new.self.inner.badge } in
+    let looked : Looked number_in part_of_seat place (shown_at place word) old new = (
+      some,
+      refl,
+      own_looks number_in part_of_seat place word old new c.requires refl
+          c.look-word.ensures.shown c.look-word.ensures.step,
+    ) in (
+      shown_at place word,
+      looked,
+      machines_looked old new place (shown_at place word)
+          (event.Free c.args.actor c.args.handle) answer.Busy
+          (whole_of s c.settled.ensures.each) looked ties,
+    )
+
+pub invariant_of-self : goal.invariant_of-self
+invariant_of-self g c =
+    let s = c.args.self.now in
+    record {
+      serves = s.serves;
+      sound = s.sound;
+      below = s.below;
+      words = s.words;
+      of = s.of;
+      reach = s.reach;
+      known = own_saw number_in part_of_seat
+          ((word_of c.args.handle.place, c.look-word.result) ∷ [])
+          c.look-word.ensures.step.1 s.known;
+    }
+
+pub invariant_of-self-then-is_some : goal.invariant_of-self-then-is_some
+invariant_of-self-then-is_some g c =
+    let s = c.args.self.now in
+    record {
+      serves = s.serves;
+      sound = s.sound;
+      below = s.below;
+      words = s.words;
+      of = s.of;
+      reach = s.reach;
+      known = own_saw number_in part_of_seat
+          ((word_of c.args.handle.place, c.look-word.result) ∷ [])
+          c.look-word.ensures.step.1 s.known;
+    }
+
+pub part-requires-clause-place : goal.part-requires-clause-place
+part-requires-clause-place g c =
+    let s = c.args.self.now in
+    word_within s.policy c.args.handle.place _ s.words
+    (ap is_some (sym c.arena_of.ensures) ∙ (c.is_none.ensures ∙ ap not c.if-is_none.false))
+
+pub denied_answer-requires-in-Err : goal.denied_answer-requires-in-Err
+denied_answer-requires-in-Err g c = λ e.
+    let s = c.args.self.now in
+    let err = c.in-Err.ensures.err in
+    lost_is_denied s.policy c.args.actor.0 right.Free c.args.handle
+    (word_of c.args.handle.place) c.look-word.result c.in-Err.found
+    (part_on s.seat.inner.badge) (part_on c.look-word.new.self.inner.badge)
+    c.look-word.ensures.shown.slot_word (allowed_by _ c.in_default.ensures)
+    c.look-word.ensures.step.1 err.1 err.0 e
+
+pub returns-in-Err-clause-refused : goal.returns-in-Err-clause-refused
+returns-in-Err-clause-refused g c = λ _.
+    let s = c.args.self.now in
+    let old = had s in
+    let place = c.args.handle.place in
+    let word = c.look-word.result in
+    let found = c.in-Err.found in
+    let err = c.in-Err.ensures.err in
+    let e = c.denied_answer-in-Err.ensures in
+    let some : is_some (arena_of s.policy place.segment) ≡ true =
+    ap is_some (sym c.arena_of.ensures) ∙ (c.is_none.ensures ∙ ap not c.if-is_none.false) in
+    let new = record old { own = part_on c.part.new.self.inner.badge } in
+    let looked : Looked number_in part_of_seat place (shown_at place found) old new = (
+      some,
+      refl,
+      own_decides_twice number_in part_of_seat place word found found [] old new
+          (part_on c.look-word.new.self.inner.badge) c.requires refl s.seat.inner.plain
+          c.look-word.ensures.step err.1 err.2 (itself found) (looked_ends (word_of place) found),
+    ) in
+    let ties = free_denied number_in records_in old (shown_at place found) s.below c.args.actor
+    c.args.handle refl e.0 e.1 in (
+      shown_at place found,
+      looked,
+      machines_looked old new place (shown_at place found)
+          (event.Free c.args.actor c.args.handle) c.denied_answer-in-Err.result
+          (whole_of s c.settled.ensures.each) looked (rw e.2 ties),
+    )
+
+pub invariant_of-self-in-Err-1 : goal.invariant_of-self-in-Err-1
+invariant_of-self-in-Err-1 g c =
+    let s = c.args.self.now in
+    record {
+      serves = s.serves;
+      sound = s.sound;
+      below = s.below;
+      words = s.words;
+      of = s.of;
+      reach = s.reach;
+      known = own_saw number_in part_of_seat
+          {own = part_on c.look-word.new.self.inner.badge}
+          ((word_of c.args.handle.place, c.in-Err.found) ∷ []) c.in-Err.ensures.err.2.1
+          (own_saw number_in part_of_seat ((word_of c.args.handle.place, c.look-word.result) ∷ [])
+          c.look-word.ensures.step.1 s.known);
+    }
+
+pub invariant_of-self-2 : goal.invariant_of-self-2
+invariant_of-self-2 g c =
+    let s = c.args.self.now in
+    record {
+      serves = s.serves;
+      sound = s.sound;
+      below = s.below;
+      words = s.words;
+      of = s.of;
+      reach = within_reach s.policy c.args.handle
+          (ap is_some (sym c.arena_of.ensures) ∙ (c.is_none.ensures ∙ ap not c.if-is_none.false));
+      known =
+          let word = c.look-word.result in
+          let live = undenied_live s.policy c.args.actor.0 right.Free c.args.handle word
+          c.look-word.ensures.shown.slot_word (allowed_by _ c.in_default.ensures) in
+          knows_new number_in part_of_seat c.args.handle (part_on c.part.new.self.inner.badge)
+          s.heap.segments
+          (saw_freed c.args.handle word (part_on c.look-word.new.self.inner.badge)
+          (part_on c.part.new.self.inner.badge) live.0 live.1 c.in_default-part.ensures.ok.1.1)
+          c.requires;
+    }
+
+pub returns-clause-freed : goal.returns-clause-freed
+returns-clause-freed g c = λ _.
+    let s = c.args.self.now in
+    let old = had s in
+    let place = c.args.handle.place in
+    let word = c.look-word.result in
+    let none = allowed_by _ c.in_default.ensures in
+    let live : IsLiveWord word =
+    (undenied_live s.policy c.args.actor.0 right.Free c.args.handle word
+    c.look-word.ensures.shown.slot_word none).0 in
+    let ok = c.in_default-part.ensures.ok in
+    let some : is_some (arena_of s.policy place.segment) ≡ true =
+    ap is_some (sym c.arena_of.ensures) ∙ (c.is_none.ensures ∙ ap not c.if-is_none.false) in
+    let arena = some_arena (arena_of s.policy place.segment) some in
+    let empty : s.hand ≡ None = none_in s.hand (sym c.if-is_some.ensures) in
+    let new = record old {
+      own = part_on c.part.new.self.inner.badge;
+      hand = Some c.args.handle;
+    } in
+    let decided : Decided number_in part_of_seat place word (word - 1)
+    ((word_of place, word_generation word) ∷ []) old new =
+    own_decides_twice number_in part_of_seat place word word (word - 1)
+    ((word_of place, word_generation word) ∷ []) old new
+    (part_on c.look-word.new.self.inner.badge) c.requires refl s.seat.inner.plain
+    c.look-word.ensures.step ok.0 ok.1 (freed_word_after word live).0
+    (λ es. is_ended (word_of place) word es live) in
+    let ties = free_parted number_in records_in old word c.args.actor c.args.handle s.below
+    c.requires none empty in (
+      word,
+      (live, decided),
+      machines_shown old new place word arena.0 (event.Free c.args.actor c.args.handle)
+          answer.Parted (shown_at place (word - 1)) (whole_of s c.settled.ensures.each) arena.1
+          decided.shown ties,
+    )

@@ -1,0 +1,79 @@
+use Rattle.std.proofs.Common.{◌-◌, [], ◌∷◌, refl}
+use Rattle.hg_place.specs.Lives.{word_generation}
+use Rattle.hg_heap.specs.Policies.{AreOf}
+use Rattle.hg_heap.specs.Ties.{shown_at}
+use Rattle.hg_heap.proofs.PolicyKept.{steps_keep_policy}
+use Rattle.hg_machine.specs.declared.Answer.TheVariants as answer
+use Rattle.hg_machine.specs.declared.Event.TheVariants as event
+use Rattle.hg_table.proofs.Told.{is_ended}
+use Rattle.hg_table.proofs.WordSteps.{freed_word_after}
+use Rattle.hg_worker.specs.Had.{hand_place, hand_generation}
+use Rattle.hg_worker.specs.Seats.{number_in, part_of_seat}
+use Rattle.hg_worker.specs.Seen.{word_of, Decided}
+use Rattle.hg_worker.specs.Workers.{had}
+use Rattle.hg_worker.proofs.Hands.{knows_still, stepped_grown, the_same}
+use Rattle.hg_worker.proofs.Seats.{arena_held, looked_held, machines_held, machines_shown}
+use Rattle.hg_worker.proofs.Steps.{either_end, held_decides, seat_shows, seat_steps}
+use Rattle.hg_worker.proofs.Workers.{whole_of}
+use Rattle.hg_worker.proofs.worker.Worker.free_here.Goals as goal
+
+pub invariant_of-self : goal.invariant_of-self
+invariant_of-self g c =
+    let s = c.args.self.now in
+    let kept = steps_keep_policy number_in (seat_shows number_in part_of_seat)
+    (seat_steps number_in part_of_seat) s.policy c.args.handle.place in
+    let of : AreOf number_in s.policy c.free_here.new.self.segments =
+    either_end c.free_here.result _ _ c.free_here.ensures.freed
+    (c.free_here.ensures.denied c.requires)
+    (λ e. kept e.0 (e.0 - 1) s.heap.segments c.free_here.new.self.segments e.2 s.of)
+    (λ _ e. kept e.0 e.0 s.heap.segments c.free_here.new.self.segments e.3 s.of) in
+    record {
+      serves = s.serves;
+      sound = s.sound;
+      below = s.below;
+      words = s.words;
+      of = of;
+      reach = s.reach;
+      known = either_end c.free_here.result _ _ c.free_here.ensures.freed
+          (c.free_here.ensures.denied c.requires)
+          (λ e. knows_still number_in part_of_seat (the_same (had s).own)
+          (stepped_grown number_in part_of_seat e.2) s.known)
+          (λ _ e. knows_still number_in part_of_seat (the_same (had s).own)
+          (stepped_grown number_in part_of_seat e.3) s.known);
+    }
+
+pub returns-in-Err-clause-refused : goal.returns-in-Err-clause-refused
+returns-in-Err-clause-refused g c = λ _.
+    let s = c.args.self.now in
+    let old = had s in
+    let place = c.args.handle.place in
+    let whole = whole_of s c.settled.ensures.each in
+    let e = c.in-Err.ensures.denied c.requires in
+    let ties = e.4 s.number (hand_place s.hand) (hand_generation s.hand) s.below in (
+      shown_at place e.0,
+      looked_held old _ place e.0 whole c.settled.ensures.once c.requires e.3 refl,
+      machines_held old _ place e.0 whole c.settled.ensures.once c.requires e.3 refl
+          (event.Free c.args.actor c.args.handle) c.refused_answer.result
+          (rw (c.refused_answer.ensures, e.2) ties),
+    )
+
+pub returns-clause-freed : goal.returns-clause-freed
+returns-clause-freed g c = λ _.
+    let s = c.args.self.now in
+    let old = had s in
+    let place = c.args.handle.place in
+    let whole = whole_of s c.settled.ensures.each in
+    let e = c.in_default.ensures.freed in
+    let ties = e.3 s.number (hand_place s.hand) (hand_generation s.hand) s.below in
+    let arena = arena_held old place.segment s.of c.requires in
+    let new = record old { heap = c.free_here.new.self } in
+    let decided : Decided number_in part_of_seat place e.0 (e.0 - 1)
+    ((word_of place, word_generation e.0) ∷ []) old new =
+    held_decides number_in part_of_seat place e.0 (e.0 - 1)
+    ((word_of place, word_generation e.0) ∷ []) old new c.settled.ensures.once e.2 refl
+    (freed_word_after e.0 e.1).0 (λ es. is_ended (word_of place) e.0 es e.1) in (
+      e.0,
+      (e.1, decided),
+      machines_shown old new place e.0 arena.0 (event.Free c.args.actor c.args.handle)
+          answer.Done (shown_at place (e.0 - 1)) whole arena.1 decided.shown ties,
+    )

@@ -1,0 +1,31 @@
+use Rattle.std.proofs.Common.{◌≡◌, [], ◌∷◌, true, not, is_some, refl, sym, ap, ◌∙◌}
+use Rattle.hg_heap.specs.Ties.{shown_at}
+use Rattle.hg_machine.specs.Policy.{arena_of}
+use Rattle.hg_worker.specs.Seats.{number_in, part_of_seat}
+use Rattle.hg_worker.specs.Workers.{had}
+use Rattle.hg_worker.specs.Seen.{word_of}
+use Rattle.hg_worker.proofs.Hands.{own_saw}
+use Rattle.hg_worker.proofs.Steps.{own_looks}
+use Rattle.hg_worker.proofs.worker.Worker.out_of_sight.Goals as goal
+
+pub returns-clause-judged : goal.returns-clause-judged
+returns-clause-judged g c =
+    let place = c.args.place in
+    let word = c.look-word.result in
+    let some : is_some (arena_of c.args.self.now.policy place.segment) ≡ true =
+    ap is_some (sym c.arena_of.ensures)
+    ∙ (c.is_none.ensures ∙ ap not c.if-is_none.false) in (
+      shown_at place word,
+      (
+        some,
+        refl,
+        own_looks number_in part_of_seat place word (had c.args.self.now) _ c.requires refl
+            c.look-word.ensures.shown c.look-word.ensures.step,
+      ),
+      c.unlisted_answer-2.ensures,
+    )
+
+pub invariant_of-self-clause-known : goal.invariant_of-self-clause-known
+invariant_of-self-clause-known g c =
+    own_saw number_in part_of_seat ((word_of c.args.place, c.look-word.result) ∷ [])
+    c.look-word.ensures.step.1 c.args.self.now.known

@@ -1,0 +1,10 @@
+pub mod Had
+pub mod Seats
+pub mod Seen
+pub mod Tied
+pub mod Met
+pub mod CallerLocked
+pub mod Hands
+pub mod Answers
+pub mod Names
+pub mod Workers

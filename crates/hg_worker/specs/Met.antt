@@ -1,0 +1,67 @@
+-- Two workers that have met at a place.
+use Rattle.std.specs.Prelude.{◌≡◌, ℕ, List, [], Option, Some, map}
+use mathlib.Core.Option.{some}
+use lib.ListN.{get_elem?}
+use Rattle.hg_place.specs.declared.Handle.{Handle}
+use Rattle.hg_place.specs.declared.Place.{Place}
+use Rattle.hg_place.specs.declared.standing.Standing.{Standing}
+use Rattle.hg_page.specs.PageLists.{PageLists}
+use Rattle.hg_segment.specs.Kept.{Kept}
+use Rattle.hg_heap.specs.Held.{Held}
+use Rattle.hg_table.specs.declared.view.Part.{Part}
+use Rattle.hg_table.specs.Seats.{HaveMet}
+use Rattle.hg_worker.specs.Had.{Had}
+use Rattle.hg_worker.specs.Seen.{word_of, part_for, Decided}
+
+module _ {S : Type 0} (number : S → ℕ) (part : S → Part) where
+  -- each has seen the word, by its seat for the place; it is at or after all that either has seen
+  -- there; neither has ended anything more, and no life of the place was ended by both
+  pub record HaveMetAt (place : Place) (word : ℕ) (one other one' other' : Had S) : Type 0 where
+    pub step : Decided number part place word word [] one one'
+    pub step_other : Decided number part place word word [] other other'
+    pub apart :
+        (k l generation : ℕ)
+        → get_elem? (part_for number part one place).ended k ≡ some (word_of place, generation)
+        → get_elem? (part_for number part other place).ended l ≡ some (word_of place, generation)
+        → ⊥
+
+-- all of a segment but what its seat knows
+pub record Rest : Type 0 where
+  pub number : ℕ
+  pub arena : ℕ
+  pub greatest : ℕ
+  pub standings : List Standing
+  pub words : List ℕ
+  pub classes : List (Option ℕ)
+  pub lists : List PageLists
+
+module _ {S : Type 0} (numbered : S → ℕ) (records : S → List Standing) where
+  abbrev pub rest_of : Kept S → Rest
+  rest_of k = record {
+    number = numbered k.slots;
+    arena = k.arena;
+    greatest = k.greatest;
+    standings = records k.slots;
+    words = k.words;
+    classes = k.classes;
+    lists = k.lists;
+  }
+
+  -- the heap has the same segments in the same order, but for what their seats know
+  abbrev pub KeepsHeap : Held S → Held S → Type 0
+  KeepsHeap old new =
+      (map rest_of new.segments ≡ map rest_of old.segments) × (new.queues ≡ old.queues)
+
+  -- A segment comes to a worker with this in hand. Where that is of one of its places, the seats of
+  -- the segment and of the worker meet there; else they are as they were. Nothing else of the
+  -- segment changes
+  pub record ComesTo (part : S → Part) (hand : Option Handle) (one one' : Kept S) (own own' : Part)
+      : Type 0 where
+    pub rest : rest_of one' ≡ rest_of one
+    pub met :
+        (handle : Handle) → hand ≡ Some handle → handle.place.segment ≡ numbered one.slots
+        → (word : ℕ)
+        × HaveMet (word_of handle.place) word (part one.slots) own (part one'.slots) own'
+    pub apart :
+        ((handle : Handle) → hand ≡ Some handle → handle.place.segment ≡ numbered one.slots → ⊥)
+        → (one' ≡ one) × (own' ≡ own)

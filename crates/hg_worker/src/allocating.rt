@@ -1,0 +1,57 @@
+//! Blocks are given out, and pages without open places lose their class.
+
+ghost use Rattle.std.specs.Prelude.{◌≡◌, ℕ, [], None, Some, MatchOption, IfSome, IfNone};
+ghost use Rattle.hg_place.specs.Lives.{live_word};
+ghost use Rattle.hg_machine.specs.declared.Event.TheVariants as Event;
+ghost use Rattle.hg_machine.specs.Request.{size_of};
+ghost use Rattle.hg_place.specs.Places.{number_of};
+ghost use Rattle.hg_heap.specs.Allotted.{IsAllotted};
+ghost use Rattle.hg_heap.specs.Choice.{chosen_place};
+ghost use Rattle.hg_heap.specs.Ties.{shown_at};
+ghost use Rattle.hg_worker.specs.Answers.{block_in};
+ghost use Rattle.hg_worker.specs.Seats.{number_in, records_in, seat_shows, seat_steps};
+ghost use Rattle.hg_worker.specs.Workers.{Decides, StaysUnseen, IsMachines, Keeps};
+
+use crate::answers::refused_answer;
+use crate::{ServiceName, Worker};
+use hg_machine::Answer;
+use hg_place::Actor;
+
+impl<N: ServiceName> Worker<N> {
+    /// Gives out a block of so many bytes, all words 0, of a segment of the arena that the worker
+    /// holds, by one step at its place.
+    pub fn alloc(&mut self, actor: Actor, arena: u8, bytes: u64) -> Answer
+        ensures alloc { MatchOption (block_in result)
+            (IsMachines None (Event.Alloc actor arena bytes) result None self.old self.new)
+            (λ handle. (word : ℕ)
+            × Decides handle.place word (live_word handle.generation actor.0) []
+            self.old self.new
+            × IsMachines (shown_at handle.place word) (Event.Alloc actor arena bytes) result
+            (shown_at handle.place (live_word handle.generation actor.0)) self.old self.new) }
+        ensures given { IfSome (block_in result) (λ handle. IsAllotted number_in records_in
+            seat_shows seat_steps (size_of bytes) actor.0 handle self.old.heap.segments
+            self.new.heap.segments) }
+        ensures chosen { IfSome (block_in result) (λ handle.
+            chosen_place number_in records_in self.old.heap arena (size_of bytes)
+            ≡ Some (number_of handle.place)) }
+        ensures refused { IfNone (block_in result) (StaysUnseen self.old self.new) }
+        ensures rest { Keeps self.old self.new }
+    {
+        self.heap.settled();
+        match self.heap.alloc(&self.policy, actor, arena, bytes) {
+            Ok(handle) => Answer::Block(handle),
+            Err(refused) => refused_answer(refused),
+        }
+    }
+
+    /// Takes the class from each page of the worker's that has no open place, and tells from how
+    /// many. No step is made.
+    pub fn collect_own(&mut self) -> Answer
+        ensures collect { IsMachines None Event.Collect result None self.old self.new }
+        ensures seats { StaysUnseen self.old self.new }
+        ensures rest { Keeps self.old self.new }
+    {
+        self.heap.settled();
+        Answer::Pages(self.heap.collect())
+    }
+}

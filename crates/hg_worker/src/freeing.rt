@@ -1,0 +1,87 @@
+//! Blocks are freed.
+
+ghost use Rattle.std.specs.Prelude.{◌≡◌, ℕ, ◌-◌, true, false, Option, IsTrue, IsFalse};
+ghost use Rattle.hg_machine.specs.declared.Event.TheVariants as Event;
+ghost use Rattle.hg_agreement.specs.Views.{Shown};
+ghost use Rattle.hg_heap.specs.Held.{is_held};
+ghost use Rattle.hg_heap.specs.Ties.{shown_at};
+ghost use Rattle.hg_worker.specs.Answers.{is_freed, hand_after};
+ghost use Rattle.hg_worker.specs.Seats.{number_in};
+ghost use Rattle.hg_worker.specs.Workers.{Ends, Looks, IsMachines};
+
+use crate::answers::{denied_answer, refused_answer};
+use crate::{ServiceName, Worker};
+use hg_decision::{Verdict, judge};
+use hg_machine::Answer;
+use hg_place::{Actor, Handle, Right};
+
+impl<N: ServiceName> Worker<N> {
+    /// Frees a block: `Done` where the worker holds its segment, and its place is home; else
+    /// `Parted`, and its place is in the worker's hand. One exchange ends the life. Where that
+    /// fails the answer is the verdict on the word that it found, and nothing is tried again.
+    pub fn free(&mut self, actor: Actor, handle: Handle) -> Answer
+        ensures freed { IsTrue (is_freed result) → (word : ℕ)
+            × Ends handle.place word self.old self.new
+            × IsMachines (shown_at handle.place word) (Event.Free actor handle) result
+            (shown_at handle.place (word - 1)) self.old self.new }
+        ensures refused { IsFalse (is_freed result) → (shown : Option Shown)
+            × Looks handle.place shown self.old self.new
+            × IsMachines shown (Event.Free actor handle) result shown self.old self.new }
+        ensures hand { self.new.hand ≡ hand_after result handle self.old.hand }
+    {
+        if self.heap.holds(handle.place.segment) {
+            return self.free_here(actor, handle);
+        }
+        self.free_away(actor, handle)
+    }
+
+    /// Frees a block of a segment that the worker holds.
+    fn free_here(&mut self, actor: Actor, handle: Handle) -> Answer
+        requires { is_held number_in self.old.heap.segments handle.place.segment ≡ true }
+        ensures freed { IsTrue (is_freed result) → (word : ℕ)
+            × Ends handle.place word self.old self.new
+            × IsMachines (shown_at handle.place word) (Event.Free actor handle) result
+            (shown_at handle.place (word - 1)) self.old self.new }
+        ensures refused { IsFalse (is_freed result) → (shown : Option Shown)
+            × Looks handle.place shown self.old self.new
+            × IsMachines shown (Event.Free actor handle) result shown self.old self.new }
+        ensures hand { self.new.hand ≡ hand_after result handle self.old.hand }
+    {
+        self.heap.settled();
+        if let Err(refused) = self.heap.free_here(&self.policy, actor, handle) {
+            return refused_answer(refused);
+        }
+        Answer::Done
+    }
+
+    /// Frees a block of another one.
+    fn free_away(&mut self, actor: Actor, handle: Handle) -> Answer
+        requires { is_held number_in self.old.heap.segments handle.place.segment ≡ false }
+        ensures freed { IsTrue (is_freed result) → (word : ℕ)
+            × Ends handle.place word self.old self.new
+            × IsMachines (shown_at handle.place word) (Event.Free actor handle) result
+            (shown_at handle.place (word - 1)) self.old self.new }
+        ensures refused { IsFalse (is_freed result) → (shown : Option Shown)
+            × Looks handle.place shown self.old self.new
+            × IsMachines shown (Event.Free actor handle) result shown self.old self.new }
+        ensures hand { self.new.hand ≡ hand_after result handle self.old.hand }
+    {
+        let place = handle.place;
+        self.heap.settled();
+        if self.policy.arena_of(place.segment).is_none() {
+            return denied_answer(&self.policy, actor, Right::Free, handle, 0);
+        }
+        let word = self.seat.look(place);
+        if let Verdict::Denied(rule) = judge(&self.policy, actor, Right::Free, handle, word) {
+            return Answer::Denied(rule);
+        }
+        if self.hand.is_some() {
+            return Answer::Busy;
+        }
+        if let Err(found) = self.seat.part(place, word) {
+            return denied_answer(&self.policy, actor, Right::Free, handle, found);
+        }
+        self.hand = Some(handle);
+        Answer::Parted
+    }
+}

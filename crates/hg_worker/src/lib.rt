@@ -1,0 +1,17 @@
+//! Workers of one service, each with a heap, a seat and a hand of its own. No call here takes a
+//! lock or waits.
+#![tactic(auto)]
+
+mod allocating;
+mod answers;
+mod caller_locked;
+mod freeing;
+mod kept_pool;
+mod meeting;
+mod name;
+mod reading;
+mod worker;
+
+pub use kept_pool::KeptPool;
+pub use name::ServiceName;
+pub use worker::Worker;
