@@ -115,8 +115,9 @@ enum hg_status {
     HG_NO_NAME = 68          /* nothing has the name, or no tenant the number */
 };
 
-/* An answer. What isn't said of a status is 0, but for hg_tenant and hg_arena: with each status but
- * HG_VALUE their value is 255, which no tenant and no arena has, so that every call refuses it. */
+/* An answer. What isn't said of a status is 0, but for hg_tenant, hg_arena and hg_holder: with each
+ * status but HG_VALUE their value is 255, which no tenant, arena and worker has, so that every call
+ * refuses it. */
 typedef struct hg_reply {
     uint16_t status;
     uint16_t owner;
@@ -157,6 +158,11 @@ hg_reply hg_refill(hg_core *core, uint32_t worker, uint32_t arena);
 hg_reply hg_workers(const hg_core *core);
 hg_reply hg_segments(const hg_core *core); /* of all arenas, numbered from 0 */
 hg_reply hg_holds(const hg_core *core, uint32_t worker, uint32_t segment); /* 1 or 0 */
+/* The worker that holds the segment, or HG_NOT_HELD. */
+hg_reply hg_holder(const hg_core *core, uint32_t segment);
+/* What counts against the tenant's limit with the worker, in bytes: HG_VALUE; or HG_NO_WORKER, or
+ * HG_NO_NAME of a number that no tenant has, with value 0. */
+hg_reply hg_charge(const hg_core *core, uint32_t worker, uint32_t tenant);
 hg_reply hg_tenant(const hg_core *core, const char *name, size_t name_length);
 hg_reply hg_arena(const hg_core *core, const char *name, size_t name_length);
 

@@ -157,6 +157,21 @@ public:
         return hg_holds(&core_, number(worker), number(segment)).value == 1;
     }
 
+    /// Who holds the segment, if somebody does.
+    std::optional<Worker> holder(Segment segment) const
+    {
+        return found<Worker>(hg_holder(&core_, number(segment)));
+    }
+
+    /// What counts against the tenant's limit with the worker, in bytes; nothing of a worker or a
+    /// tenant that isn't there.
+    std::optional<std::uint64_t> charge(Worker worker, Tenant tenant) const
+    {
+        Reply told = hg_charge(&core_, number(worker), number(tenant));
+        if (told.status != HG_VALUE) return std::nullopt;
+        return told.value;
+    }
+
     std::optional<Tenant> tenant(std::string_view name) const
     {
         return found<Tenant>(hg_tenant(&core_, name.data(), name.size()));

@@ -1,10 +1,12 @@
 /* agree EVENTS SEED FOLDER: gives seeded events to the library, and writes them as a policy, a
  * trace and the library's answers in heapguard's words, for `heapguard replay` to be compared
- * with. It says how often each status was answered, and fails where an event that should be common
- * never was served, or where one asked for memory or gave some back.
+ * with. It fails where a status never was answered, where an event asked for memory or gave some
+ * back, or where after one the core told another holder of a segment, or another charge, than the
+ * answers before add up to.
  */
 #include "heapguard.h"
 #include "counted.h"
+#include "holding.h"
 #include "seeded.h"
 #include <inttypes.h>
 #include <stdio.h>
@@ -121,7 +123,7 @@ static hg_reply on_block(unsigned w, unsigned what)
     switch (what) {
     case 0:
         fputc('\n', trace);
-        return hg_free(&core, w, actor, block);
+        return freed(w, block, hg_free(&core, w, actor, block));
     case 1:
         fprintf(trace, " %" PRIu32 "\n", index);
         return hg_read(&core, w, actor, block, index);
@@ -135,7 +137,8 @@ static hg_reply on_segment(unsigned w, unsigned what)
 {
     uint32_t segment = below(20) ? below(SEGMENTS) : below(64);
     fprintf(trace, "w%u %s %" PRIu32 "\n", w, what ? "take" : "abandon", segment);
-    return what ? hg_take(&core, w, segment) : hg_abandon(&core, w, segment);
+    return what ? taken(segment, hg_take(&core, w, segment))
+                : abandoned(segment, hg_abandon(&core, w, segment));
 }
 
 static hg_reply some_event(void)
@@ -146,7 +149,8 @@ static hg_reply some_event(void)
         uint64_t bytes = some_bytes();
         fprintf(trace, "w%u alloc %s %s %" PRIu64 "\n", w, ACTORS[actor], ARENA_NAMES[arena],
                 bytes);
-        return hg_alloc(&core, w, number(actor, TENANTS), number(arena, ARENAS), bytes);
+        actor = number(actor, TENANTS);
+        return given(actor, bytes, hg_alloc(&core, w, actor, number(arena, ARENAS), bytes));
     }
     if (kind < 50) return on_block(w, 0);
     if (kind < 62) return on_block(w, 1);
@@ -154,7 +158,7 @@ static hg_reply some_event(void)
     if (kind < 80) return on_block(w, 3);
     if (kind < 86) {
         fprintf(trace, "w%u deliver\n", w);
-        return hg_deliver(&core, w);
+        return delivered(w, hg_deliver(&core, w));
     }
     if (kind < 91) return on_segment(w, 1);
     if (kind < 92) return on_segment(w, 0);
@@ -164,7 +168,7 @@ static hg_reply some_event(void)
     }
     uint32_t arena = below(10) ? 0 : below(ARENAS + 1);
     fprintf(trace, "w%u refill %s\n", w, ARENA_NAMES[arena]);
-    return hg_refill(&core, w, number(arena, ARENAS));
+    return refilled(w, hg_refill(&core, w, number(arena, ARENAS)));
 }
 
 static FILE *made(const char *folder, const char *name)
@@ -189,7 +193,14 @@ int main(int words, char **word)
     answers = made(word[3], "answers");
     if (hg_open(&core, POLICY, sizeof POLICY - 1, NULL, 0).status != HG_DONE) return 1;
     unsigned long opened = asked;
-    for (long left = strtol(word[1], NULL, 10); left > 0; left--) put_answer(some_event());
+    nobody_holds();
+    unsigned wrong = 0;
+    for (long left = strtol(word[1], NULL, 10); left > 0; left--) {
+        put_answer(some_event());
+        wrong += told_wrongly(&core, WORKERS, TENANTS, SEGMENTS);
+    }
+    wrong += wrongly_taken;
+    if (wrong) printf("agree: %u times another holder, charge or take\n", wrong);
     int took = asked != opened;
     if (took) printf("agree: %lu requests for memory after the opening\n", asked - opened);
     hg_close(&core);
@@ -202,5 +213,5 @@ int main(int words, char **word)
         if (!answered[status]) printf("never answered: %s (%u)\n", text, status);
         missed += !answered[status];
     }
-    return missed || took;
+    return missed || took || wrong;
 }

@@ -9,7 +9,7 @@
 #include <string.h>
 
 enum { WORKER = 0, OTHER = 1, ALICE = 0, BOB = 1, MAIN = 0, VAULT = 1 };
-enum { ASKERS = 4, ROUNDS = 10000, WRITES = 1000, BLOCKS = 50, SEGMENTS = 2 };
+enum { ASKERS = 4, ROUNDS = 10000, WRITES = 1000, BLOCKS = 50, BYTES = 64, SEGMENTS = 2 };
 
 static const char POLICY[] =
     "version = 1\n"
@@ -36,9 +36,13 @@ static unsigned ask(const hg_core *of)
     unsigned wrong = 0;
     char room[16];
     wrong += !is(hg_workers(of), 2) + !is(hg_segments(of), SEGMENTS);
-    for (uint32_t segment = 0; segment < SEGMENTS; segment++)
+    for (uint32_t segment = 0; segment < SEGMENTS; segment++) {
+        wrong += !is(hg_holder(of, segment), holder[segment]);
         for (uint32_t worker = WORKER; worker <= OTHER; worker++)
             wrong += !is(hg_holds(of, worker, segment), holder[segment] == worker);
+    }
+    wrong += !is(hg_charge(of, WORKER, ALICE), BLOCKS * BYTES);
+    wrong += !is(hg_charge(of, OTHER, ALICE), 0) + !is(hg_charge(of, WORKER, BOB), 0);
     wrong += !is(hg_tenant(of, "alice", 5), ALICE) + !is(hg_tenant(of, "bob", 3), BOB);
     wrong += !is(hg_arena(of, "main", 4), MAIN) + !is(hg_arena(of, "vault", 5), VAULT);
     wrong += hg_tenant(of, "mallory", 7).status != HG_NO_NAME;
@@ -84,7 +88,7 @@ static unsigned run(void *(*asker)(void *), hg_handle block)
         pthread_rwlock_wrlock(&lock);
         all += hg_write(&core, WORKER, ALICE, block, n % 8, n).status != HG_DONE;
         all += !is(hg_read(&core, WORKER, ALICE, block, n % 8), n);
-        hg_handle own = hg_alloc(&core, WORKER, BOB, MAIN, 64).value;
+        hg_handle own = hg_alloc(&core, WORKER, BOB, MAIN, BYTES).value;
         all += hg_free(&core, WORKER, BOB, own).status != HG_DONE;
         all += move_vault();
         pthread_rwlock_unlock(&lock);
@@ -104,7 +108,7 @@ int main(void)
     lost += hg_refill(&core, WORKER, MAIN).status != HG_REFILLED;
     lost += hg_refill(&core, WORKER, VAULT).status != HG_REFILLED;
     for (uint32_t n = 0; n < BLOCKS; n++) {
-        block[n] = hg_alloc(&core, WORKER, ALICE, MAIN, 64).value;
+        block[n] = hg_alloc(&core, WORKER, ALICE, MAIN, BYTES).value;
         lost += hg_write(&core, WORKER, ALICE, block[n], 0, n).status != HG_DONE;
     }
     wrong += run(ask_freely, 0);

@@ -1,6 +1,7 @@
 /* careless: a host that looks at no status. It asks for the numbers of names that the policy lacks,
- * of bytes that are no text, and of a core that is closed, and acts by what it is given: it is told
- * nothing, and the block that another has stays as it was.
+ * of bytes that are no text, and of a core that is closed, and for the workers that hold segments
+ * which nobody holds, and acts by what it is given: it is told nothing, and the block that is there
+ * stays as it was.
  */
 #include "heapguard.h"
 #include <stdio.h>
@@ -28,21 +29,32 @@ static uint32_t arena(hg_core *core, const char *name)
     return (uint32_t)hg_arena(core, name, strlen(name)).value;
 }
 
-/* All that a tenant can do with a block of its own, and with one that it was told of. Gives what
- * the calls told: 0 where they told nothing. */
+static uint32_t holder(hg_core *core, uint32_t segment)
+{
+    return (uint32_t)hg_holder(core, segment).value;
+}
+
+/* All that a tenant can do by a worker with a block of its own, and with one that it was told of.
+ * Gives what the calls told: 0 where they told nothing. */
+static uint64_t told_by(uint32_t worker, hg_core *core, uint32_t actor, uint32_t where,
+                        hg_handle block)
+{
+    hg_handle own = hg_alloc(core, worker, actor, where, 64).value;
+    uint64_t all = own | hg_look(core, worker, actor, hg_place_of(block)).value;
+    for (uint32_t at = 0; at < WORDS; at++) {
+        all |= hg_read(core, worker, actor, block, at).value;
+        all |= hg_read(core, worker, actor, own, at).value;
+        hg_write(core, worker, actor, block, at, 0);
+        hg_write(core, worker, actor, own, at, 1);
+    }
+    hg_free(core, worker, actor, block);
+    hg_free(core, worker, actor, own);
+    return all;
+}
+
 static uint64_t told(hg_core *core, uint32_t actor, uint32_t where, hg_handle block)
 {
-    hg_handle own = hg_alloc(core, WORKER, actor, where, 64).value;
-    uint64_t all = own | hg_look(core, WORKER, actor, hg_place_of(block)).value;
-    for (uint32_t at = 0; at < WORDS; at++) {
-        all |= hg_read(core, WORKER, actor, block, at).value;
-        all |= hg_read(core, WORKER, actor, own, at).value;
-        hg_write(core, WORKER, actor, block, at, 0);
-        hg_write(core, WORKER, actor, own, at, 1);
-    }
-    hg_free(core, WORKER, actor, block);
-    hg_free(core, WORKER, actor, own);
-    return all;
+    return told_by(WORKER, core, actor, where, block);
 }
 
 int main(void)
@@ -58,6 +70,7 @@ int main(void)
     for (unsigned n = 0; n < NAMED; n++) {
         uint32_t nobody = tenant(&core, NAMES[n]), nowhere = arena(&core, NAMES[n]);
         failed += nobody != 255 || nowhere != 255;
+        failed += hg_charge(&core, WORKER, nobody).value != 0;
         failed += told(&core, nobody, open, block) != 0;
         failed += told(&core, nobody, nowhere, block) != 0;
         failed += told(&core, bob, nowhere, block) != 0;
@@ -66,6 +79,12 @@ int main(void)
     }
     failed += told(&core, tenant(&closed, "alice"), open, block) != 0;
     failed += told(&core, bob, arena(&closed, "main"), block) != 0;
+    for (uint32_t segment = 1; segment < 300; segment++) {
+        failed += told_by(holder(&core, segment), &core, alice, open, block) != 0;
+        failed += hg_charge(&core, holder(&core, segment), alice).value != 0;
+    }
+    failed += told_by(holder(&closed, 0), &core, alice, open, block) != 0;
+    failed += hg_charge(&closed, WORKER, alice).value != 0;
     for (uint32_t at = 0; at < WORDS; at++)
         failed += hg_read(&core, WORKER, alice, block, at).value != at + 100;
     failed += hg_free(&core, WORKER, alice, block).status != HG_DONE;

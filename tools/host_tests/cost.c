@@ -58,6 +58,8 @@ int main(void)
     char room[16];
     COST("question: how many workers", hg_workers(&core));
     COST("question: whether a worker holds", hg_holds(&core, n & 1, 0));
+    COST("question: who holds", hg_holder(&core, n & 1));
+    COST("question: what a tenant is charged", hg_charge(&core, 0, n & 1));
     COST("question: a tenant by its name", hg_tenant(&core, "bob", 3));
     COST("question: the name of a tenant", hg_tenant_name(&core, n & 1, room, sizeof room));
     COST("alloc, denied to a stranger", hg_alloc(&core, 0, 77, 0, 24));

@@ -81,11 +81,13 @@ static hg_reply any_call(hg_core *core, unsigned kind, char *room)
     case 12: return hg_tenant(core, name, below(9));
     case 13: return hg_arena(core, name, below(9));
     case 14: return hg_tenant_name(core, number(), room, below(ROOM + 1));
-    default: return hg_segments(core);
+    case 15: return hg_segments(core);
+    case 16: return hg_holder(core, number());
+    default: return hg_charge(core, w, number());
     }
 }
 
-enum { KINDS = 16 };
+enum { KINDS = 18 };
 
 static void try_closed(hg_core core)
 {
@@ -98,7 +100,8 @@ static void try_closed(hg_core core)
         unsigned kind = n % KINDS;
         hg_reply reply = any_call(&core, kind, room);
         int unnamed = kind == 1 || kind == 5 || kind == 6 || kind == 7;
-        int is_right = kind == 12 || kind == 13
+        int is_right = kind == 16 ? is_nobody(reply, HG_CLOSED)
+            : kind == 12 || kind == 13
             ? is_nobody(reply, HG_CLOSED) || is_nobody(reply, HG_NO_NAME)
             : is_plain(reply, HG_CLOSED) || (unnamed && is_plain(reply, HG_NO_BLOCK));
         if (!is_right) {
@@ -171,6 +174,10 @@ static void try_wide(hg_core *core, hg_handle block)
         CHECK(is_plain(hg_abandon(core, 0, wide), HG_NOT_HELD));
         CHECK(is_plain(hg_holds(core, wide, 0), HG_VALUE));
         CHECK(is_plain(hg_holds(core, 0, wide), HG_VALUE));
+        CHECK(is_nobody(hg_holder(core, wide), HG_NOT_HELD));
+        CHECK(is_plain(hg_charge(core, wide, 0), HG_NO_WORKER));
+        CHECK(is_plain(hg_charge(core, wide, wide), HG_NO_WORKER));
+        CHECK(is_plain(hg_charge(core, 0, wide), HG_NO_NAME));
         CHECK(is_plain(hg_tenant_name(core, wide, room, ROOM), HG_NO_NAME) && room[0] == 0);
     }
 }
@@ -187,6 +194,14 @@ static void try_open(void)
     CHECK(made.status == HG_BLOCK && made.value != 0);
     for (uint32_t at = 0; at < 8; at++)
         CHECK(is_plain(hg_write(&core, 0, 0, made.value, at, at + 100), HG_DONE));
+    CHECK(is_plain(hg_holder(&core, 0), HG_VALUE));
+    CHECK(is_nobody(hg_holder(&core, 1), HG_NOT_HELD));
+    CHECK(is_nobody(hg_holder(&core, 2), HG_NOT_HELD));
+    CHECK(hg_charge(&core, 0, 0).status == HG_VALUE && hg_charge(&core, 0, 0).value == 64);
+    CHECK(is_plain(hg_charge(&core, 0, 1), HG_VALUE));
+    CHECK(is_plain(hg_charge(&core, 1, 0), HG_VALUE));
+    CHECK(is_plain(hg_charge(&core, 0, 2), HG_NO_NAME));
+    CHECK(is_plain(hg_charge(&core, 2, 0), HG_NO_WORKER));
     CHECK(is_plain(hg_read(&core, 2, 0, made.value, 0), HG_NO_WORKER));
     CHECK(is_plain(hg_read(&core, 255, 0, made.value, 0), HG_NO_WORKER));
     CHECK(is_plain(hg_read(&core, 0, 0, 0, 0), HG_NO_BLOCK));

@@ -203,6 +203,18 @@ impl Core {
         unsafe { raw::hg_holds(&self.raw, worker.0, segment.0) }.value == 1
     }
 
+    /// Who holds the segment, if somebody does.
+    pub fn holder(&self, segment: Segment) -> Option<Worker> {
+        named(unsafe { raw::hg_holder(&self.raw, segment.0) }).map(Worker)
+    }
+
+    /// What counts against the tenant's limit with the worker, in bytes; nothing of a worker or a
+    /// tenant that isn't there.
+    pub fn charge(&self, worker: Worker, tenant: Tenant) -> Option<u64> {
+        let told = unsafe { raw::hg_charge(&self.raw, worker.0, tenant.0) };
+        (told.status == raw::VALUE).then_some(told.value)
+    }
+
     /// The tenant of this name.
     pub fn tenant(&self, name: &str) -> Option<Tenant> {
         named(unsafe { raw::hg_tenant(&self.raw, name.as_ptr(), name.len()) }).map(Tenant)
@@ -265,6 +277,31 @@ mod tests {
     }
 
     #[test]
+    fn holders_and_charges_are_told() {
+        let policy = "version = 1
+            workers = 2
+            tenant = [ {name = \"alice\", limit = 64}, {name = \"bob\", limit = 64} ]
+            arena = [ {name = \"main\", segments = 2} ]";
+        let mut core = Core::open(policy).unwrap();
+        core.refill(Worker(1), Arena(0)).unwrap();
+        let block = core.alloc(Worker(1), Tenant(0), Arena(0), 20).unwrap();
+        assert_eq!(core.holder(Segment(0)), Some(Worker(1)));
+        for unheld in [1, 2, 255, 256] {
+            assert_eq!(core.holder(Segment(unheld)), None);
+        }
+        let charge = |core: &Core, worker, tenant| core.charge(Worker(worker), Tenant(tenant));
+        assert_eq!(charge(&core, 1, 0), Some(24));
+        assert_eq!(charge(&core, 0, 0), Some(0));
+        assert_eq!(charge(&core, 1, 1), Some(0));
+        assert_eq!((charge(&core, 2, 0), charge(&core, 257, 0)), (None, None));
+        assert_eq!((charge(&core, 1, 2), charge(&core, 1, 256)), (None, None));
+        core.free(Worker(1), Tenant(0), block).unwrap();
+        assert_eq!(charge(&core, 1, 0), Some(0));
+        core.abandon(Worker(1), Segment(0)).unwrap();
+        assert_eq!(core.holder(Segment(0)), None);
+    }
+
+    #[test]
     fn threads_ask_at_once() {
         let policy = "version = 1
             workers = 2
@@ -279,6 +316,8 @@ mod tests {
                 assert_eq!(core.arena("attic"), None);
                 assert_eq!(core.tenant_name(Tenant(0)).as_deref(), Some("alice"));
                 assert!(core.holds(Worker(1), Segment(0)) && !core.holds(Worker(0), Segment(0)));
+                assert_eq!(core.holder(Segment(0)), Some(Worker(1)));
+                assert_eq!(core.charge(Worker(1), Tenant(0)), Some(0));
             }
         };
         std::thread::scope(|threads| {

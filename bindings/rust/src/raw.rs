@@ -71,6 +71,8 @@ extern "C" {
     pub fn hg_workers(core: *const RawCore) -> RawReply;
     pub fn hg_segments(core: *const RawCore) -> RawReply;
     pub fn hg_holds(core: *const RawCore, worker: u32, segment: u32) -> RawReply;
+    pub fn hg_holder(core: *const RawCore, segment: u32) -> RawReply;
+    pub fn hg_charge(core: *const RawCore, worker: u32, tenant: u32) -> RawReply;
     pub fn hg_tenant(core: *const RawCore, name: *const u8, name_length: usize) -> RawReply;
     pub fn hg_arena(core: *const RawCore, name: *const u8, name_length: usize) -> RawReply;
     pub fn hg_tenant_name(

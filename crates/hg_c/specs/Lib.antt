@@ -6,4 +6,5 @@ pub mod Calls
 pub mod Opening
 pub mod Asking
 pub mod Naming
+pub mod Holding
 pub mod Version

@@ -7,12 +7,14 @@ ghost use Rattle.hg_policy.specs.Names.{tenant_number, arena_number};
 ghost use Rattle.hg_c.specs.declared.asking.Question.TheVariants as question;
 ghost use Rattle.hg_c.specs.Asking.{Tells, answer_to};
 ghost use Rattle.hg_c.specs.Calls.{Serves, ServesOn, ServesAt, Closes, IsSame};
+ghost use Rattle.hg_c.specs.Holding.{TellsCharge, TellsHolder};
 ghost use Rattle.hg_c.specs.Naming.{Finds, TellsName, unnamed};
 ghost use Rattle.hg_c.specs.Numbers.{actor_of, byte_of};
 ghost use Rattle.hg_c.specs.Opening.{Opens};
 ghost use Rattle.hg_c.specs.Version.{release};
 
 use crate::asking::{Question, ask};
+use crate::holding::{tell_charge, tell_holder};
 use crate::host_core::HostCore;
 use crate::lent_core::LentCore;
 use crate::naming::{Name, find_name, find_number, unnamed};
@@ -237,6 +239,23 @@ pub extern "C" fn hg_holds(host: &LentCore, worker: u32, segment: u32) -> Reply
 {
     let (worker, segment) = (byte_of(worker), byte_of(segment));
     ask(host, Question::Holds { worker, segment })
+}
+
+/// The worker that holds the segment; with each status but that of a number, 255, which is no
+/// worker's.
+#[unsafe(no_mangle)]
+pub extern "C" fn hg_holder(host: &LentCore, segment: u32) -> Reply
+    ensures { TellsHolder host.now (byte_of segment) result }
+{
+    tell_holder(host, byte_of(segment))
+}
+
+/// What counts against a tenant's limit with a worker, in bytes.
+#[unsafe(no_mangle)]
+pub extern "C" fn hg_charge(host: &LentCore, worker: u32, tenant: u32) -> Reply
+    ensures { TellsCharge host.now worker (byte_of tenant) result }
+{
+    tell_charge(host, worker, byte_of(tenant))
 }
 
 /// The number of the tenant of this name; with each status but that of a number, 255, which is

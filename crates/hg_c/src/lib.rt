@@ -7,6 +7,7 @@ mod answering;
 mod asking;
 mod box_pointer;
 mod exports;
+mod holding;
 mod host_core;
 mod lent_core;
 mod naming;

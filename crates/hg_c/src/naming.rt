@@ -12,11 +12,11 @@ use crate::telling::tell;
 use hg_core::Core;
 
 /// No tenant, or no arena, has the name; or no tenant the number.
-const NO_NAME: u16 = 68;
+pub const NO_NAME: u16 = 68;
 
 /// The number of nobody and of nothing. A call is refused with it, so that a host which doesn't
 /// look at the status of a look-up that failed acts in no tenant's name.
-const NOBODY: u64 = 255;
+pub const NOBODY: u64 = 255;
 
 /// A name of a policy.
 #[derive(Clone, Copy)]

@@ -25,7 +25,7 @@ pub const NO_BLOCK: u16 = 66;
 
 /// The worker of a number, if the core's policy has one.
 #[inline(always)]
-fn worker_of(core: &Core, number: u32) -> Option<u8>
+pub fn worker_of(core: &Core, number: u32) -> Option<u8>
     ensures { MatchOption result (core.now.state.policy.workers ≤ number)
         (λ worker. (number ≡ worker) × (worker < core.now.state.policy.workers)) }
 {

@@ -1,0 +1,37 @@
+-- Who holds a segment, and what a tenant is charged with a worker.
+use Rattle.std.specs.Prelude.{◌≡◌, ◌≢◌, ℕ, ◌<◌, ◌≤◌, Option, Some, None, length}
+use Rattle.hg_machine.specs.Charge.{charge}
+use Rattle.hg_machine.specs.Lists.{Kept}
+use Rattle.hg_machine.specs.State.{holder_at}
+use Rattle.hg_core.specs.Held.{worker_in}
+use Rattle.hg_c.specs.declared.reply.Reply.{Reply}
+use Rattle.hg_c.specs.declared.lent_core.LentCore.{LentCore}
+use Rattle.hg_c.specs.Naming.{nobody}
+use Rattle.hg_c.specs.Owning.{open_mark}
+use Rattle.hg_c.specs.Replies.{closed, no_worker, no_name, valued}
+
+-- the worker, or that nobody holds the segment
+abbrev pub holding : Option ℕ → Reply
+holding (Some worker) = valued 4 worker
+holding None = valued 22 nobody
+
+-- Where nobody holds the segment, or the core is closed, the value is nobody's
+pub record TellsHolder (host : LentCore) (segment : ℕ) (reply : Reply) : Type 0 where
+  pub shut : host.mark ≢ open_mark → reply ≡ valued 64 nobody
+  pub told :
+      host.mark ≡ open_mark → reply ≡ holding (worker_in (holder_at host.core.state segment))
+
+-- what counts against the tenant's limit with the worker; a worker that the policy lacks is
+-- answered so, and then a tenant that it lacks
+pub record IsCharged (core : Kept) (worker tenant : ℕ) (reply : Reply) : Type 0 where
+  pub unknown : core.state.policy.workers ≤ worker → reply ≡ no_worker
+  pub stranger :
+      worker < core.state.policy.workers → length core.state.policy.tenants ≤ tenant
+      → reply ≡ no_name
+  pub charged :
+      worker < core.state.policy.workers → tenant < length core.state.policy.tenants
+      → reply ≡ valued 4 (charge core.state worker tenant)
+
+pub record TellsCharge (host : LentCore) (worker tenant : ℕ) (reply : Reply) : Type 0 where
+  pub shut : host.mark ≢ open_mark → reply ≡ closed
+  pub told : host.mark ≡ open_mark → IsCharged host.core worker tenant reply
