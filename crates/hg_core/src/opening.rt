@@ -1,6 +1,6 @@
 //! What a core opens with.
 
-ghost use Rattle.std.specs.Prelude.{◌≡◌, ◌<◌, [], None, IfOk, length, replicate};
+ghost use Rattle.std.specs.Prelude.{◌≡◌, ◌<◌, [], None, IfOk, length, replicate, vec_capacity};
 ghost use Rattle.std.specs.Box.{boxed_slice_items};
 ghost use Rattle.std.specs.List.{AllByRecursion};
 ghost use Rattle.hg_remote.specs.Remote.{nothing_sent};
@@ -27,6 +27,22 @@ fn empty_heap(alloc: Global) -> Result<Heap<PlainWords>, AllocError>
     Ok(heap)
 }
 
+/// A heap without segments for each worker, with no page in a queue, in room for no more.
+fn heaps_for(alloc: Global, workers: u8) -> Result<Vec<Heap<PlainWords>>, AllocError>
+    ensures all { IfOk result (λ heaps. length heaps.items ≡ workers) }
+    ensures none { IfOk result
+        (λ heaps. AllByRecursion (λ heap. heap.segments ≡ []) heaps.items) }
+    ensures queues { IfOk result
+        (λ heaps. AllByRecursion (λ heap. heap.queues ≡ empty_queues) heaps.items) }
+    ensures room { IfOk result (λ heaps. vec_capacity heaps ≡ workers) }
+{
+    let mut heaps = Vec::with_capacity(alloc, usize::from(workers))?;
+    for _ in 0..workers {
+        heaps.push_reserved(empty_heap(alloc)?);
+    }
+    Ok(heaps)
+}
+
 /// A heap without segments for each worker, with no page in a queue.
 pub(crate) fn empty_heaps(
     alloc: Global,
@@ -38,11 +54,21 @@ pub(crate) fn empty_heaps(
     ensures queues { IfOk result (λ heaps.
         AllByRecursion (λ heap. heap.queues ≡ empty_queues) (boxed_slice_items heaps)) }
 {
-    let mut heaps = Vec::with_capacity(alloc, usize::from(workers))?;
-    for _ in 0..workers {
-        heaps.push_reserved(empty_heap(alloc)?);
-    }
+    let heaps = heaps_for(alloc, workers)?;
     Ok(heaps.into_boxed_slice())
+}
+
+/// A remote list to which nothing was sent for each segment, in room for no more.
+fn remotes_for(alloc: Global, segments: u8) -> Result<Vec<RemoteList>, AllocError>
+    ensures unsent { IfOk result
+        (λ remotes. remotes.items ≡ replicate segments nothing_sent) }
+    ensures room { IfOk result (λ remotes. vec_capacity remotes ≡ segments) }
+{
+    let mut remotes = Vec::with_capacity(alloc, usize::from(segments))?;
+    for _ in 0..segments {
+        remotes.push_reserved(RemoteList::new(alloc)?);
+    }
+    Ok(remotes)
 }
 
 /// A remote list to which nothing was sent for each segment.
@@ -53,10 +79,7 @@ pub(crate) fn empty_remotes(
     ensures { IfOk result
         (λ remotes. boxed_slice_items remotes ≡ replicate segments nothing_sent) }
 {
-    let mut remotes = Vec::with_capacity(alloc, usize::from(segments))?;
-    for _ in 0..segments {
-        remotes.push_reserved(RemoteList::new(alloc)?);
-    }
+    let remotes = remotes_for(alloc, segments)?;
     Ok(remotes.into_boxed_slice())
 }
 

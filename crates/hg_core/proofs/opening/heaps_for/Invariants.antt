@@ -1,7 +1,7 @@
 use Rattle.std.proofs.Common.{◌≡◌, [], length, vec_capacity}
 use Rattle.std.specs.List.{AllByRecursion}
 use Rattle.hg_core.specs.Opening.{empty_queues}
-use Rattle.hg_core.proofs.opening.empty_heaps.Given as goal
+use Rattle.hg_core.proofs.opening.heaps_for.Given as goal
 
 abbrev pub invariant-loop : goal.invariant-loop
 invariant-loop l = record {

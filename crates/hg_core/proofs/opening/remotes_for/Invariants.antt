@@ -1,6 +1,6 @@
 use Rattle.std.proofs.Common.{◌≡◌, vec_len, vec_capacity, replicate}
 use Rattle.hg_remote.specs.Remote.{nothing_sent}
-use Rattle.hg_core.proofs.opening.empty_remotes.Given as goal
+use Rattle.hg_core.proofs.opening.remotes_for.Given as goal
 
 abbrev pub invariant-loop : goal.invariant-loop
 invariant-loop l = record {
