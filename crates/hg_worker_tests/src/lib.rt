@@ -1,0 +1,11 @@
+//! Workers of one service, called in turn: what each call answers.
+#![tactic(auto)]
+
+#[cfg(test)]
+mod lent_forms;
+#[cfg(test)]
+mod meets;
+#[cfg(test)]
+mod rows;
+#[cfg(test)]
+mod services;
