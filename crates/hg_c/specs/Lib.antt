@@ -1,6 +1,7 @@
 pub mod Owning
 pub mod Numbers
 pub mod Replies
+pub mod ReplyLaws
 pub mod Telling
 pub mod Calls
 pub mod Opening

@@ -9,6 +9,7 @@ mod box_pointer;
 mod exports;
 mod holding;
 mod host_core;
+mod laws;
 mod lent_core;
 mod naming;
 mod numbers;
