@@ -1,15 +1,16 @@
 # For bin/heapguard and bin/build-lib, after tools/words.sh. They set `root`, `called` (the script),
-# `crate` (what it builds) and `program` (the file that comes of it), and have `place`, which puts
+# `crate` (what it builds) and `program` (the file that comes of it), and have `finish`, which puts
 # that file in its place. Here: whether it is built from the sources and the kit as they stand, and
-# proving and building it, each crate once all that it stands on is proved, and as many side by side
-# as there is room for.
+# proving it: the kit's gate, `rt ci`, in a copy of the crates that it stands on. That proves crates
+# side by side, and keeps each on this machine as soon as it is proved.
 # shellcheck shell=sh disable=SC2154
 # shellcheck disable=SC2034 # for bin/build-lib
 folder=$root/crates/$crate
 made=$(dirname -- "$program")
 record=$made/made_from # what the program was made from; its time is that before the build
-logs=$made/logs           # of each crate, what its proof said
-job='' clock='' scratch='' kept='' running='' takes='20 to 40 minutes on four cores'
+log=$made/log          # what the last build said
+job='' clock='' scratch='' copy='' began='' store=''
+takes='20 to 40 minutes on four cores' # TAKES
 
 need_rt() {
     command -v rt >/dev/null 2>&1 || stop 127 "the command rt of the Rattle kit is not on the PATH"
@@ -31,11 +32,9 @@ lines() {
 
 crates() { lines | sed 's/[ :].*//'; }
 
-# The crates that a build proves, lowest first.
+# The crates that a build proves, lowest first; and those of them that the gate does.
 steps() { crates; }
-
-# CRATE: those of the steps that it stands on.
-needs() { lines | sed -n "s/^$1\( [^:]*\)\{0,1\}://p"; }
+gated() { steps; }
 
 # What the program is made from besides its sources: the kit, and these lines. With no rt that runs,
 # the kit that was recorded.
@@ -64,19 +63,13 @@ is_fresh() {
     fi
 }
 
-has_kept_work() {
-    for it in $(crates); do
-        [ ! -d "$root/crates/$it/out/incremental" ] || return 0
-    done
-    return 1
-}
-
-# WHAT: says on a terminal, each second, what is being done and for how long.
+# TELL: says on a terminal, each second, what this command writes, as far as a line of it has room.
 tick() {
-    began=$(date +%s)
+    # shellcheck disable=SC2046 # two numbers
+    set -- "$1" $(stty size <&2 2>/dev/null)
+    [ "${3:-0}" -gt 1 ] || set -- "$1" 24 80
     while kill -0 $$ 2>/dev/null; do
-        passed=$(($(date +%s) - began))
-        printf '\r%s, %d:%02d \033[K' "$1" $((passed / 60)) $((passed % 60)) >&2
+        printf '\r%.*s\033[K' "$(($3 - 1))" "$("$1")" >&2
         sleep 1
     done
 }
@@ -89,15 +82,19 @@ hush() {
     printf '\r\033[K' >&2
 }
 
-# WHAT COMMAND: runs the command and gives its status. It runs beside this shell, so that a signal
+# How many seconds it is since the first command began that was watched; and as a clock's.
+passed() { echo $(($(date +%s) - began)); }
+since() { printf '%d:%02d' $(($(passed) / 60)) $(($(passed) % 60)); }
+
+# TELL COMMAND: runs the command and gives its status. It runs beside this shell, so that a signal
 # to the shell ends both at once.
 watch() {
-    what=$1
+    tell=$1 began=${began:-$(date +%s)}
     shift
     "$@" &
     job=$!
     if [ -t 2 ]; then
-        tick "$what" &
+        tick "$tell" &
         clock=$!
     fi
     ended=0
@@ -109,43 +106,43 @@ watch() {
 
 # STATUS: ends what runs beside, and says what is left of it.
 interrupted() {
-    trap '' INT TERM
-    end_all
+    trap '' INT TERM HUP
+    if [ -n "$job" ]; then
+        # (the gate and all that it started; or a command that has no session of its own)
+        kill -- "-$job" 2>/dev/null || kill "$job" 2>/dev/null || true
+        wait "$job" 2>/dev/null || true
+    fi
     hush
-    stop "$1" "stopped${kept:+: $kept}"
+    stop "$1" "stopped${store:+$(what_is_kept)}"
 }
 
-# Ends all that runs beside this shell.
-end_all() {
-    for it in $job $running; do kill "${it#*=}" 2>/dev/null || true; done
-    for it in $job $running; do wait "${it#*=}" 2>/dev/null || true; done
-    job='' running=''
+# What of the proofs is kept so far: the kit keeps them beside itself, while 5,000 MB are left there.
+what_is_kept() {
+    left=$(df -Pk "$store" 2>/dev/null | awk 'NR == 2 { print int($4 / 1024) }')
+    if [ ! -w "$store" ]; then
+        echo ": nothing is kept, since there is no folder $store to write in"
+    elif [ "${left:-5000}" -lt 5000 ]; then
+        echo ": what was proved while the disk of $store had 5,000 MB free is kept"
+    else
+        echo ": what is proved so far is kept, and the next call goes on from there"
+    fi
 }
 
-# Both ends of what runs beside: at a signal, and when this shell ends.
+# Removes what is of this call alone. (What was ended just now may still be writing there.)
+clean() {
+    rm -f "$record.$$" "$program.$$"
+    for _ in 1 2 3 4 5; do
+        [ -e "$scratch" ] || return 0
+        rm -rf "$scratch" 2>/dev/null || sleep 0.5
+    done
+}
+
+# What runs beside ends at a signal, and what is of this call alone when this shell ends.
 guard() {
+    trap 'interrupted 129' HUP
     trap 'interrupted 130' INT
     trap 'interrupted 143' TERM
-    trap 'rm -rf "$scratch" "$scratch.jobs"' EXIT
-}
-
-# CRATE JOBS: proves it with so many jobs, or as rt finds best, and builds the program where it is
-# that. rt run runs the program that it built: here on the example, whose output is not wanted.
-prove() {
-    cd "$root/crates/$1" || exit
-    case $1 in
-        heapguard) exec rt run ${2:+--jobs "$2"} <"$root/examples/first.txt" >/dev/null 2>>"$log" ;;
-        *) exec rt lib ${2:+--jobs "$2"} </dev/null >>"$log" 2>&1 ;;
-    esac
-}
-
-# How many crates may be proved at once: one for each core, and for each 4 GB of memory to be had.
-room_for() {
-    cores=$(nproc 2>/dev/null || echo 1)
-    fitting=$(awk '/^MemAvailable:/ { print int($2 / 4000000) }' /proc/meminfo 2>/dev/null)
-    [ "${fitting:-1}" -ge 1 ] || fitting=1
-    [ "$cores" -le "${fitting:-1}" ] || cores=${fitting:-1}
-    echo "$cores"
+    trap clean EXIT
 }
 
 # CRATE: how much there is of it to prove, in bytes of its sources, definitions and proofs.
@@ -154,118 +151,103 @@ weight() {
         \( -name '*.rt' -o -name '*.antt' \) -exec cat {} + 2>/dev/null | wc -c
 }
 
-# CRATE JOBS: begins to prove it, beside this shell. How that ended stands in a file then.
-begin() {
-    (
-        beside=''
-        trap 'kill $beside 2>/dev/null; wait $beside; exit 143' TERM
-        log=$logs/$1.log
-        true >"$log"
-        prove "$@" &
-        beside=$!
-        ended=0
-        wait "$beside" || ended=$?
-        echo "$ended" >"$scratch.jobs/$1"
-    ) &
-    running="$running $1=$!"
-}
-
-# WORDS: how many.
-count() { echo $#; }
-
-# Begins what stands on nothing that isn't proved yet, while there is room. What is proved alone is
-# given as many jobs as rt finds best.
-begin_what_can() {
-    later='' can=''
-    for it in $waiting; do
-        ready=yes
-        for need in $(needs "$it"); do
-            case " $waiting $running" in *" $need "* | *" $need="*) ready='' ;; esac
+# Makes the copy, which is the top of a repository to the gate: the crates that it is to prove,
+# without their must-fail edits, which it would try too, and without what was built in the tree.
+copy_crates() {
+    mkdir "$copy" "$copy/.git" "$copy/crates" || return
+    cp "$root/HANDLES" "$copy/" || return
+    for it in $(gated); do
+        lines | grep "^${it}[ :]" >>"$copy/crates.txt" || return
+        mkdir "$copy/crates/$it" || return
+        for part in "$root/crates/$it"/*; do
+            case ${part##*/} in
+                out | must-fail) ;;
+                *) cp -R "$part" "$copy/crates/$it/" || return ;;
+            esac
         done
-        if [ -n "$ready" ]; then can="$can $it"; else later="$later $it"; fi
     done
-    waiting=$later
-    # shellcheck disable=SC2086 # one word for each crate
-    if [ "$room" = 1 ] || [ "$(count $running $can)" = 1 ]; then jobs=''; else jobs=1; fi
-    for it in $can; do
-        # shellcheck disable=SC2086
-        if [ "$(count $running)" -lt "$room" ]; then
-            begin "$it" "$jobs"
-        else
-            waiting="$waiting $it"
-        fi
-    done
-    waiting="$waiting "
+    chmod -R u+w "$copy"
 }
 
-# Takes in what ended: those that are proved, and one that failed.
-take_in() {
-    still=''
-    for it in $running; do
-        name=${it%%=*}
-        if [ ! -s "$scratch.jobs/$name" ]; then
-            still="$still $it"
-        elif [ "$(cat "$scratch.jobs/$name")" = 0 ]; then
-            proved=$((proved + 1)) done_of=$((done_of + $(weight "$name")))
-        else
-            failed=$name
-        fi
-    done
-    running=$still
+# The gate, in a session of its own, so that what it starts can be ended with it. As root it runs
+# the program as nobody, who has to get to the folder of what is temporary.
+prove() {
+    mkdir "$scratch/tmp" && chmod 711 "$scratch" "$scratch/tmp" && cd "$copy" || exit
+    exec env TMPDIR="$scratch/tmp" setsid rt ci </dev/null >>"$log" 2>&1
 }
 
-# On a terminal: how many crates are proved, which are being proved, for how long already, and for
-# how long still, by how much there was of those that are.
-show() {
-    [ -t 2 ] || return 0
-    passed=$(($(date +%s) - began))
-    names=$(for it in $running; do printf ' %s' "${it%%=*}"; done)
-    still=''
-    if [ "$passed" -ge 60 ] && [ "$done_of" -gt 0 ]; then
-        left=$(((all_of - done_of) * passed / done_of / 60 + 1))
-        still=", about $left minutes still"
-    fi
-    printf '\r%d of %d crates proved, now%s, %d:%02d%s \033[K' "$proved" "$of" "$names" \
-        $((passed / 60)) $((passed % 60)) "$still" >&2
+# Of how many crates how many are proved, as the gate's log tells, in what time; about how long the
+# others take, by how much there was of those that weren't kept from earlier; and which are being
+# proved: those whose library is begun, or in the end the crate above all.
+progress() {
+    awk -v top="$crate" -v since="$(since)" -v passed="$(passed)" \
+        -v begun=" $(cd "$copy/crates" 2>/dev/null && echo ./*/out/rlib) " '
+        FNR == NR { name[++of] = $1; much[$1] = $2; left += $2; next }
+        $1 != "rt:" || !($2 in much) || ($2 in told) { next }
+        $3 == "proved" && NF == 3 { did += much[$2]; proved++; told[$2] }
+        $3 == "is" && $4 == "kept:" { proved++; told[$2] }
+        $3 == "NOT" { failed++; told[$2] }
+        $2 in told { left -= much[$2] }
+        END {
+            printf "%d of %d crates proved in %s", proved, of, since
+            if (failed) printf ", %d failed", failed
+            still = did ? int(left * passed / did / 60) + 1 : 0
+            if (still && passed >= 60) printf ", about %d minutes still", still
+            now = "; now"
+            for (at = 1; at <= of; at++) {
+                it = name[at]
+                if (it in told) continue
+                if (!index(begun, " ./" it "/") && (it != top || proved + failed < of - 1)) continue
+                printf "%s %s", now, it
+                now = ""
+            }
+        }' "$scratch/weights" "$log"
 }
 
-# Proves all steps. Where one fails its name is `failed`, and the others end.
-prove_all() {
-    waiting=$(steps | tr '\n' ' ') of=$(steps | wc -l) room=$(room_for) proved=0 failed=''
-    began=$(date +%s) done_of=0 all_of=0
-    for it in $waiting; do all_of=$((all_of + $(weight "$it"))); done
-    mkdir -p "$scratch.jobs"
-    while [ -z "$failed" ]; do
-        begin_what_can
-        [ -n "$running" ] || break
-        show
-        sleep 0.2
-        take_in
-    done
-    end_all
-    [ ! -t 2 ] || printf '\r\033[K' >&2
-    [ -z "$failed" ]
+# Says what failed, by the gate's log, and ends: the crate's errors, or what else it said last.
+failed() {
+    name=$(awk '$1 == "rt:" && $3 " " $4 == "NOT PROVED" { print $2; exit }' "$log")
+    awk -v ending="rt: $name NOT PROVED" '
+        /^== / { errors = 0; lines = 0; next }
+        $0 == ending { exit }
+        /(^|: )error/ { if (errors < 3) error[++errors] = $0 }
+        { line[lines++ % 3] = $0 }
+        END {
+            for (at = 1; at <= errors; at++) print error[at]
+            if (!errors)
+                for (at = lines > 3 ? lines - 3 : 0; at < lines; at++) print line[at % 3]
+        }' "$log" >&2
+    stop 125 "not built${name:+, since $name failed}; all of it is in $log"
+}
+
+# FILE: puts it where the program is to be, all at once and as old as the record.
+place() {
+    cp "$1" "$program.$$" && touch -r "$record.$$" "$program.$$" && mv -f "$program.$$" "$program"
 }
 
 build() {
     need_rt
-    scratch=$record.$$
-    { mkdir -p "$made" "$logs" && true >"$scratch"; } 2>/dev/null \
+    { mkdir -p "$made" && true >"$record.$$"; } 2>/dev/null \
         || stop 126 "not built for the sources as they stand, and cannot write in $made"
-    made_from >"$scratch"
-    if has_kept_work; then
-        say "building again: only what is new or has changed is proved; progress is in $logs"
-    else
-        say "proving and building first, which takes $takes; progress is in $logs"
-    fi
-    kept="what is proved so far is kept, and the next call goes on from there"
     guard
-    if ! prove_all; then
-        tail -n 3 "$logs/$failed.log" >&2
-        stop 125 "not built, since $failed failed; all of it is in $logs/$failed.log"
+    made_from >"$record.$$"
+    if [ -f "$program" ] || [ -s "$log" ]; then
+        say "building again: only what is new or has changed is proved; progress is in $log"
+    else
+        say "proving and building first, which takes $takes; progress is in $log"
     fi
-    place || stop 126 "cannot write in $made"
-    mv "$scratch" "$record"
-    rm -rf "$scratch.jobs"
-    trap - INT TERM EXIT
+    kit=$(dirname -- "$(rt doc)")
+    store=$(dirname -- "$kit")/rattle-kept
+    true >"$log"
+    scratch=$(mktemp -d 2>>"$log") || stop 126 "cannot write in ${TMPDIR:-/tmp}"
+    copy=$scratch/copy
+    for it in $(steps); do echo "$it $(weight "$it")"; done >"$scratch/weights"
+    if [ -n "$(gated)" ]; then
+        copy_crates 2>>"$log" || stop 126 "cannot copy the crates to $copy; $log says why"
+        watch progress prove || failed
+    fi
+    finish
+    mv "$record.$$" "$record"
+    clean
+    trap - INT TERM HUP EXIT
 }

@@ -5,6 +5,8 @@
 # then tells so.
 lend() { cat -- "$2" >"$scratch/$1" 2>/dev/null || rm -f "$scratch/$1"; }
 
+compiling() { echo "compiling, unproved, $(since)"; }
+
 try() {
     cd "$folder" || exit
     exec rt try "$@" <&3 2>"$scratch/said"
@@ -34,7 +36,7 @@ unproved() {
     done
     say "unproved: compiling the sources as they stand, in a minute or two; no proof is checked"
     answer=0
-    watch "compiling, unproved" try "$@" || answer=$?
+    watch compiling try "$@" || answer=$?
     case $(tail -n 1 "$scratch/said") in
         "run=ended status="*)
             sed '/^\(checked\|interpreter\): /d; /^run=ended /d' "$scratch/said" >&2
