@@ -204,17 +204,26 @@ progress() {
         }' "$scratch/weights" "$log"
 }
 
-# Says what failed, by the gate's log, and ends: the crate's errors, or what else it said last.
+# Says what failed, by the gate's log, and ends: where the crate isn't proved and why, or what else
+# was said of it last. The log then names files as they stand in the tree.
 failed() {
+    awk -v copy="$copy/" -v root="$root/" '
+        {
+            while (at = index($0, copy))
+                $0 = substr($0, 1, at - 1) root substr($0, at + length(copy))
+            print
+        }' "$log" >"$scratch/log" && cat "$scratch/log" >"$log"
     name=$(awk '$1 == "rt:" && $3 " " $4 == "NOT PROVED" { print $2; exit }' "$log")
     awk -v ending="rt: $name NOT PROVED" '
-        /^== / { errors = 0; lines = 0; next }
+        /^== / { reasons = 0; lines = 0; next }
         $0 == ending { exit }
-        /(^|: )error/ { if (errors < 3) error[++errors] = $0 }
+        /^(note: )?[^ ]+:[0-9]+:[0-9]+: |^error|^fn .*: (no proof|not proved)/ {
+            if (reasons < 3 && !/which is not proved$/) reason[++reasons] = $0
+        }
         { line[lines++ % 3] = $0 }
         END {
-            for (at = 1; at <= errors; at++) print error[at]
-            if (!errors)
+            for (at = 1; at <= reasons; at++) print reason[at]
+            if (!reasons)
                 for (at = lines > 3 ? lines - 3 : 0; at < lines; at++) print line[at % 3]
         }' "$log" >&2
     stop 125 "not built${name:+, since $name failed}; all of it is in $log"
