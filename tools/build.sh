@@ -116,7 +116,7 @@ interrupted() {
     stop "$1" "stopped${store:+$(what_is_kept)}"
 }
 
-# What of the proofs is kept so far: the kit keeps them beside itself, while 5,000 MB are left there.
+# What of the proofs is kept: the kit keeps them beside itself, while 5,000 MB are left there.
 what_is_kept() {
     left=$(df -Pk "$store" 2>/dev/null | awk 'NR == 2 { print int($4 / 1024) }')
     if [ ! -w "$store" ]; then
@@ -169,11 +169,18 @@ copy_crates() {
     chmod -R u+w "$copy"
 }
 
-# The gate, in a session of its own, so that what it starts can be ended with it. As root it runs
-# the program as nobody, who has to get to the folder of what is temporary.
+# COMMAND: becomes it, in a session of its own, so that what it starts can be ended with it, and
+# with a folder for what is temporary, of which a command that was ended leaves much. (As root the
+# gate runs the program as nobody, who has to get there.)
+become() {
+    mkdir -p "$scratch/tmp" || exit
+    chmod 711 "$scratch" "$scratch/tmp" || exit
+    exec env TMPDIR="$scratch/tmp" setsid "$@" </dev/null >>"$log" 2>&1
+}
+
 prove() {
-    mkdir "$scratch/tmp" && chmod 711 "$scratch" "$scratch/tmp" && cd "$copy" || exit
-    exec env TMPDIR="$scratch/tmp" setsid rt ci </dev/null >>"$log" 2>&1
+    cd "$copy" || exit
+    become rt ci
 }
 
 # Of how many crates how many are proved, as the gate's log tells, in what time; about how long the
@@ -248,7 +255,8 @@ build() {
     kit=$(dirname -- "$(rt doc)")
     store=$(dirname -- "$kit")/rattle-kept
     true >"$log"
-    scratch=$(mktemp -d 2>>"$log") || stop 126 "cannot write in ${TMPDIR:-/tmp}"
+    scratch=$(mktemp -d "${TMPDIR:-/tmp}/heapguard.XXXXXX" 2>>"$log") \
+        || stop 126 "cannot write in ${TMPDIR:-/tmp}"
     copy=$scratch/copy
     for it in $(steps); do echo "$it $(weight "$it")"; done >"$scratch/weights"
     if [ -n "$(gated)" ]; then
