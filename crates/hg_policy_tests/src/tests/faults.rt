@@ -2,14 +2,9 @@
 //! order: of a document with both, the first is told. A line of a table is what is told, and
 //! behind the stroke the document, or the entries, with ` ; ` for a line break.
 
-use hg_policy::read_policy;
+use hg_policy::{PolicyFault, read_policy};
 use std::alloc::Global;
 use std::process::Abort;
-use std::test::Fail;
-
-const TOP: &str = "version = 1\nworkers = 1\n";
-
-const ALICE: &str = "tenant = [{name = 'a', limit = 1}]\n";
 
 const VERSION: &str = "\
 1: not toml | version =
@@ -32,8 +27,8 @@ const VERSION: &str = "\
 ";
 
 #[test]
-fn tells_the_version_before_other_keys(rt: HostRuntime) -> Result<(), Fail> {
-    each_fails(&rt, rt.alloc(), "", VERSION, "")
+fn tells_the_version_before_other_keys(rt: HostRuntime) {
+    each_fails(&rt, rt.alloc(), "", VERSION, "");
 }
 
 const TOP_KEYS: &str = "\
@@ -58,8 +53,8 @@ const TOP_KEYS: &str = "\
 ";
 
 #[test]
-fn tells_top_keys_in_turn(rt: HostRuntime) -> Result<(), Fail> {
-    each_fails(&rt, rt.alloc(), "version = 1\n", TOP_KEYS, "")
+fn tells_top_keys_in_turn(rt: HostRuntime) {
+    each_fails(&rt, rt.alloc(), "version = 1\n", TOP_KEYS, "");
 }
 
 const TENANTS: &str = "\
@@ -82,9 +77,9 @@ const TENANTS: &str = "\
 ";
 
 #[test]
-fn tells_tenants_in_turn(rt: HostRuntime) -> Result<(), Fail> {
+fn tells_tenants_in_turn(rt: HostRuntime) {
     let head = "version = 1\nworkers = 1\narena = [{x = 1}]\ntenant = [";
-    each_fails(&rt, rt.alloc(), head, TENANTS, "]")
+    each_fails(&rt, rt.alloc(), head, TENANTS, "]");
 }
 
 const ARENAS: &str = "\
@@ -113,10 +108,16 @@ const ARENAS: &str = "\
 4: unknown x | {name = 'm', segments = 32}, {name = 'n', segments = 32}
 ";
 
+const BEFORE_ARENAS: &str = "\
+version = 1
+workers = 1
+tenant = [{name = 'a', limit = 1}]
+grant = [{x = 1}]
+arena = [";
+
 #[test]
-fn tells_arenas_in_turn(rt: HostRuntime) -> Result<(), Fail> {
-    let head = format!(in rt.alloc(); "{TOP}{ALICE}grant = [{{x = 1}}]\narena = [")?;
-    each_fails(&rt, rt.alloc(), head.as_str(), ARENAS, "]")
+fn tells_arenas_in_turn(rt: HostRuntime) {
+    each_fails(&rt, rt.alloc(), BEFORE_ARENAS, ARENAS, "]");
 }
 
 const GRANTS: &str = "\
@@ -136,10 +137,16 @@ const GRANTS: &str = "\
 4: unknown x | {owner = 'a', to = 'a', rights = []}, {x = 1}
 ";
 
+const BEFORE_GRANTS: &str = "\
+version = 1
+workers = 1
+tenant = [{name = 'a', limit = 1}]
+arena = []
+grant = [";
+
 #[test]
-fn tells_grants_in_turn(rt: HostRuntime) -> Result<(), Fail> {
-    let head = format!(in rt.alloc(); "{TOP}{ALICE}arena = []\ngrant = [")?;
-    each_fails(&rt, rt.alloc(), head.as_str(), GRANTS, "]")
+fn tells_grants_in_turn(rt: HostRuntime) {
+    each_fails(&rt, rt.alloc(), BEFORE_GRANTS, GRANTS, "]");
 }
 
 /// Keys with control characters, with what breaks a line and what turns the direction of writing:
@@ -168,44 +175,55 @@ const KEYS: &str = "\
 4: unknown a\"b'c | \"a\\\"b'c\"
 ";
 
+const BEFORE_AN_OWNER: &str = "\
+version = 1
+workers = 1
+tenant = [{name = 'a', limit = 1}]
+arena = []
+grant = [{owner = ";
+
 #[test]
-fn tells_a_key_in_one_line(rt: HostRuntime) -> Result<(), Fail> {
-    each_fails(&rt, rt.alloc(), "version = 1\n", KEYS, " = 1")?;
-    let head = format!(in rt.alloc(); "{TOP}{ALICE}arena = []\ngrant = [{{owner = ")?;
+fn tells_a_key_in_one_line(rt: HostRuntime) {
+    each_fails(&rt, rt.alloc(), "version = 1\n", KEYS, " = 1");
     let name = "6: no such name a\\n\\u001B | \"a\\n\\u001B\"\n";
-    each_fails(&rt, rt.alloc(), head.as_str(), name, ", to = 1}]")
+    each_fails(&rt, rt.alloc(), BEFORE_AN_OWNER, name, ", to = 1}]");
 }
 
 /// Each document of a table, between head and tail, fails with its line.
-pub(crate) fn each_fails(
-    rt: &impl Abort,
-    alloc: Global,
-    head: &str,
-    table: &str,
-    tail: &str,
-) -> Result<(), Fail> {
+pub(crate) fn each_fails(rt: &impl Abort, alloc: Global, head: &str, table: &str, tail: &str) {
     for line in table.lines() {
         match line.split_once(" | ") {
-            Some((want, text)) => {
-                let lines = text.replace(alloc, " ; ", "\n")?;
-                let document = format!(in alloc; "{head}{lines}{tail}")?;
-                fails(rt, alloc, document.as_str(), want)?;
-            }
-            None => assert!(rt; false, "no stroke: {line}"),
+            Some((want, text)) => row_fails(rt, alloc, head, text, tail, want),
+            None => panic!(rt; "no stroke: {line}"),
         }
     }
-    Ok(())
+}
+
+/// The same of one row.
+fn row_fails(rt: &impl Abort, alloc: Global, head: &str, text: &str, tail: &str, want: &str) {
+    let lines = text.replace(alloc, " ; ", "\n").expect(rt, "memory");
+    let document = format!(in alloc; "{head}{lines}{tail}").expect(rt, "memory");
+    fails(rt, alloc, document.as_str(), want);
+    drop(document);
+    drop(lines);
+}
+
+/// The fault of a document.
+fn fault_of(rt: &impl Abort, alloc: Global, text: &str) -> PolicyFault {
+    match read_policy(alloc, text.as_bytes()) {
+        Ok(_) => panic!(rt; "taken: {text}"),
+        Err(fault) => fault,
+    }
 }
 
 /// The document fails with the line `policy fault WANT`.
-pub(crate) fn fails(rt: &impl Abort, alloc: Global, text: &str, want: &str) -> Result<(), Fail> {
-    match read_policy(alloc, text.as_bytes()) {
-        Ok(_) => assert!(rt; false, "taken: {text}"),
-        Err(fault) => {
-            let line = format!(in alloc; "{fault}")?;
-            let wanted = format!(in alloc; "policy fault {want}")?;
-            assert_eq!(rt; line.as_str(), wanted.as_str(), "at {text}");
-        }
+pub(crate) fn fails(rt: &impl Abort, alloc: Global, text: &str, want: &str) {
+    let fault = fault_of(rt, alloc, text);
+    let told = format!(in alloc; "{fault}").expect(rt, "memory");
+    match told.as_str().strip_prefix("policy fault ") {
+        Some(line) => assert!(rt; line == want, "{line} in place of {want}: {text}"),
+        None => panic!(rt; "{told}"),
     }
-    Ok(())
+    drop(told);
+    drop(fault);
 }

@@ -1,13 +1,10 @@
 //! Documents with groups and denies, and what they mean.
 
-use crate::tests::reading::counts;
-use hg_place::{Actor, Right};
-use hg_policy::{Policy, PolicyFault, read_policy};
+use crate::tests::asked::{
+    Which, admits_are, counts, fails_or_refused, read, read_or_refused, rights_are, table_is,
+};
 use std::alloc::Global;
 use std::process::Abort;
-use std::test::Fail;
-
-const RIGHTS: [Right; 4] = [Right::Read, Right::Write, Right::List, Right::Free];
 
 /// Carol and bob are staff; a group has an arena's name; a group has no member.
 const GROUPS: &str = "\
@@ -41,118 +38,147 @@ tenant = [
 ]
 ";
 
-#[test]
-fn admits_by_groups(rt: HostRuntime) -> Result<(), Fail> {
-    let policy = read_policy(rt.alloc(), GROUPS.as_bytes())?;
-    counts(&rt, &policy, [1, 3, 4, 5]);
-    for actor in 0..5 {
-        assert_eq!(rt; policy.admits(0, Actor(actor)), actor < 3);
-        assert_eq!(rt; policy.admits(1, Actor(actor)), actor == 1 || actor == 2);
-        assert!(rt; !policy.admits(2, Actor(actor)), "an arena of nobody");
-        assert_eq!(rt; policy.admits(3, Actor(actor)), actor == 0);
-    }
-    Ok(())
-}
+/// A line for each arena, a letter for each actor.
+const ADMITTED: &str = "\
+xxx--
+-xx--
+-----
+x----
+";
 
 #[test]
-fn grants_by_groups(rt: HostRuntime) -> Result<(), Fail> {
-    let policy = read_policy(rt.alloc(), GROUPS.as_bytes())?;
-    for owner in 0..5 {
-        for actor in 0..5 {
-            let staff = actor == 1 || actor == 2;
-            let from_alice = owner == 0 && staff;
-            let to_alice = (owner == 1 || owner == 2) && actor == 0;
-            for right in RIGHTS {
-                let own = owner == actor && owner < 3;
-                let read = from_alice && (right == Right::Read || right == Right::Free);
-                let list = to_alice && right == Right::List;
-                assert_eq!(rt;
-                    policy.grants(owner, Actor(actor), right),
-                    own || read || list
-                );
-            }
-        }
-    }
-    Ok(())
+fn admits_by_groups(rt: HostRuntime) {
+    let policy = read(&rt, rt.alloc(), GROUPS);
+    counts(&rt, &policy, [1, 3, 4, 5]);
+    admits_are(&rt, &policy, ADMITTED);
+    drop(policy);
+}
+
+/// A line for each owner, a word for each actor.
+const GRANTED: &str = "\
+rwlf r--f r--f ---- ----
+--l- rwlf ---- ---- ----
+--l- ---- rwlf ---- ----
+---- ---- ---- ---- ----
+---- ---- ---- ---- ----
+";
+
+#[test]
+fn grants_by_groups(rt: HostRuntime) {
+    let policy = read(&rt, rt.alloc(), GROUPS);
+    table_is(&rt, &policy, Which::Grants, GRANTED);
+    drop(policy);
 }
 
 /// A group on both sides forbids each of its members what it forbids, but on its own blocks.
+const FORBIDDEN: &str = "\
+---- ---- ---f ---- ----
+---- ---- r--- ---- ----
+---- r--- ---- ---- ----
+---- ---- ---- ---- ----
+---- ---- ---- ---- ----
+";
+
 #[test]
-fn forbids_by_groups(rt: HostRuntime) -> Result<(), Fail> {
-    let policy = read_policy(rt.alloc(), GROUPS.as_bytes())?;
-    for owner in 0..5 {
-        for actor in 0..5 {
-            let among_staff = owner == 1 && actor == 2 || owner == 2 && actor == 1;
-            for right in RIGHTS {
-                let free = owner == 0 && actor == 2 && right == Right::Free;
-                let read = among_staff && right == Right::Read;
-                assert_eq!(rt; policy.forbids(owner, Actor(actor), right), free || read);
-            }
-        }
-    }
-    assert!(rt; !policy.forbids(255, Actor(255), Right::Read), "a stranger");
-    Ok(())
+fn forbids_by_groups(rt: HostRuntime) {
+    let policy = read(&rt, rt.alloc(), GROUPS);
+    table_is(&rt, &policy, Which::Forbids, FORBIDDEN);
+    rights_are(&rt, &policy, Which::Forbids, 255, 255, "----");
+    drop(policy);
+}
+
+static WITHOUT_A_LINE: [&str; 3] = [
+    "\
+version = 1
+workers = 1
+tenant = [{name = 'a', limit = 1}, {name = 'b', limit = 1}]
+arena = []
+",
+    "\
+version = 2
+workers = 1
+tenant = [{name = 'a', limit = 1}, {name = 'b', limit = 1}]
+arena = []
+",
+    "\
+version = 2
+deny = []
+workers = 1
+tenant = [{name = 'a', limit = 1}, {name = 'b', limit = 1}]
+arena = []
+",
+];
+
+/// A document forbids nothing, and grants a tenant all on its own blocks.
+fn forbids_nothing(rt: &impl Abort, alloc: Global, text: &str) {
+    let policy = read(rt, alloc, text);
+    rights_are(rt, &policy, Which::Forbids, 0, 1, "----");
+    rights_are(rt, &policy, Which::Grants, 0, 0, "rwlf");
+    drop(policy);
 }
 
 /// Without a line that denies nothing is forbidden, with an empty list of them too.
 #[test]
-fn forbids_nothing_without_a_line(rt: HostRuntime) -> Result<(), Fail> {
-    let head = "workers = 1\ntenant = [{name = 'a', limit = 1}, {name = 'b', limit = 1}]\n";
-    for lines in ["version = 1", "version = 2", "version = 2\ndeny = []"] {
-        let text = format!(in rt.alloc(); "{lines}\n{head}arena = []\n")?;
-        let policy = read_policy(rt.alloc(), text.as_bytes())?;
-        for right in RIGHTS {
-            assert!(rt; !policy.forbids(0, Actor(1), right), "forbidden: {lines}");
-            assert!(rt; policy.grants(0, Actor(0), right), "not granted: {lines}");
-        }
+fn forbids_nothing_without_a_line(rt: HostRuntime) {
+    for text in &WITHOUT_A_LINE {
+        forbids_nothing(&rt, rt.alloc(), text);
     }
-    Ok(())
 }
 
 /// The right answer, or want of memory and nothing else.
 #[test]
 fn refused_in_turn(rt: HostRuntime) {
-    let read = read_policy(rt.alloc(), GROUPS.as_bytes());
-    let is_read = match &read {
-        Ok(policy) => knows_all(policy),
-        Err(fault) => matches!(fault, PolicyFault::Memory),
-    };
-    assert!(rt; is_read, "another fault in place of want of memory");
-}
-
-/// Some of what each table of the policy says.
-fn knows_all(policy: &Policy) -> bool {
-    policy.forbids(1, Actor(2), Right::Read)
-        && policy.grants(0, Actor(1), Right::Free)
-        && policy.admits(1, Actor(2))
-        && !policy.forbids(0, Actor(1), Right::Free)
-}
-
-/// Whether a document of one tenant and this line has a fault that keeps this name, or memory was
-/// refused.
-fn is_told(alloc: Global, line: &str, name: &str) -> bool {
-    let tenant = "version = 2\nworkers = 1\narena = []\ntenant = [{name = 'a', limit = 1}]\n";
-    let Ok(text) = format!(in alloc; "{tenant}{line}\n") else {
-        return true;
-    };
-    match read_policy(alloc, text.as_bytes()) {
-        Ok(_) => false,
-        Err(PolicyFault::Repeated(told)) => told.as_str() == name,
-        Err(PolicyFault::NoSuchName(told)) => told.as_str() == name,
-        Err(fault) => matches!(fault, PolicyFault::Memory),
+    if let Some(policy) = read_or_refused(&rt, rt.alloc(), GROUPS) {
+        rights_are(&rt, &policy, Which::Forbids, 1, 2, "r---");
+        rights_are(&rt, &policy, Which::Grants, 0, 1, "r--f");
+        admits_are(&rt, &policy, ADMITTED);
+        rights_are(&rt, &policy, Which::Forbids, 0, 1, "----");
+        drop(policy);
     }
 }
 
-/// Faults that keep a name: of a group that is there, and of a member that isn't.
+/// Documents of one tenant, with the number of the fault and the name that it keeps: of a group
+/// that is there, and of a member that isn't.
+static KEPT: [(&str, u8, &str); 3] = [
+    (
+        "\
+version = 2
+workers = 1
+arena = []
+tenant = [{name = 'a', limit = 1}]
+group = [{name = 'a', members = []}]
+",
+        5,
+        "a",
+    ),
+    (
+        "\
+version = 2
+workers = 1
+arena = []
+tenant = [{name = 'a', limit = 1}]
+group = [{name = 'g', members = ['eve']}]
+",
+        6,
+        "eve",
+    ),
+    (
+        "\
+version = 2
+workers = 1
+arena = []
+tenant = [{name = 'a', limit = 1}]
+deny = [{owner = 'a', to = 'eve'}]
+",
+        6,
+        "eve",
+    ),
+];
+
+/// Faults that keep a name.
 #[test]
 fn faults_refused_in_turn(rt: HostRuntime) {
-    assert!(&rt; is_told(rt.alloc(), "group = [{name = 'a', members = []}]", "a"));
-    assert!(&rt;
-        is_told(
-            rt.alloc(),
-            "group = [{name = 'g', members = ['eve']}]",
-            "eve"
-        )
-    );
-    assert!(&rt; is_told(rt.alloc(), "deny = [{owner = 'a', to = 'eve'}]", "eve"));
+    for (text, number, name) in &KEPT {
+        fails_or_refused(&rt, rt.alloc(), text, *number, name);
+    }
 }

@@ -2,10 +2,9 @@
 //! line of a table is what is told, and behind the stroke the document, or the entries.
 
 use crate::tests::faults::{each_fails, fails};
-use std::alloc::{AllocError, Global};
-use std::test::Fail;
-
-const TENANTS: &str = "tenant = [{name = 'a', limit = 1}, {name = 'b', limit = 1}]\n";
+use crate::tests::texts::push;
+use std::alloc::Global;
+use std::process::Abort;
 
 const TOP_KEYS: &str = "\
 3: kind tenant | workers = 1 ; tenant = 1 ; group = 1
@@ -20,8 +19,8 @@ const TOP_KEYS: &str = "\
 ";
 
 #[test]
-fn tells_top_keys_in_turn(rt: HostRuntime) -> Result<(), Fail> {
-    each_fails(&rt, rt.alloc(), "version = 2\n", TOP_KEYS, "")
+fn tells_top_keys_in_turn(rt: HostRuntime) {
+    each_fails(&rt, rt.alloc(), "version = 2\n", TOP_KEYS, "");
 }
 
 const GROUPS: &str = "\
@@ -57,11 +56,16 @@ const GROUPS: &str = "\
 4: unknown x | {name = 'm', members = []}, {name = 'g', members = ['a', 'b']}
 ";
 
+const BEFORE_GROUPS: &str = "\
+version = 2
+workers = 1
+tenant = [{name = 'a', limit = 1}, {name = 'b', limit = 1}]
+arena = [{name = 'm', segments = 1}, {x = 1}]
+group = [";
+
 #[test]
-fn tells_groups_in_turn(rt: HostRuntime) -> Result<(), Fail> {
-    let arena = "arena = [{name = 'm', segments = 1}, {x = 1}]\n";
-    let head = format!(in rt.alloc(); "version = 2\nworkers = 1\n{TENANTS}{arena}group = [")?;
-    each_fails(&rt, rt.alloc(), head.as_str(), GROUPS, "]")
+fn tells_groups_in_turn(rt: HostRuntime) {
+    each_fails(&rt, rt.alloc(), BEFORE_GROUPS, GROUPS, "]");
 }
 
 const NAMES: &str = "\
@@ -70,12 +74,16 @@ const NAMES: &str = "\
 6: no such name m | exclusive = ['a', 'm']
 ";
 
+const BEFORE_NAMES: &str = "\
+version = 2
+workers = 1
+tenant = [{name = 'a', limit = 1}, {name = 'b', limit = 1}]
+group = [{name = 'g', members = ['b']}, {name = 'none', members = []}]
+arena = [{name = 'm', segments = 65, ";
+
 #[test]
-fn tells_names_of_an_arena_in_turn(rt: HostRuntime) -> Result<(), Fail> {
-    let groups = "group = [{name = 'g', members = ['b']}, {name = 'none', members = []}]\n";
-    let arena = "arena = [{name = 'm', segments = 65, ";
-    let head = format!(in rt.alloc(); "version = 2\nworkers = 1\n{TENANTS}{groups}{arena}")?;
-    each_fails(&rt, rt.alloc(), head.as_str(), NAMES, "}]")
+fn tells_names_of_an_arena_in_turn(rt: HostRuntime) {
+    each_fails(&rt, rt.alloc(), BEFORE_NAMES, NAMES, "}]");
 }
 
 const DENIES: &str = "\
@@ -92,48 +100,69 @@ const DENIES: &str = "\
 4: unknown x | {owner = 'g', to = 'g', rights = []}, {x = 1}
 ";
 
+/// Before lines that deny, before lines that grant, and before the first behind an empty list of
+/// the second.
+static BEFORE_LINES: [&str; 3] = [
+    "\
+version = 2
+workers = 1
+tenant = [{name = 'a', limit = 1}, {name = 'b', limit = 1}]
+group = [{name = 'g', members = ['b']}]
+arena = []
+deny = [",
+    "\
+version = 2
+workers = 1
+tenant = [{name = 'a', limit = 1}, {name = 'b', limit = 1}]
+group = [{name = 'g', members = ['b']}]
+arena = []
+grant = [",
+    "\
+version = 2
+workers = 1
+tenant = [{name = 'a', limit = 1}, {name = 'b', limit = 1}]
+group = [{name = 'g', members = ['b']}]
+arena = []
+grant = []
+deny = [",
+];
+
 /// In the way of grants.
 #[test]
-fn tells_denies_in_turn(rt: HostRuntime) -> Result<(), Fail> {
-    let groups = "group = [{name = 'g', members = ['b']}]\narena = []\n";
-    let head = format!(in rt.alloc(); "version = 2\nworkers = 1\n{TENANTS}{groups}")?;
-    for lines in ["deny = [", "grant = [", "grant = []\ndeny = ["] {
-        let head = format!(in rt.alloc(); "{head}{lines}")?;
-        each_fails(&rt, rt.alloc(), head.as_str(), DENIES, "]")?;
+fn tells_denies_in_turn(rt: HostRuntime) {
+    for head in &BEFORE_LINES {
+        each_fails(&rt, rt.alloc(), head, DENIES, "]");
     }
-    Ok(())
 }
 
 /// A part of a document as it may stand, the same with a fault, and what is told of it. In the
 /// order of the faults.
-struct Part(&'static str, &'static str, &'static str);
-
-static PARTS: [Part; 9] = [
-    Part("", "=", "1: not toml"),
-    Part("version = 2", "version = 3", "8: version"),
-    Part("", "colour = 1", "4: unknown colour"),
-    Part("workers = 1", "workers = 17", "7: too many workers"),
-    Part(
+static PARTS: [(&str, &str, &str); 9] = [
+    ("", "=", "1: not toml"),
+    ("version = 2", "version = 3", "8: version"),
+    ("", "colour = 1", "4: unknown colour"),
+    ("workers = 1", "workers = 17", "7: too many workers"),
+    (
         "tenant = [{name = 'a', limit = 1}]",
         "tenant = [{name = 'a', limit = 1}, {name = 'b'}]",
         "2: missing limit",
     ),
-    Part(
+    (
         "group = [{name = 'g', members = ['a']}]",
         "group = [{name = 'g', members = ['a']}, {name = 'g', members = []}]",
         "5: repeated g",
     ),
-    Part(
+    (
         "arena = [{name = 'm', segments = 1}]",
         "arena = [{name = 'm', segments = 1}, {name = 'n', segments = 64}]",
         "7: too many segments",
     ),
-    Part(
+    (
         "grant = [{owner = 'a', to = 'g', rights = []}]",
         "grant = [{owner = 'a', to = 'eve', rights = []}]",
         "6: no such name eve",
     ),
-    Part(
+    (
         "deny = [{owner = 'g', to = 'a', rights = []}]",
         "deny = [{owner = 'g', to = 'a', rights = ['look']}]",
         "3: kind rights",
@@ -143,37 +172,46 @@ static PARTS: [Part; 9] = [
 /// Of faults of two steps the first is told, and one alone as it is, in whatever order the parts
 /// of the document stand.
 #[test]
-fn tells_each_pair_of_steps_in_turn(rt: HostRuntime) -> Result<(), Fail> {
-    for (first, part) in PARTS.iter().enumerate() {
+fn tells_each_pair_of_steps_in_turn(rt: HostRuntime) {
+    for first in 0..PARTS.len() {
         for second in first..PARTS.len() {
-            for forwards in [true, false] {
-                let text = document(rt.alloc(), first, second, forwards)?;
-                fails(&rt, rt.alloc(), text.as_str(), part.2)?;
+            for is_forwards in [true, false] {
+                pair_fails(&rt, rt.alloc(), first, second, is_forwards);
             }
         }
     }
-    Ok(())
+}
+
+/// With faults in two parts the first is told.
+fn pair_fails(rt: &impl Abort, alloc: Global, first: usize, second: usize, is_forwards: bool) {
+    let (_, _, want) = PARTS[first % PARTS.len()];
+    let text = document(rt, alloc, first, second, is_forwards);
+    fails(rt, alloc, text.as_str(), want);
+    drop(text);
 }
 
 /// The document with faults in two parts.
 fn document(
+    rt: &impl Abort,
     alloc: Global,
     first: usize,
     second: usize,
-    forwards: bool,
-) -> Result<String, AllocError> {
+    is_forwards: bool,
+) -> String {
     let mut text = String::new(alloc);
-    for (at, part) in PARTS.iter().enumerate() {
-        let line = if at == first || at == second {
-            part.1
-        } else {
-            part.0
-        };
-        text = if forwards {
-            format!(in alloc; "{text}{line}\n")?
-        } else {
-            format!(in alloc; "{line}\n{text}")?
-        };
+    for n in 0..PARTS.len() {
+        let at = if is_forwards { n } else { PARTS.len() - 1 - n };
+        let (good, bad, _) = PARTS[at];
+        push(
+            rt,
+            &mut text,
+            if at == first || at == second {
+                bad
+            } else {
+                good
+            },
+        );
+        push(rt, &mut text, "\n");
     }
-    Ok(text)
+    text
 }
