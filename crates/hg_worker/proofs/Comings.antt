@@ -1,6 +1,6 @@
 -- Segments that come to a worker and leave it: what its seats know then.
 use Rattle.std.proofs.Common.{◌≡◌, ◌≢◌, ℕ, ◌==◌, inl, inr, Bool, true, false, cond, List, [], ◌∷◌}
-use Rattle.std.proofs.Common.{◌++◌, length, find, is_some, Some, None, refl, sym, ap, subst, ◌∙◌}
+use Rattle.std.proofs.Common.{◌++◌, length, Some, None, refl, sym, ap, subst, ◌∙◌}
 use Rattle.std.specs.Prelude.{Option, option_map}
 use Rattle.std.proofs.lemmas.Bool.{cases_Bool, cases_eq}
 use Rattle.std.proofs.lemmas.Option.{same_Some, none-some}
@@ -10,7 +10,7 @@ use Rattle.atomic_table.proofs.Lists.{at_last}
 use Rattle.hg_place.specs.declared.Handle.{Handle}
 use Rattle.hg_place.specs.declared.standing.Standing.{Standing}
 use Rattle.hg_segment.specs.Kept.{Kept}
-use Rattle.hg_heap.specs.Held.{is_of, is_held, segment_in}
+use Rattle.hg_heap.specs.Held.{is_held, segment_in}
 use Rattle.hg_table.specs.declared.view.Part.{Part}
 use Rattle.hg_table.specs.Seats.{HaveMet}
 use Rattle.hg_table.specs.Told.{IsShown}
@@ -19,7 +19,7 @@ use Rattle.hg_table.proofs.Told.{not_ended}
 use Rattle.hg_worker.specs.Had.{Had}
 use Rattle.hg_worker.specs.Hands.{SawEnd, KnowsHand}
 use Rattle.hg_worker.specs.Met.{ComesTo}
-use Rattle.hg_worker.specs.Seen.{word_of, part_of_segment, EndsNothing}
+use Rattle.hg_worker.specs.Seen.{word_of, EndsNothing}
 use Rattle.hg_worker.proofs.Hands.{SawMore, the_same, some_left, knows_still, knows_more}
 use Rattle.hg_worker.proofs.Steps.{none_in}
 

@@ -10,3 +10,4 @@ pub mod Pools
 pub mod Takings
 pub mod Hands
 pub mod Comings
+pub mod Listings

@@ -6,5 +6,6 @@ pub mod Met
 pub mod CallerLocked
 pub mod Hands
 pub mod Answers
+pub mod Listing
 pub mod Names
 pub mod Workers

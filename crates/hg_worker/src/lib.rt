@@ -7,6 +7,7 @@ mod answers;
 mod caller_locked;
 mod freeing;
 mod kept_pool;
+mod listing;
 mod meeting;
 mod name;
 mod reading;

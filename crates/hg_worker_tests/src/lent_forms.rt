@@ -52,7 +52,9 @@ fn lent<N: ServiceName>(rt: &impl Abort, alloc: Global, policy: &Policy, table: 
     requires document { document_of DOCUMENT.now ≡ Ok policy.now }
     requires segments { table.segments ≡ length policy.now.segments }
 {
-    let mut all = opened::<N>(rt, alloc, policy, table);
+    let Some(mut all) = opened::<N>(alloc, policy, table) else {
+        panic!(rt; "no service")
+    };
     assert_eq!(rt; (all.worker.number(), all.other.number()), (0, 1));
     assert_eq!(rt;
         all.worker.refill_from(MAIN, &mut all.pool),
@@ -72,7 +74,9 @@ fn lent<N: ServiceName>(rt: &impl Abort, alloc: Global, policy: &Policy, table: 
 #[test]
 fn lent_forms(rt: HostRuntime) {
     let alloc = rt.alloc();
-    let policy = policy(&rt, alloc);
+    let Some(policy) = policy(alloc) else {
+        panic!(&rt; "no policy")
+    };
     let Ok(table) = LifeTable::new(alloc, &policy) else {
         panic!(&rt; "no table")
     };

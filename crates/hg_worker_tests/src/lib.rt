@@ -4,6 +4,8 @@
 #[cfg(test)]
 mod lent_forms;
 #[cfg(test)]
+mod listings;
+#[cfg(test)]
 mod meets;
 #[cfg(test)]
 mod rows;

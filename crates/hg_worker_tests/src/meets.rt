@@ -53,7 +53,9 @@ fn meeting<N: ServiceName>(rt: &impl Abort, alloc: Global, policy: &Policy, tabl
     requires document { document_of DOCUMENT.now ≡ Ok policy.now }
     requires segments { table.segments ≡ length policy.now.segments }
 {
-    let mut all = opened::<N>(rt, alloc, policy, table);
+    let Some(mut all) = opened::<N>(alloc, policy, table) else {
+        panic!(rt; "no service")
+    };
     assert_eq!(rt;
         all.worker.refill_from(MAIN, &mut all.pool),
         Answer::Refilled(0)
@@ -65,7 +67,9 @@ fn meeting<N: ServiceName>(rt: &impl Abort, alloc: Global, policy: &Policy, tabl
 #[test]
 fn meets(rt: HostRuntime) {
     let alloc = rt.alloc();
-    let policy = policy(&rt, alloc);
+    let Some(policy) = policy(alloc) else {
+        panic!(&rt; "no policy")
+    };
     let Ok(table) = LifeTable::new(alloc, &policy) else {
         panic!(&rt; "no table")
     };

@@ -127,7 +127,9 @@ fn called<N: ServiceName>(
     requires document { document_of DOCUMENT.now ≡ Ok policy.now }
     requires segments { table.segments ≡ length policy.now.segments }
 {
-    let mut all = opened::<N>(rt, alloc, policy, table);
+    let Some(mut all) = opened::<N>(alloc, policy, table) else {
+        panic!(rt; "no service")
+    };
     for (number, event, wanted) in rows {
         assert_eq!(rt; answer(&mut all, *number, *event), *wanted);
     }
@@ -136,7 +138,9 @@ fn called<N: ServiceName>(
 
 /// The answers to the events of a row, from the opening of the service.
 fn answers_are(rt: &impl Abort, alloc: Global, rows: &[Row]) {
-    let policy = policy(rt, alloc);
+    let Some(policy) = policy(alloc) else {
+        panic!(rt; "no policy")
+    };
     let Ok(table) = LifeTable::new(alloc, &policy) else {
         panic!(rt; "no table")
     };

@@ -1,6 +1,6 @@
 //! A service in the hands of its caller: its two workers, a list and a pool.
 
-ghost use Rattle.std.specs.Prelude.{◌≡◌, ◌+◌, ◌*◌, length, All, Ok};
+ghost use Rattle.std.specs.Prelude.{◌≡◌, ◌+◌, ◌*◌, length, All, Ok, IfSome};
 ghost use Rattle.std.specs.Box.{boxed_slice_items};
 ghost use Rattle.hg_place.specs.declared.geometry.TheConstants.{SEGMENT_PLACES};
 ghost use Rattle.hg_policy.specs.Document.{document_of};
@@ -16,7 +16,6 @@ use hg_segment::Segment;
 use hg_table::{LifeTable, Seats, SegmentSeat, WorkerSeat};
 use hg_worker::{KeptPool, ServiceName, Worker};
 use std::alloc::Global;
-use std::process::Abort;
 
 pub const ALICE: Actor = Actor(0);
 
@@ -37,14 +36,12 @@ arena = [ {name = "main", segments = 2}, {name = "vault", segments = 1, exclusiv
 grant = [ {owner = "alice", to = "bob", rights = ["read", "free"]} ]
 "#;
 
-/// The policy of the worked runs, which a second call gives again.
-pub fn policy(rt: &impl Abort, alloc: Global) -> Policy
-    ensures { document_of DOCUMENT.now ≡ Ok result }
+/// The policy of the worked runs, which a second call gives again. None is want of memory, as of
+/// each function here.
+pub fn policy(alloc: Global) -> Option<Policy>
+    ensures { IfSome result (λ policy. document_of DOCUMENT.now ≡ Ok policy) }
 {
-    let Ok(policy) = read_policy(alloc, DOCUMENT.as_bytes()) else {
-        panic!(rt; "no policy")
-    };
-    policy
+    read_policy(alloc, DOCUMENT.as_bytes()).ok()
 }
 
 /// The parts of a service, whose segments all begin in the pool. What is sent to a segment goes to
@@ -59,100 +56,85 @@ pub struct Service<N: ServiceName> {
 
 /// The parts of a new service.
 pub fn opened<N: ServiceName>(
-    rt: &impl Abort,
     alloc: Global,
     policy: &Policy,
     table: LifeTable,
-) -> Service<N>
+) -> Option<Service<N>>
     requires table { table_of table ≡ N.table }
     requires policy { policy.now ≡ N.policy }
     requires document { document_of DOCUMENT.now ≡ Ok policy.now }
     requires segments { table.segments ≡ length policy.now.segments }
 {
-    let Ok(seats) = table.open::<N>(alloc) else {
-        panic!(rt; "no seats")
-    };
     let Seats {
         segments,
         mut workers,
-    } = seats;
-    let pool = fresh_pool(rt, alloc, policy, segments);
-    let last = workers.pop().expect(rt, "seat 1");
-    let first = workers.pop().expect(rt, "seat 0");
-    drop(workers);
-    Service {
-        worker: new_worker(rt, alloc, policy, 0, first),
-        other: new_worker(rt, alloc, policy, 1, last),
-        list: RemoteList::new(alloc).expect(rt, "a list"),
+    } = table.open::<N>(alloc).ok()?;
+    let pool = fresh_pool(alloc, policy, segments)?;
+    let last = workers.pop()?;
+    let first = workers.pop()?;
+    Some(Service {
+        worker: new_worker(alloc, policy, 0, first)?,
+        other: new_worker(alloc, policy, 1, last)?,
+        list: RemoteList::new(alloc).ok()?,
         pool,
-    }
+    })
 }
 
 /// The worker of a seat, with a policy of its own: the document is read again.
 fn new_worker<N: ServiceName>(
-    rt: &impl Abort,
     alloc: Global,
     policy: &Policy,
     number: u8,
     seat: WorkerSeat<N>,
-) -> Worker<N>
+) -> Option<Worker<N>>
     requires policy { policy.now ≡ N.policy }
     requires document { document_of DOCUMENT.now ≡ Ok policy.now }
     requires words { N.table.words ≡ length policy.now.segments * SEGMENT_PLACES + 1 }
 {
-    let copy = copied(rt, alloc, policy);
-    assert!(rt; number < copy.workers());
-    Worker::new(alloc, copy, number, seat).expect(rt, "a worker")
+    let copy = copied(alloc, policy)?;
+    if number >= copy.workers() {
+        return None;
+    }
+    Worker::new(alloc, copy, number, seat).ok()
 }
 
 /// The policy once more.
-fn copied(rt: &impl Abort, alloc: Global, policy: &Policy) -> Policy
+fn copied(alloc: Global, policy: &Policy) -> Option<Policy>
     requires { document_of DOCUMENT.now ≡ Ok policy.now }
-    ensures { result ≡ policy.now }
+    ensures { IfSome result (λ copy. copy ≡ policy.now) }
 {
     let _workers = policy.workers();
-    let Ok(copy) = read_policy(alloc, DOCUMENT.as_bytes()) else {
-        panic!(rt; "no policy")
-    };
-    copy
+    read_policy(alloc, DOCUMENT.as_bytes()).ok()
 }
 
 /// The segments of these seats, all fresh.
 fn fresh_pool<N: ServiceName>(
-    rt: &impl Abort,
     alloc: Global,
     policy: &Policy,
     seats: Vec<SegmentSeat<N>>,
-) -> KeptPool<N>
+) -> Option<KeptPool<N>>
     requires policy { policy.now ≡ N.policy }
     requires home { All (λ seat. AreHome (boxed_slice_items seat.inner.records)
         × KnowsNothing (part_in seat.inner.seat)) seats.items }
 {
     let mut seats = seats;
-    let mut kept = KeptPool::new(alloc).expect(rt, "a pool");
+    let mut kept = KeptPool::new(alloc).ok()?;
     while let Some(seat) = seats.pop() {
-        kept.put_fresh(fresh_segment(rt, alloc, policy, seat));
+        kept.put_fresh(fresh_segment(alloc, policy, seat)?);
     }
-    drop(seats);
-    kept
+    Some(kept)
 }
 
 /// The segment of a seat, as the policy has it.
 fn fresh_segment<N: ServiceName>(
-    rt: &impl Abort,
     alloc: Global,
     policy: &Policy,
     seat: SegmentSeat<N>,
-) -> Segment<SegmentSeat<N>>
+) -> Option<Segment<SegmentSeat<N>>>
     requires home { AreHome (boxed_slice_items seat.inner.records) }
-    ensures { IsOf number_in policy.now result }
+    ensures { IfSome result (λ one. IsOf number_in policy.now one) }
 {
     let number = seat.segment();
-    let Some(arena) = policy.arena_of(number) else {
-        panic!(rt; "no arena")
-    };
-    let Ok(one) = Segment::new(alloc, number, arena, policy.max_generation(), seat) else {
-        panic!(rt; "no memory")
-    };
-    one
+    let arena = policy.arena_of(number)?;
+    Segment::new(alloc, number, arena, policy.max_generation(), seat).ok()
 }
