@@ -65,6 +65,18 @@ pub record HaveMet (at word : ℕ) (a b a' b' : Part) : Type 0 where
   pub step : HasStepped a at word word a'
   pub step_other : HasStepped b at word word b'
 
+-- The seat of a segment has made a step at a word, and is of its table still
+pub record StepsOn (at found left : ℕ) (old new : Seat (Unit {0}) View) : Type 0 where
+  pub step : HasStepped (part_in old) at found left (part_in new)
+  pub same : new.table_id ≡ old.table_id
+
+-- The seat of a segment and that of a worker have met at a word, and each is of its table still
+pub record MeetAt (at word : ℕ) (one : Seat (Unit {0}) View) (other : Badge View)
+    (one' : Seat (Unit {0}) View) (other' : Badge View) : Type 0 where
+  pub met : HaveMet at word (part_in one) (part_on other) (part_in one') (part_on other')
+  pub same : one'.table_id ≡ one.table_id
+  pub same_other : other'.table_id ≡ other.table_id
+
 -- the part has seen nothing and ended nothing
 abbrev pub KnowsNothing : Part → Type 0
 KnowsNothing part = (part.seen ≡ []) × (part.ended ≡ [])

@@ -13,7 +13,7 @@ use crate::plays::{Both, Close, Look, Meet, Open, Take};
 use crate::rule::Words;
 use crate::view::View;
 use crate::words::word;
-use crate::worker::WorkerSeat;
+use crate::worker::{UnnamedWorker, WorkerSeat};
 use atomic_table::{Badge, Seat};
 use hg_place::{
     Handle, PAGE_PLACES, PackedStanding, Place, SlotWords, Standing, pack, word_generation,
@@ -24,7 +24,9 @@ use std::marker::PhantomData;
 use std::mem;
 use std::sync::Arc;
 
-/// The seat of a segment without its table's name, as it is kept between two calls.
+/// The seat of a segment without its table's name, as it is kept between two calls. It is the
+/// segment's slot words by itself: its steps keep its table, and it may meet a worker's seat of
+/// the same one.
 #[derive(Drop)]
 pub struct UnnamedSegment {
     pub(crate) table: Arc<Words, Global>,
@@ -77,6 +79,108 @@ impl<N: TableName> SegmentSeat<N> {
     }
 }
 
+impl SlotWords for UnnamedSegment {
+    type Other = UnnamedWorker;
+
+    ghost use Rattle.hg_table.specs.Told.{IsShown};
+    ghost use Rattle.hg_table.specs.Seats.{word_at, part_in, StepsOn, MeetAt};
+
+    ghost number = { λ s. s.segment };
+
+    ghost records = { λ s. boxed_slice_items s.records };
+
+    ghost shows = { λ s at word. IsShown (word_at s.segment at) word (part_in s.seat) };
+
+    ghost steps = { λ s at found left t. StepsOn (word_at s.segment at) found left s.seat t.seat };
+
+    ghost may_meet = { λ s other. s.seat.table_id ≡ other.badge.table_id };
+
+    ghost meets = { λ s other at word t after. MeetAt (word_at s.segment at) word
+        s.seat other.badge t.seat after.badge };
+
+    ghost numbered = { λ s. s.segment_below };
+
+    ghost sized = { λ s. s.sized };
+
+    ghost sane = { λ s. s.sane };
+
+    ghost use Rattle.hg_table.specs.Fitting.{fitting};
+
+    ghost fits = { λ s at word below shown. fitting s.segment at word (part_in s.seat)
+        (boxed_slice_items s.records) s.first s.recorded s.sized below shown };
+
+    ghost use Rattle.hg_table.specs.Fitting.{still_together, together_again};
+
+    ghost still_meets = { λ s t other at found left step may.
+        still_together s.seat t.seat other.badge step.same may };
+
+    ghost meets_again = { λ s t other after at word met may.
+        together_again s.seat t.seat other.badge after.badge met.same met.same_other may };
+
+    fn segment(&self) -> u8 {
+        self.segment
+    }
+
+    fn standing(&self, place: Place) -> Standing {
+        self.records[slot(place)].standing()
+    }
+
+    fn look(&mut self, place: Place) -> u64 {
+        let table = &self.table;
+        table.shared.load::<Look>(&mut self.seat, word(place))
+    }
+
+    fn open(&mut self, place: Place, owner: u8) -> Handle {
+        let Standing::Home(before) = self.standing(place) else {
+            unreachable!()
+        };
+        let generation = before + 1;
+        let live = pack(generation, owner, true);
+        let table = &self.table;
+        table
+            .shared
+            .store::<Open>(&mut self.seat, word(place), live);
+        self.records[slot(place)] = PackedStanding::of(Standing::Open(generation, owner));
+        Handle { place, generation }
+    }
+
+    fn close(&mut self, place: Place, expected: u64) -> Result<(), u64> {
+        let table = &self.table;
+        let found = table
+            .shared
+            .compare_exchange::<Close>(&mut self.seat, word(place), expected, expected - 1);
+        if found != expected {
+            return Err(found);
+        }
+        let home = Standing::Home(word_generation(expected));
+        self.records[slot(place)] = PackedStanding::of(home);
+        Ok(())
+    }
+
+    fn take(&mut self, place: Place) -> Result<(), u64> {
+        let table = &self.table;
+        let found = table.shared.load::<Take>(&mut self.seat, word(place));
+        if found % 2 == 1 {
+            return Err(found);
+        }
+        let home = Standing::Home(word_generation(found));
+        self.records[slot(place)] = PackedStanding::of(home);
+        Ok(())
+    }
+
+    fn meet(&mut self, other: &mut UnnamedWorker, place: Place) -> u64 {
+        let badge = mem::replace(&mut other.badge, Badge::blank());
+        let theirs: Seat<(), View> = badge.into_seat();
+        let table = &self.table;
+        let shared = &table.shared;
+        shared.join_seat::<Both>(&mut self.seat, theirs);
+        let found = shared.load::<Meet>(&mut self.seat, word(place));
+        let back = shared.split_seat::<Both>(&mut self.seat);
+        other.badge = back.into_badge();
+        found
+    }
+}
+
 impl<N: TableName> SlotWords for SegmentSeat<N> {
     type Other = WorkerSeat<N>;
 
@@ -116,72 +220,31 @@ impl<N: TableName> SlotWords for SegmentSeat<N> {
     ghost meets_again = { λ s t other after at word met may. tt };
 
     fn segment(&self) -> u8 {
-        self.inner.segment
+        self.inner.segment()
     }
 
     fn standing(&self, place: Place) -> Standing {
-        self.inner.records[slot(place)].standing()
+        self.inner.standing(place)
     }
 
     fn look(&mut self, place: Place) -> u64 {
-        let inner = &mut self.inner;
-        let table = &inner.table;
-        table.shared.load::<Look>(&mut inner.seat, word(place))
+        self.inner.look(place)
     }
 
     fn open(&mut self, place: Place, owner: u8) -> Handle {
-        let Standing::Home(before) = self.standing(place) else {
-            unreachable!()
-        };
-        let generation = before + 1;
-        let live = pack(generation, owner, true);
-        let inner = &mut self.inner;
-        let table = &inner.table;
-        table
-            .shared
-            .store::<Open>(&mut inner.seat, word(place), live);
-        inner.records[slot(place)] = PackedStanding::of(Standing::Open(generation, owner));
-        Handle { place, generation }
+        self.inner.open(place, owner)
     }
 
     fn close(&mut self, place: Place, expected: u64) -> Result<(), u64> {
-        let inner = &mut self.inner;
-        let table = &inner.table;
-        let found = table
-            .shared
-            .compare_exchange::<Close>(&mut inner.seat, word(place), expected, expected - 1);
-        if found != expected {
-            return Err(found);
-        }
-        let home = Standing::Home(word_generation(expected));
-        inner.records[slot(place)] = PackedStanding::of(home);
-        Ok(())
+        self.inner.close(place, expected)
     }
 
     fn take(&mut self, place: Place) -> Result<(), u64> {
-        let inner = &mut self.inner;
-        let table = &inner.table;
-        let found = table.shared.load::<Take>(&mut inner.seat, word(place));
-        if found % 2 == 1 {
-            return Err(found);
-        }
-        let home = Standing::Home(word_generation(found));
-        inner.records[slot(place)] = PackedStanding::of(home);
-        Ok(())
+        self.inner.take(place)
     }
 
     fn meet(&mut self, other: &mut WorkerSeat<N>, place: Place) -> u64 {
-        let others = &mut other.inner;
-        let badge = mem::replace(&mut others.badge, Badge::blank());
-        let theirs: Seat<(), View> = badge.into_seat();
-        let inner = &mut self.inner;
-        let table = &inner.table;
-        let shared = &table.shared;
-        shared.join_seat::<Both>(&mut inner.seat, theirs);
-        let found = shared.load::<Meet>(&mut inner.seat, word(place));
-        let back = shared.split_seat::<Both>(&mut inner.seat);
-        others.badge = back.into_badge();
-        found
+        self.inner.meet(&mut other.inner, place)
     }
 }
 
