@@ -34,7 +34,7 @@ pub record IsArenas (tenants : ℕ) (a : Arenas) : Type 0 where
   pub few : length a.segments ≤ 64
   pub names : AreNames a.names
 
-with_arena-is : (done out : Arenas) (name : List ℕ) (segments : ℕ) (admitted : List Bool) → with_arena done name segments admitted ≡ Ok out → (out ≡ and_arena done name segments admitted) × (length done.segments + segments ≤ 64) × (is_among name done.names ≡ false)
+pub with_arena-is : (done out : Arenas) (name : List ℕ) (segments : ℕ) (admitted : List Bool) → with_arena done name segments admitted ≡ Ok out → (out ≡ and_arena done name segments admitted) × (length done.segments + segments ≤ 64) × (is_among name done.names ≡ false)
 with_arena-is done out name segments admitted e =
     elim (cases_Bool (is_among name done.names)) [
       | inl there ↦ let f : Err (repeated name) ≡ Ok out = rw there at e in cc

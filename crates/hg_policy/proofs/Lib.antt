@@ -19,3 +19,8 @@ pub mod Versions
 pub mod LineTable
 pub mod Sets
 pub mod OwnRows
+pub mod SaidWords
+pub mod Said
+pub mod SaidLines
+pub mod SaidLaws
+pub mod Copies

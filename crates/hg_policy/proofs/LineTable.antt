@@ -48,7 +48,7 @@ row_more tenants owner actor r lines i d old new within o a before now =
     ∙ sym (list_any_more p lines i d within)
     ∙ sym (list_any-map (names_right owner actor r) (line_of tenants) (take (i + 1) lines))
 
-other_here : (own : meaning.Rights) (named_by : List lines.Line) (owner actor : ℕ) (r : Right) → actor ≢ owner → has_right (rights_by own named_by owner actor) r ≡ list_any (names_right owner actor r) named_by
+pub other_here : (own : meaning.Rights) (named_by : List lines.Line) (owner actor : ℕ) (r : Right) → actor ≢ owner → has_right (rights_by own named_by owner actor) r ≡ list_any (names_right owner actor r) named_by
 other_here own named_by owner actor right.Read other = rw (ne-eqb actor owner other) refl
 other_here own named_by owner actor right.Write other = rw (ne-eqb actor owner other) refl
 other_here own named_by owner actor right.List other = rw (ne-eqb actor owner other) refl

@@ -1,19 +1,20 @@
 -- What version 1 accepts means the same in version 2.
-use Rattle.std.proofs.Common.{◌≡◌, ◌≢◌, ℕ, ◌||◌, codes, Bool, true, false, List, [], ◌∷◌, Option, Some, None, Ok, if◌then◌else◌, inl, inr, refl, sym, ap, ◌∙◌}
+use Rattle.std.proofs.Common.{◌≡◌, ◌≢◌, ℕ, ◌||◌, codes, Bool, true, false, List, [], ◌∷◌, Option, Some, None, Ok, Err, ℤ, pos, negsuc, if◌then◌else◌, inl, inr, refl, sym, ap, ◌∙◌}
 use Rattle.std.specs.Str.{bytes_eq}
 use Rattle.std.proofs.lemmas.Bool.{cases_Bool}
-use Rattle.toml.specs.Data.{Members, no_members, member}
+use Rattle.toml.specs.Data.{Data, Members, no_members, member, string, integer, float, boolean, datetime, array, table}
 use Rattle.hg_policy.specs.declared.key.Key.{Key}
 use Rattle.hg_policy.specs.declared.key.Key.TheVariants as key
 use Rattle.hg_policy.specs.declared.key.Counted.{Counted}
 use Rattle.hg_policy.specs.declared.key.Level.{Level}
 use Rattle.hg_policy.specs.declared.key.Level.TheVariants as level
-use Rattle.hg_policy.specs.Faults.{◌>>=◌, or_fault, missing}
-use Rattle.hg_policy.specs.Values.{value_at, whole_in, whole_at, knows, first_unknown, none_unknown, known_keys, entries_in, entries_at, at_most, or_else}
+use Rattle.hg_policy.specs.Faults.{Fault, ◌>>=◌, or_fault, missing, kind, version}
+use Rattle.hg_policy.specs.Values.{field_at, value_at, whole_in, whole_at, knows, first_unknown, none_unknown, known_keys, entries_in, entries_at, at_most, or_else}
 use Rattle.hg_policy.specs.Heads.{workers_in, workers_at, max_generation_at, group_entries_at, line_entries_at, heads_at}
-use Rattle.hg_policy.specs.Document.{tables_of, policy_at}
-use Rattle.hg_policy.specs.VersionLaws.{keys_in, IsSameButVersion, VersionsAgree, VersionTwoIsVersionOne}
+use Rattle.hg_policy.specs.Document.{top_in, top_at, tables_of, policy_at}
+use Rattle.hg_policy.specs.VersionLaws.{keys_in, IsSameButVersion, VersionsAgree, VersionTwoIsVersionOne, VersionsAreTwo}
 use Rattle.hg_policy.proofs.Chains.{bind_at}
+use Rattle.hg_policy.proofs.GrantTable.{ne-eqb}
 
 or_skips : (a b c : Bool) → (a || b) ≡ true → (a || (b || c)) ≡ true
 or_skips true b c e = refl
@@ -104,3 +105,34 @@ unfolding policy_at
 version_two_is_version_one one two policy same first second e =
     let (known, at, rest) = bind_at (known_keys level.Top one) (λ known. heads_at one >>= tables_of) policy (rw first at e) in
     rw (second, known_same one two same known at) (ap (λ heads. heads >>= tables_of) (heads_same one two same) ∙ rest)
+
+module _ (document : Members) where
+  by_version : (o : Option Data) → field_at key.Version document ≡ o → top_at document ≡ (or_fault (missing key.Version) o >>= top_in)
+  unfolding top_at value_at
+  by_version o e = ap (λ o. or_fault (missing key.Version) o >>= top_in) e
+
+  stops : (f : Fault) → top_at document ≡ Err f → policy_at document ≡ Err f
+  unfolding policy_at
+  stops f e = rw e refl
+
+  other_number : (n : ℤ) → n ≢ pos 1 → n ≢ pos 2 → top_in (integer n) ≡ Err version
+  other_number (negsuc n) one two = refl
+  other_number (pos n) one two = rw (ne-eqb n 1 (λ e. one (ap pos e)), ne-eqb n 2 (λ e. two (ap pos e))) refl
+
+  no_number : (value : Data) → ((n : ℤ) → value ≢ integer n) → top_in value ≡ Err (kind key.Version)
+  no_number (integer n) none = absurd (none n refl)
+  no_number (string s) none = refl
+  no_number (float x) none = refl
+  no_number (boolean b) none = refl
+  no_number (datetime t) none = refl
+  no_number (array a) none = refl
+  no_number (table m) none = refl
+
+pub versions_are_two : VersionsAreTwo
+versions_are_two document = record {
+  one = λ e. by_version document (Some (integer (pos 1))) e;
+  two = λ e. by_version document (Some (integer (pos 2))) e;
+  other = λ n a b e. stops document version (by_version document (Some (integer n)) e ∙ other_number document n a b);
+  no_number = λ value none e. stops document (kind key.Version) (by_version document (Some value) e ∙ no_number document value none);
+  none = λ e. stops document (missing key.Version) (by_version document None e);
+}

@@ -3,6 +3,7 @@ pub mod Rights
 pub mod TenantSets
 pub mod Names
 pub mod Kept
+pub mod Copied
 pub mod Keys
 pub mod Faults
 pub mod Values
@@ -18,4 +19,5 @@ pub mod Heads
 pub mod Document
 pub mod VersionLaws
 pub mod DocumentLaws
+pub mod SaidLaws
 pub mod LineLaws

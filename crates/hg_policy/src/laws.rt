@@ -3,7 +3,9 @@
 ghost use Rattle.hg_policy.specs.DocumentLaws.{NamesAreDistinct, TablesAreWhole};
 ghost use Rattle.hg_policy.specs.DocumentLaws.{DocumentsAreSound};
 ghost use Rattle.hg_policy.specs.LineLaws.{FaultsAreOneLine};
+ghost use Rattle.hg_policy.specs.SaidLaws.{LinesAreSaid, ArenasAreSaid};
 ghost use Rattle.hg_policy.specs.VersionLaws.{VersionsAgree, VersionTwoIsVersionOne};
+ghost use Rattle.hg_policy.specs.VersionLaws.{VersionsAreTwo};
 
 /// No two tenants of a policy that was read have one name, nor two arenas, and each name has the
 /// form of a name.
@@ -22,6 +24,19 @@ pub fn documents_are_sound()
     ensures { DocumentsAreSound }
 {}
 
+/// A tenant is granted a right on another's blocks exactly where one of the lines that grant names
+/// the owner, the actor and the right, and is forbidden it exactly where one of those that deny
+/// does: each of the two by its own name or by that of a group of which it is a member.
+pub fn lines_are_said()
+    ensures { LinesAreSaid }
+{}
+
+/// An arena admits exactly the tenants for whom a name in its list stands, their own or that of a
+/// group of which they are members, or each tenant where it has no list.
+pub fn arenas_are_said()
+    ensures { ArenasAreSaid }
+{}
+
 /// The line of a fault has no control character, none that breaks a line and none that turns the
 /// direction of writing, whatever key or name it tells.
 pub fn faults_are_one_line()
@@ -37,4 +52,10 @@ pub fn versions_agree()
 /// What version 1 accepts means the same policy in version 2.
 pub fn version_two_is_version_one()
     ensures { VersionTwoIsVersionOne }
+{}
+
+/// A document of version 1 or 2 is read, with the keys of that version, and a document of any other
+/// number has the fault `Version`.
+pub fn versions_are_two()
+    ensures { VersionsAreTwo }
 {}

@@ -3,6 +3,7 @@
 #![tactic(auto)]
 
 mod arenas;
+mod copied;
 mod document;
 mod exclusive;
 mod fault;

@@ -1,7 +1,7 @@
 //! A policy.
 
 ghost use Rattle.std.specs.Prelude.{◌≡◌, ◌≤◌, ◌<◌, ◌^◌, true, length, IfSome, IsTrue, is_some};
-ghost use Rattle.std.specs.Prelude.{option_map, IfNone, false, slice_index_or};
+ghost use Rattle.std.specs.Prelude.{option_map, IfNone, IfOk, false, slice_index_or};
 ghost use Rattle.hg_place.specs.declared.Right.{Right};
 ghost use Rattle.hg_machine.specs.Policy as meaning;
 ghost use Rattle.hg_machine.specs.Policy.{has_right};
@@ -11,10 +11,12 @@ ghost use Rattle.hg_policy.specs.Refusals.{refusal_of};
 ghost use Rattle.hg_machine.specs.SoundPolicy.{IsSoundPolicy};
 ghost use Rattle.hg_policy.specs.Names.{tenant_number, tenant_name, arena_number};
 
+use crate::copied::copied;
 use crate::granted::{Refusal, Standing, Standings};
 use crate::tenant_set::TenantSet;
 use hg_place::{Actor, Right};
 use indexmap::IndexMap;
+use std::alloc::{AllocError, Global};
 use std::marker::Model;
 
 /// Who may do what, and how much of it. Tenants, arenas and segments go by number, from 0.
@@ -51,6 +53,24 @@ impl Model for Policy {
 }
 
 impl Policy {
+    /// A second policy that is the same, with room of its own. Its one error is want of memory.
+    pub fn copy(&self, alloc: Global) -> Result<Policy, AllocError>
+        ensures { IfOk result (λ policy. policy ≡ self.now) }
+    {
+        let tenants = copied(alloc, &self.tenants)?;
+        let arenas = copied(alloc, &self.arenas)?;
+        let segments = Vec::from_slice(alloc, self.segments.as_slice())?;
+        let standings = Vec::from_slice(alloc, self.standings.as_slice())?;
+        Ok(Policy {
+            workers: self.workers,
+            max_generation: self.max_generation,
+            tenants,
+            arenas,
+            segments,
+            standings,
+        })
+    }
+
     /// How many workers there are, 1 to 16.
     pub fn workers(&self) -> u8
         ensures workers { result ≡ self.now.workers }

@@ -1,4 +1,5 @@
 mod asked;
+mod copies;
 mod expanded;
 mod faults;
 mod reading;
