@@ -24,3 +24,4 @@ pub mod Said
 pub mod SaidLines
 pub mod SaidLaws
 pub mod Copies
+pub mod SaidWhole

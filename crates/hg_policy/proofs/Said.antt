@@ -175,7 +175,7 @@ module _ (tenants : List Tenant) (name : List ℕ) (k : ℕ) (at : position (λ 
       rw n.is (group_named-none done n.group text none other))
       [] entries groups e refl
 
-  among_tenants : (text : List ℕ) (j : ℕ) → position (λ tenant. bytes_eq text tenant.name) tenants ≡ Some j → is_among text (tenant_names tenants) ≡ true
+  pub among_tenants : (text : List ℕ) (j : ℕ) → position (λ tenant. bytes_eq text tenant.name) tenants ≡ Some j → is_among text (tenant_names tenants) ≡ true
   among_tenants text j other =
       let p = position-Some (λ (tenant : Tenant). bytes_eq text tenant.name) tenants j nobody other in
       list_any-map (λ other. bytes_eq text other) (λ (tenant : Tenant). tenant.name) tenants

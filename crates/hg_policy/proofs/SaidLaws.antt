@@ -27,25 +27,28 @@ same_Ok : {A : Type 0} (x y : A) → let one : Read A = Ok x in let other : Read
 same_Ok x y e = cc
 
 -- of what a policy is made, and where in the document it stands
-record IsOf (document : Members) (policy : Policy) : Type 0 where
-  heads : Heads
-  tenants : List Tenant
-  groups : List Group
-  arenas : Arenas
-  grants : List Line
-  denies : List Line
-  is : policy ≡ policy_from heads tenants arenas grants denies
-  arena_entries : entries_at key.Arena counted.Arenas 16 document ≡ Ok heads.arenas
-  group_entries : group_entries_at document ≡ Ok heads.groups
-  grant_entries : line_entries_at key.Grant document ≡ Ok heads.grants
-  deny_entries : line_entries_at key.Deny document ≡ Ok heads.denies
-  groups_read : groups_in tenants heads.groups ≡ Ok groups
-  arenas_read : arenas_in tenants groups heads.arenas ≡ Ok arenas
-  grants_read : lines_in tenants groups heads.grants ≡ Ok grants
-  denies_read : lines_in tenants groups heads.denies ≡ Ok denies
+pub record IsOf (document : Members) (policy : Policy) : Type 0 where
+  pub heads : Heads
+  pub tenants : List Tenant
+  pub groups : List Group
+  pub arenas : Arenas
+  pub grants : List Line
+  pub denies : List Line
+  pub is : policy ≡ policy_from heads tenants arenas grants denies
+  pub tenant_entries : entries_at key.Tenant counted.Tenants 64 document ≡ Ok heads.tenants
+  pub arena_entries : entries_at key.Arena counted.Arenas 16 document ≡ Ok heads.arenas
+  pub group_entries : group_entries_at document ≡ Ok heads.groups
+  pub grant_entries : line_entries_at key.Grant document ≡ Ok heads.grants
+  pub deny_entries : line_entries_at key.Deny document ≡ Ok heads.denies
+  pub tenants_read : tenants_in heads.tenants ≡ Ok tenants
+  pub groups_read : groups_in tenants heads.groups ≡ Ok groups
+  pub arenas_read : arenas_in tenants groups heads.arenas ≡ Ok arenas
+  pub grants_read : lines_in tenants groups heads.grants ≡ Ok grants
+  pub denies_read : lines_in tenants groups heads.denies ≡ Ok denies
 
 -- where in the document its heads stand
 record AreOf (document : Members) (heads : Heads) : Type 0 where
+  tenants : entries_at key.Tenant counted.Tenants 64 document ≡ Ok heads.tenants
   arenas : entries_at key.Arena counted.Arenas 16 document ≡ Ok heads.arenas
   groups : group_entries_at document ≡ Ok heads.groups
   grants : line_entries_at key.Grant document ≡ Ok heads.grants
@@ -62,20 +65,16 @@ heads_at-of document heads e =
     let (grants, at6, e6) = bind_at (line_entries_at key.Grant document) _ heads e5 in
     let all : List Members → Heads = λ denies. record { workers = workers; greatest = greatest; tenants = tenants; arenas = arenas; groups = groups; grants = grants; denies = denies } in
     let (denies, at7, e7) = bind_at (line_entries_at key.Deny document) (λ denies. Ok (all denies)) heads e6 in
-    rw (same_Ok (all denies) heads e7) record { arenas = at4; groups = at5; grants = at6; denies = at7 }
+    rw (same_Ok (all denies) heads e7) record { tenants = at3; arenas = at4; groups = at5; grants = at6; denies = at7 }
 
-policy_at-of : (document : Members) (policy : Policy) → policy_at document ≡ Ok policy → IsOf document policy
-unfolding policy_at tables_of
-policy_at-of document policy e =
-    let (top, at1, e1) = bind_at (top_at document) _ policy e in
-    let (known, at2, e2) = bind_at (known_keys top document) _ policy e1 in
-    let (heads, at3, e3) = bind_at (heads_at document) tables_of policy e2 in
-    let of = heads_at-of document heads at3 in
-    let (tenants, at4, e4) = bind_at (tenants_in heads.tenants) _ policy e3 in
-    let (groups, at5, e5) = bind_at (groups_in tenants heads.groups) _ policy e4 in
-    let (arenas, at6, e6) = bind_at (arenas_in tenants groups heads.arenas) _ policy e5 in
-    let (grants, at7, e7) = bind_at (lines_in tenants groups heads.grants) _ policy e6 in
-    let (denies, at8, e8) = bind_at (lines_in tenants groups heads.denies) (λ denies. Ok (policy_from heads tenants arenas grants denies)) policy e7 in
+tables_of-of : (document : Members) (heads : Heads) (policy : Policy) → AreOf document heads → tables_of heads ≡ Ok policy → IsOf document policy
+unfolding tables_of
+tables_of-of document heads policy of e =
+    let (tenants, at1, e1) = bind_at (tenants_in heads.tenants) _ policy e in
+    let (groups, at2, e2) = bind_at (groups_in tenants heads.groups) _ policy e1 in
+    let (arenas, at3, e3) = bind_at (arenas_in tenants groups heads.arenas) _ policy e2 in
+    let (grants, at4, e4) = bind_at (lines_in tenants groups heads.grants) _ policy e3 in
+    let (denies, at5, e5) = bind_at (lines_in tenants groups heads.denies) (λ denies. Ok (policy_from heads tenants arenas grants denies)) policy e4 in
     record {
       heads = heads;
       tenants = tenants;
@@ -83,16 +82,26 @@ policy_at-of document policy e =
       arenas = arenas;
       grants = grants;
       denies = denies;
-      is = same_Ok (policy_from heads tenants arenas grants denies) policy e8;
+      is = same_Ok (policy_from heads tenants arenas grants denies) policy e5;
+      tenant_entries = of.tenants;
       arena_entries = of.arenas;
       group_entries = of.groups;
       grant_entries = of.grants;
       deny_entries = of.denies;
-      groups_read = at5;
-      arenas_read = at6;
-      grants_read = at7;
-      denies_read = at8;
+      tenants_read = at1;
+      groups_read = at2;
+      arenas_read = at3;
+      grants_read = at4;
+      denies_read = at5;
     }
+
+pub policy_at-of : (document : Members) (policy : Policy) → policy_at document ≡ Ok policy → IsOf document policy
+unfolding policy_at
+policy_at-of document policy e =
+    let (top, at1, e1) = bind_at (top_at document) _ policy e in
+    let (known, at2, e2) = bind_at (known_keys top document) _ policy e1 in
+    let (heads, at3, e3) = bind_at (heads_at document) tables_of policy e2 in
+    tables_of-of document heads policy (heads_at-of document heads at3) e3
 
 -- on another's blocks the table has what a line names
 table-other : (own : Rights) (lines : List Line) (n i j : ℕ) (r : Right) → i < n → j < n → j ≢ i

@@ -112,7 +112,7 @@ module _ (k : Key) (test : Members → Bool) where
       in_turn-says (with_table k) (λ _. Prim.Unit {0}) (λ done. list_any test done) (is_table test) (λ done d next e _. (tt, with_table-says done d next e)) [] ds out rest tt
       ∙ sym (has_some-read k (is_table test) value ds at)
 
-  at_most-is : (most : ℕ) (c : Counted) (entries out : List Members) → at_most most c entries ≡ Ok out → entries ≡ out
+  pub at_most-is : (most : ℕ) (c : Counted) (entries out : List Members) → at_most most c entries ≡ Ok out → entries ≡ out
   at_most-is most c entries out e = elim (cases_Bool (nat_lt most (length entries))) [
     | inl over ↦ let f : Err (too_many c) ≡ Ok out = rw over at e in cc
     | inr fits ↦ let f : Ok entries ≡ Ok out = rw fits at e in cc
@@ -159,7 +159,7 @@ right_of-is text q e = elim (cases_Bool (bytes_eq text (codes "read"))) [
   ]
 ]
 
-right_in-is : (d : Data) (q : Right) → right_in d ≡ Ok q → d ≡ string (right_text q)
+pub right_in-is : (d : Data) (q : Right) → right_in d ≡ Ok q → d ≡ string (right_text q)
 right_in-is (string text) q e = ap string (right_of-is text q (some_read (kind key.Rights) (right_of text) q e))
 right_in-is (integer z) q e = cc
 right_in-is (float x) q e = cc

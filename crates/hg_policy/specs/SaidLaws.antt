@@ -1,7 +1,7 @@
 -- Laws of what the lines of a document say, by names.
-use Rattle.std.specs.Prelude.{◌≡◌, ◌≢◌, ℕ, ◌&&◌, ◌||◌, Bool, true, false, List, Option, Some, None}
-use Rattle.std.specs.Prelude.{Ok, codes}
-use Rattle.std.specs.List.{list_any}
+use Rattle.std.specs.Prelude.{◌≡◌, ◌≢◌, ℕ, ◌&&◌, ◌||◌, Bool, true, false, List, [], ◌∷◌, Option}
+use Rattle.std.specs.Prelude.{Some, None, Ok, codes, length, nat_le}
+use Rattle.std.specs.List.{list_any, list_all}
 use Rattle.std.specs.Str.{bytes_eq}
 use Rattle.toml.specs.Data.{Data, Members, string, array, table}
 use Rattle.hg_place.specs.declared.Right.{Right}
@@ -11,6 +11,8 @@ use Rattle.hg_policy.specs.declared.key.Key.{Key}
 use Rattle.hg_policy.specs.declared.key.Key.TheVariants as key
 use Rattle.hg_policy.specs.Values.{field_at, elements}
 use Rattle.hg_policy.specs.Names.{tenant_number, arena_number}
+use Rattle.hg_policy.specs.NameForm.{is_among}
+use Rattle.hg_policy.specs.VersionLaws.{keys_in}
 use Rattle.hg_policy.specs.Document.{policy_at}
 
 -- the value is this text
@@ -95,3 +97,73 @@ ArenasAreSaid =
     ≡ has_entry key.Arena
     (λ entry. says key.Name (is_text arena) entry
     && is_open_to document tenant (field_at key.Exclusive entry)) document
+
+-- the value is a list, and each element of it is so
+abbrev pub has_only : (Data → Bool) → Data → Bool
+has_only test (array items) = list_all test (elements items)
+has_only test _ = false
+
+-- there is no value, or it is so
+abbrev pub is_none_or : (Data → Bool) → Option Data → Bool
+is_none_or test None = true
+is_none_or test (Some value) = test value
+
+-- each entry that the document has at this key is so
+abbrev pub each_entry : Key → (Members → Bool) → Members → Bool
+each_entry key test document = is_none_or (has_only (is_table test)) (field_at key document)
+
+-- the entry has only these keys
+abbrev pub has_keys : List (List ℕ) → Members → Bool
+has_keys keys entry = list_all (λ key. is_among key keys) (keys_in entry)
+
+-- the value is a tenant's name
+abbrev pub is_tenant : Members → Data → Bool
+is_tenant document (string name) = has_entry key.Tenant (says key.Name (is_text name)) document
+is_tenant document _ = false
+
+-- or a group's
+abbrev pub is_tenant_or_group : Members → Data → Bool
+is_tenant_or_group document (string name) =
+    has_entry key.Tenant (says key.Name (is_text name)) document
+    || has_entry key.Group (says key.Name (is_text name)) document
+is_tenant_or_group document _ = false
+
+-- the value is the word of a right
+abbrev pub is_right : Data → Bool
+is_right value =
+    is_text (codes "read") value || (is_text (codes "write") value
+    || (is_text (codes "list") value || is_text (codes "free") value))
+
+abbrev pub is_line : Members → Members → Bool
+is_line document line =
+    has_keys (codes "owner" ∷ codes "to" ∷ codes "rights" ∷ []) line
+    && (says key.Owner (is_tenant_or_group document) line
+    && (says key.To (is_tenant_or_group document) line && says key.Rights (has_only is_right) line))
+
+abbrev pub is_group : Members → Members → Bool
+is_group document entry =
+    has_keys (codes "name" ∷ codes "members" ∷ []) entry
+    && says key.Members (has_only (is_tenant document)) entry
+
+-- if the arena has a list, its elements are names of tenants and groups
+abbrev pub is_arena : Members → Members → Bool
+is_arena document entry =
+    is_none_or (has_only (is_tenant_or_group document)) (field_at key.Exclusive entry)
+
+-- the value is a list of at most so many
+abbrev pub has_at_most : ℕ → Data → Bool
+has_at_most most (array items) = nat_le (length (elements items)) most
+has_at_most most _ = false
+
+-- nothing of what the lines, the groups and the lists of arenas say is passed over: lines and groups
+-- have their own keys, their names are names of tenants and groups, their rights words of rights,
+-- and there are at most 64 groups
+pub record IsWhole (document : Members) : Type 0 where
+  pub grants : each_entry key.Grant (is_line document) document ≡ true
+  pub denies : each_entry key.Deny (is_line document) document ≡ true
+  pub groups : each_entry key.Group (is_group document) document ≡ true
+  pub few : is_none_or (has_at_most 64) (field_at key.Group document) ≡ true
+  pub arenas : each_entry key.Arena (is_arena document) document ≡ true
+
+abbrev pub NothingIsPassedOver : Type 0
+NothingIsPassedOver = (document : Members) (policy : Policy) → policy_at document ≡ Ok policy → IsWhole document

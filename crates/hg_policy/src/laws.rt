@@ -3,7 +3,7 @@
 ghost use Rattle.hg_policy.specs.DocumentLaws.{NamesAreDistinct, TablesAreWhole};
 ghost use Rattle.hg_policy.specs.DocumentLaws.{DocumentsAreSound};
 ghost use Rattle.hg_policy.specs.LineLaws.{FaultsAreOneLine};
-ghost use Rattle.hg_policy.specs.SaidLaws.{LinesAreSaid, ArenasAreSaid};
+ghost use Rattle.hg_policy.specs.SaidLaws.{LinesAreSaid, ArenasAreSaid, NothingIsPassedOver};
 ghost use Rattle.hg_policy.specs.VersionLaws.{VersionsAgree, VersionTwoIsVersionOne};
 ghost use Rattle.hg_policy.specs.VersionLaws.{VersionsAreTwo};
 
@@ -35,6 +35,13 @@ pub fn lines_are_said()
 /// group of which they are members, or each tenant where it has no list.
 pub fn arenas_are_said()
     ensures { ArenasAreSaid }
+{}
+
+/// In a document that means a policy the lines and the groups have only their own keys, each name
+/// in them and in the lists of arenas is a tenant's, or but for members a group's, and each right is
+/// one of the four words; there are at most 64 groups.
+pub fn nothing_is_passed_over()
+    ensures { NothingIsPassedOver }
 {}
 
 /// The line of a fault has no control character, none that breaks a line and none that turns the
