@@ -1,5 +1,5 @@
 -- A line is answered, and a replay goes on by it.
-use Rattle.std.proofs.Common.{◌≡◌, ℕ, ◌+◌, ◌<◌, suc, zero, leb, Bool, cond, true, false, List, [], ◌∷◌, ◌++◌, length, get_or, take, drop, Option, None, Some, is_some, option_map, refl, sym, ap, subst, ◌∙◌, inl, inr, arith, append-nil, append_assoc, take-append-drop, filter}
+use Rattle.std.proofs.Common.{◌≡◌, ℕ, ◌+◌, ◌<◌, suc, zero, leb, Bool, cond, true, false, List, [], ◌∷◌, ◌++◌, length, get_or, take, drop, Option, None, Some, is_some, option_map, refl, sym, ap, subst, ◌∙◌, inl, inr, arith, append-nil, append_assoc, take-append-drop, length-append, filter}
 use Rattle.std.proofs.lemmas.Bool.{cases_Bool, leb-false}
 use Rattle.std.proofs.lemmas.List.{take_more, get_or-map, length-map}
 use Rattle.std.proofs.lemmas.List.Sums.{count_by_more_yes, count_by_more_no, sum_by-take-le}
@@ -33,8 +33,10 @@ use Rattle.hg_replay.specs.Listings.{looks}
 use Rattle.hg_replay.specs.Rows.{is_row}
 use Rattle.hg_replay.specs.Text.{answer_line, listing_text, reply_text}
 use Rattle.hg_replay.specs.Sinks.{Seen}
-use Rattle.hg_replay.specs.Writes.{StopsIn}
-use Rattle.hg_replay.specs.Replays.{Progress, handles_after, handle_in, starting, meaning_at, Answered, Replays, StopsWithin}
+use Rattle.hg_replay.specs.declared.replaying.output.Output.{Output}
+use Rattle.hg_replay.specs.Writes.{StopsIn, StopsSoon, IsGiven}
+use Rattle.hg_replay.specs.Replays.{Progress, handles_after, handle_in, starting, meaning_at, Answered, Replays, StopsAt}
+use Rattle.hg_replay.proofs.Writes.{stops_in_last}
 
 -- a line that gives no label leaves the labels as they were
 pub no_label : (handles : List (Option Handle)) (c : Command) (answers : List Answer) → gives_label c ≡ false → handles_after handles c answers ≡ handles
@@ -172,16 +174,85 @@ module _ (k : Kept) (lines : List Line) (i : ℕ) (line : Line) (mid end : Progr
       take_more lines i line within ∙ ap (λ l. take i lines ++ l ∷ []) (sym here_is) in
       subst (λ ls. Replays (starting k) ls end (text ++ here)) (sym more) (replays_more (take i lines) line (starting k) mid end text here so_far answered)
 
-  pub replays_stop : (old new : Seen) → StopsIn old new (text ++ here) → StopsWithin k lines old new
-  replays_stop old new stopped = record {
-    before = take (i + 1) lines;
-    after = drop (i + 1) lines;
-    split = sym (take-append-drop (i + 1) lines);
-    end = end;
-    text = text ++ here;
-    replayed = replays_next;
-    stopped = stopped;
-  }
+  pub replays_stop : (old new : Seen) → StopsSoon old new text here → StopsAt k lines end old new
+  replays_stop old new soon =
+      let more : take (i + 1) lines ≡ take i lines ++ line ∷ [] =
+      take_more lines i line within ∙ ap (λ l. take i lines ++ l ∷ []) (sym here_is) in
+      record {
+        before = take i lines;
+        last = line;
+        after = drop (i + 1) lines;
+        split =
+            sym (take-append-drop (i + 1) lines) ∙ ap (λ l. l ++ drop (i + 1) lines) more
+            ∙ append_assoc (take i lines) (line ∷ []) (drop (i + 1) lines);
+        mid = mid;
+        text = text;
+        here = here;
+        replayed = so_far;
+        answered = answered;
+        stopped = soon;
+      }
+
+-- a replay of some lines is one of all but the last, and this one's answers
+pub record Last (from : Progress) (lines : List Line) (end : Progress) (text : List ℕ) : Type 0 where
+  pub before : List Line
+  pub last : Line
+  pub split : lines ≡ before ++ last ∷ []
+  pub mid : Progress
+  pub early : List ℕ
+  pub here : List ℕ
+  pub replayed : Replays from before mid early
+  pub answered : Answered mid last end here
+  pub told : text ≡ early ++ here
+
+pub replays_last : (line : Line) (lines : List Line) (from end : Progress) (text : List ℕ) → Replays from (line ∷ lines) end text → Last from (line ∷ lines) end text
+replays_last line [] from end text (mid, here, rest, answered, (same, none), told) = record {
+  before = [];
+  last = line;
+  split = refl;
+  mid = from;
+  early = [];
+  here = here;
+  replayed = (refl, refl);
+  answered = subst (λ p. Answered from line p here) (sym same) answered;
+  told = told ∙ ap (λ t. here ++ t) none ∙ append-nil here;
+}
+replays_last line (next ∷ lines) from end text (mid, here, rest, answered, more, told) =
+    let later = replays_last next lines mid end rest more in
+    record {
+      before = line ∷ later.before;
+      last = later.last;
+      split = ap (λ ls. line ∷ ls) later.split;
+      mid = later.mid;
+      early = here ++ later.early;
+      here = later.here;
+      replayed = (mid, here, later.early, answered, later.replayed, refl);
+      answered = later.answered;
+      told = told ∙ ap (λ t. here ++ t) later.told ∙ sym (append_assoc here later.early later.here);
+    }
+
+-- all lines are answered, and a write stops in what waits after the last
+module _ (k : Kept) (a b c : Seen) (x : Output) (on : x.stopped ≡ false)
+    (stopped : (start : Seen) (given : List ℕ) → IsGiven start b x given → StopsIn start c given) where
+  pub replays_stop_last : (lines : List Line) (end : Progress) (text : List ℕ) → Replays (starting k) lines end text → IsGiven a b x text → StopsAt k lines end a c
+  replays_stop_last [] end text (same, none) given =
+      let stop = stopped a text given in
+      absurd (omega (arith, stop.not_all, ap (λ l. length l) (sym none ∙ stop.split), length-append stop.front stop.rest))
+  replays_stop_last (line ∷ lines) end text replayed given =
+      let parts = replays_last line lines (starting k) end text replayed in
+      let soon = stops_in_last a b c x parts.early text parts.here given on parts.told stopped in
+      record {
+        before = parts.before;
+        last = parts.last;
+        after = [];
+        split = parts.split;
+        mid = parts.mid;
+        text = parts.early;
+        here = parts.here;
+        replayed = parts.replayed;
+        answered = parts.answered;
+        stopped = soon;
+      }
 
 -- a line adds the label that it gives
 pub label_count_more : (lines : List Line) (i : ℕ) (line : Line) → i < length lines → line ≡ get_or lines i line

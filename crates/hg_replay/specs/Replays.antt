@@ -16,7 +16,7 @@ use Rattle.hg_core.specs.Opening.{opened}
 use Rattle.hg_replay.specs.Events.{meaning_of, events_of, unknown_worker}
 use Rattle.hg_replay.specs.Text.{reply_text}
 use Rattle.hg_replay.specs.Sinks.{Seen}
-use Rattle.hg_replay.specs.Writes.{Wrote, StopsIn}
+use Rattle.hg_replay.specs.Writes.{Wrote, StopsSoon}
 
 -- where a replay stands: what is kept, and what the allocation of each label so far was answered,
 -- in the order of the labels; none where it wasn't served
@@ -60,16 +60,24 @@ Replays from (line ∷ lines) end text =
 abbrev pub starting : Kept → Progress
 starting k = record { kept = k; handles = [] }
 
--- from what is kept some of the lines, the first ones, are answered, and of their text only a front
--- is written
-pub record StopsWithin (k : Kept) (lines : List Line) (old new : Seen) : Type 0 where
+-- from what is kept the lines before one, and that one, are answered, and none after it, which
+-- leaves this. Of their text only a front is written, and of that of the lines before it all but
+-- what may wait: once a write has stopped no line more is answered
+pub record StopsAt (k : Kept) (lines : List Line) (end : Progress) (old new : Seen) : Type 0 where
   pub before : List Line
+  pub last : Line
   pub after : List Line
-  pub split : lines ≡ before ++ after
-  pub end : Progress
+  pub split : lines ≡ before ++ last ∷ after
+  pub mid : Progress
   pub text : List ℕ
-  pub replayed : Replays (starting k) before end text
-  pub stopped : StopsIn old new text
+  pub here : List ℕ
+  pub replayed : Replays (starting k) before mid text
+  pub answered : Answered mid last end here
+  pub stopped : StopsSoon old new text here
+
+-- the same, wherever that leads
+abbrev pub StopsWithin : Kept → List Line → Seen → Seen → Type 0
+StopsWithin k lines old new = (end : Progress) × StopsAt k lines end old new
 
 -- how a replay under a policy ends, from what a core opens with. Where it gives up with Worker or
 -- Memory nothing is written

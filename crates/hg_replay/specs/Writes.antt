@@ -1,6 +1,7 @@
 -- What a writer was given, where its writing stopped, and what waits to be written.
-use Rattle.std.specs.Prelude.{◌≡◌, ◌<◌, ℕ, true, false, List, ◌++◌, length}
+use Rattle.std.specs.Prelude.{◌≡◌, ◌<◌, ◌≤◌, ◌+◌, ℕ, true, false, List, ◌++◌, length}
 use Rattle.std.specs.Io.KnownBytes.{Appends}
+use Rattle.hg_replay.specs.declared.replaying.output.TheConstants.{ROOM}
 use Rattle.hg_replay.specs.declared.replaying.output.Output.{Output}
 use Rattle.hg_replay.specs.Sinks.{Seen}
 
@@ -18,10 +19,17 @@ pub record StopsIn (old new : Seen) (text : List ℕ) : Type 0 where
   pub written : Wrote old new front
   pub stopped : new.has_stopped ≡ true
 
--- the known bytes have grown by all of the text but its end, which waits
+-- a write stopped in a text and what comes after it, where no more of the text isn't written than
+-- may wait
+pub record StopsSoon (old new : Seen) (text here : List ℕ) : Type 0 where
+  pub stopped : StopsIn old new (text ++ here)
+  pub waited : length text ≤ length stopped.front + ROOM
+
+-- the known bytes have grown by all of the text but its end, which waits where there is room
 pub record WritesAllBut (waiting : List ℕ) (old new : Seen) (text : List ℕ) : Type 0 where
   pub front : List ℕ
   pub split : text ≡ front ++ waiting
+  pub fits : length waiting ≤ ROOM
   pub written : Wrote old new front
 
 -- since the writer was seen so, this text was given to be written

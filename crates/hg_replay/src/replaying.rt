@@ -8,7 +8,7 @@ ghost use Rattle.hg_core.specs.Opening.{opened};
 ghost use Rattle.hg_replay.specs.Text.{answer_line};
 ghost use Rattle.hg_replay.specs.Writes.{Emits, IsGiven, Wrote};
 ghost use Rattle.hg_replay.specs.Replays.{Progress, handle_in, handles_after, starting};
-ghost use Rattle.hg_replay.specs.Replays.{Answered, Replays, StopsWithin, EndsReplay};
+ghost use Rattle.hg_replay.specs.Replays.{Answered, Replays, StopsAt, EndsReplay};
 ghost use Rattle.hg_replay.specs.KnownNames.{meanings};
 ghost use Rattle.hg_replay.specs.StoredLabels.{binds};
 ghost use Rattle.hg_trace.specs.Labels.{label_count};
@@ -210,7 +210,8 @@ fn replay_lines<W: Sink>(
         (record { kept = core.new; handles = handles.new.items }) text
         × IsGiven (W.seen out.old) (W.seen out.new) output.new text
         × (output.new.stopped ≡ false)) }
-    ensures stopped { OnErr result (StopsWithin core.old (lines_in trace.now)
+    ensures stopped { OnErr result (StopsAt core.old (lines_in trace.now)
+        (record { kept = core.new; handles = handles.new.items })
         (W.seen out.old) (W.seen out.new)) }
 {
     for line in trace.stored() {
@@ -239,8 +240,8 @@ fn replay_on<W: Sink>(
     ensures ok { OnOk result ((end : Progress) × (text : List ℕ)
         × Replays (starting core.old) (lines_in trace.now) end text
         × Wrote (W.seen out.old) (W.seen out.new) text) }
-    ensures stopped { OnErr result (StopsWithin core.old (lines_in trace.now)
-        (W.seen out.old) (W.seen out.new)) }
+    ensures stopped { OnErr result ((end : Progress) × (end.kept ≡ core.new)
+        × StopsAt core.old (lines_in trace.now) end (W.seen out.old) (W.seen out.new)) }
 {
     let mut output = Output::new();
     match replay_lines(core, meant, &mut handles, trace, &mut output, out) {

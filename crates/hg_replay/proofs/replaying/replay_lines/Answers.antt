@@ -5,6 +5,7 @@ use Rattle.hg_trace.specs.Stored.{line_in, lines_in}
 use Rattle.hg_replay.specs.KnownNames.{meanings}
 use Rattle.hg_replay.specs.StoredLabels.{binds}
 use Rattle.hg_replay.proofs.Answering.{replays_next, replays_stop, answered_keeps_policy, label_count_more, label_within, binds_said, said_within, said_here, numbered_here}
+use Rattle.hg_replay.proofs.Writes.{stops_in_line}
 use Rattle.hg_replay.proofs.replaying.replay_lines.Goals as goal
 
 pub replay_line-requires-clause-worker : goal.replay_line-requires-clause-worker
@@ -44,7 +45,9 @@ returns-then-has_stopped-clause-stopped g c =
     let (text, so_far, given) = c.loop-line.invariant.replayed in
     let (here, answered, gives) = c.replay_line.ensures.answered store.names store.labels meant numbered in
     replays_stop c.args.core.now (lines_in store) i (line_in store.names store.labels line) (record { kept = c.loop-line.core; handles = c.loop-line.handles.items }) (record { kept = c.replay_line.new.core; handles = c.replay_line.new.handles.items }) text here within there so_far answered
-    (seen c.args.out.now) (seen c.replay_line.new.out) ((gives (seen c.args.out.now) text given).1 (sym c.has_stopped.ensures ∙ c.if-has_stopped.true))
+    (seen c.args.out.now) (seen c.replay_line.new.out)
+    (stops_in_line (seen c.args.out.now) (seen c.loop-line.out) (seen c.replay_line.new.out) c.loop-line.output c.replay_line.new.output text here given
+    c.loop-line.invariant.going (sym c.has_stopped.ensures ∙ c.if-has_stopped.true) gives)
 
 pub loop-line-preserved : goal.loop-line-preserved
 loop-line-preserved g c =
