@@ -6,6 +6,7 @@ pub mod Meanings
 pub mod Answering
 pub mod Listed
 pub mod ReplayRuns
+pub mod FirstLines
 pub mod Unwritten
 pub mod ValuesInWords
 pub mod StatusLaws

@@ -34,7 +34,7 @@ later_worker : (worker : ℕ) (workers : List ℕ) (events : List (ℕ × Event)
 later_worker worker workers events all = λ k d within. let at = all k d within in (suc at.0, omega (arith, at.1), at.2)
 
 -- a run with its choices leads there
-leads : (from end : Progress) (told : List Told) → Chosen from.kept (all_events told) (all_answers told) end.kept → end.handles ≡ all_handles from.handles told
+pub leads : (from end : Progress) (told : List Told) → Chosen from.kept (all_events told) (all_answers told) end.kept → end.handles ≡ all_handles from.handles told
     → LeadsTo from told end
 leads from end told chosen handles = record {
   run = chosen_runs_are_runs from.kept end.kept (all_events told) (all_answers told) chosen;
@@ -44,17 +44,17 @@ leads from end told chosen handles = record {
 
 -- the entry of the first line, and those of the others
 module _ (from mid : Progress) (line : Line) (here : List ℕ) (answered : Answered from line mid here) where
-  abbrev first : Told
+  abbrev pub first : Told
   first = record { line = line; at = from; answers = answered.answers }
 
-  leads_then : (told : List Told) (end : Progress) → LeadsTo mid told end → LeadsTo from (first ∷ told) end
+  pub leads_then : (told : List Told) (end : Progress) → LeadsTo mid told end → LeadsTo from (first ∷ told) end
   leads_then told end then =
       leads from end (first ∷ told)
       (chosen_then (events_of from.kept.state line.worker (meaning_at from line)) (all_events told) answered.answers (all_answers told)
       from.kept mid.kept end.kept answered.chosen then.chosen)
       (then.handles ∙ ap (λ h. all_handles h told) answered.handles)
 
-  stands_then : (told : List Told) → StandsWhereLed mid told → StandsWhereLed from (first ∷ told)
+  pub stands_then : (told : List Told) → StandsWhereLed mid told → StandsWhereLed from (first ∷ told)
   stands_then told stands [] t after split =
       let same : first ≡ t = cc in
       subst (λ u. LeadsTo from [] u.at) same (leads from from [] refl refl)

@@ -12,8 +12,9 @@ use Rattle.hg_replay.specs.Events.{unknown_worker}
 use Rattle.hg_replay.specs.Numbers.{number_of}
 use Rattle.hg_core.specs.Opening.{opened}
 use Rattle.hg_replay.specs.Replays.{Replays, starting}
+use Rattle.hg_replay.proofs.FirstLines.{stops_are_in_runs}
 use Rattle.hg_replay.proofs.ValuesInWords.{values_show_in_words}
-use Rattle.hg_replay.specs.StatusLaws.{IsDue, OneStatusIsDue, RunsEndAsDue, RunsShowValuesInWords, ChecksEndAsDue, LongInputsFail, NumbersDiffer}
+use Rattle.hg_replay.specs.StatusLaws.{IsDue, OneStatusIsDue, RunsEndAsDue, RunsShowValuesInWords, FailedRunsBeginWell, ChecksEndAsDue, LongInputsFail, NumbersDiffer}
 
 -- bytes that mean no policy
 module _ (p t : List ℕ) (fault : Fault) (none : document_of p ≡ Err fault) where
@@ -106,6 +107,19 @@ runs_show_values_in_words p t u lines others old new before after read reread sa
     subst (λ ls. Replays from ls last instead) two (subst (λ q. Replays (starting (opened q)) twos last instead) is retold) in
     let shown = values_show_in_words from from end last lines others text instead same (record { kept = refl; handles = refl }) here there in
     (text, instead, shown.0, wrote, rewrote)
+
+pub failed_runs_begin_well : FailedRunsBeginWell
+failed_runs_begin_well p t old new before after (inl kept) well = inl kept
+failed_runs_begin_well p t old new before after (inr (policy, lines, means, (end, stop))) (other, others, meant, last, all, replayed, wrote) =
+    let first = means.0 in
+    let second = meant.0 in
+    let one_read = means.1 in
+    let two_read = meant.1 in
+    let is : other ≡ policy = cc in
+    let same : others ≡ lines = cc in
+    let whole : Replays (starting (opened policy)) lines last all =
+    subst (λ ls. Replays (starting (opened policy)) ls last all) same (subst (λ q. Replays (starting (opened q)) others last all) is replayed) in
+    inr (policy, lines, means, end, last, all, stops_are_in_runs (opened policy) lines end last old new all stop whole, wrote)
 
 pub checks_end_as_due : ChecksEndAsDue
 checks_end_as_due status.Done p t old new (policy, is, wrote) other =

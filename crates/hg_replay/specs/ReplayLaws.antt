@@ -5,6 +5,7 @@ use Rattle.hg_place.specs.declared.Actor.{Actor}
 use Rattle.hg_place.specs.declared.Handle.{Handle}
 use Rattle.hg_machine.specs.Policy.{Policy}
 use Rattle.hg_machine.specs.State.{State}
+use Rattle.hg_machine.specs.Lists.{Kept}
 use Rattle.hg_machine.specs.Steps.{Run}
 use Rattle.hg_machine.specs.Soundness.{IsSound}
 use Rattle.hg_machine.specs.Listing.{line_of, listing}
@@ -20,6 +21,9 @@ use Rattle.hg_replay.specs.Listings.{looks}
 use Rattle.hg_replay.specs.Rows.{is_row}
 use Rattle.hg_replay.specs.Text.{listing_text, reply_text}
 use Rattle.hg_replay.specs.Replays.{Progress, Answered, Replays, handles_after, meaning_at}
+use Rattle.hg_replay.specs.Replays.{StopsAt, starting}
+use Rattle.hg_replay.specs.Sinks.{Seen}
+use Rattle.hg_replay.specs.Writes.{StopsSoon}
 
 -- the row that an answer is
 abbrev pub row_of : Answer → Option Row
@@ -114,3 +118,48 @@ ReplaysKeepSound =
     (from end : Progress) (lines : List Line) (text : List ℕ)
     → IsSound from.kept.state → unknown_worker from.kept.state.policy.workers lines ≡ None
     → Replays from lines end text → IsSound end.kept.state
+
+-- a replay of all lines begins as one of first lines of them: the run of these leads where the one
+-- replay stands, the run of all goes on from there, and the text of each is that of its answers
+pub record BeginsAlike (from mid end : Progress) (before after : List Line) (text all : List ℕ)
+    : Type 0 where
+  pub told : List Told
+  pub more : List Told
+  pub first : map (λ t. t.line) told ≡ before
+  pub later : map (λ t. t.line) more ≡ after
+  pub leads : LeadsTo from told mid
+  pub whole : LeadsTo from (told ++ more) end
+  pub stands : StandsWhereLed from (told ++ more)
+  pub prints : text ≡ all_text from.kept.state.policy told
+  pub prints_all : all ≡ all_text from.kept.state.policy (told ++ more)
+
+-- so whatever first lines are answered, their answers are the first of the run of all, and their
+-- text is the first of its text
+abbrev pub FirstLinesBeginRuns : Type 0
+FirstLinesBeginRuns =
+    (from mid end : Progress) (before after : List Line) (text all : List ℕ)
+    → Replays from before mid text → Replays from (before ++ after) end all
+    → BeginsAlike from mid end before after text all
+
+-- a replay of lines stopped in the run of all of them: it stands where the first entries and one
+-- more lead, and a write stopped in the text of these, where of that of the first no more isn't
+-- written than may wait
+pub record StopsInRun (k : Kept) (lines : List Line) (end last : Progress) (old new : Seen)
+    (all : List ℕ) : Type 0 where
+  pub told : List Told
+  pub here : Told
+  pub more : List Told
+  pub whole : map (λ t. t.line) (told ++ here ∷ more) ≡ lines
+  pub leads : LeadsTo (starting k) (told ++ here ∷ []) end
+  pub leads_on : LeadsTo (starting k) (told ++ here ∷ more) last
+  pub stands : StandsWhereLed (starting k) (told ++ here ∷ more)
+  pub prints : all ≡ all_text k.state.policy (told ++ here ∷ more)
+  pub stopped :
+      StopsSoon old new (all_text k.state.policy told) (all_text k.state.policy (here ∷ []))
+
+-- so does each replay that stopped: the lines that it answered are the first of the run of all
+abbrev pub StopsAreInRuns : Type 0
+StopsAreInRuns =
+    (k : Kept) (lines : List Line) (end last : Progress) (old new : Seen) (all : List ℕ)
+    → StopsAt k lines end old new → Replays (starting k) lines last all
+    → StopsInRun k lines end last old new all

@@ -7,8 +7,11 @@ use Rattle.hg_trace.specs.Trace.{trace_of}
 use Rattle.hg_replay.specs.declared.run.input.TheConstants.{LIMIT}
 use Rattle.hg_replay.specs.declared.run.status.Status.{Status}
 use Rattle.hg_replay.specs.declared.run.status.Status.TheVariants as status
+use Rattle.hg_core.specs.Opening.{opened}
 use Rattle.hg_replay.specs.Checks.{EndsCheck}
 use Rattle.hg_replay.specs.Numbers.{number_of}
+use Rattle.hg_replay.specs.Replays.{Progress}
+use Rattle.hg_replay.specs.ReplayLaws.{StopsInRun}
 use Rattle.hg_replay.specs.Sinks.{Seen}
 use Rattle.hg_replay.specs.Writes.{Wrote}
 use Rattle.hg_replay.specs.WrittenValues.{unwritten_lines, PrintSameButWords}
@@ -59,6 +62,18 @@ RunsShowValuesInWords =
     → EndsAs status.Done policy_bytes other_bytes before after
     → (text : List ℕ) × (instead : List ℕ) × PrintSameButWords lines text instead
     × Wrote old new text × Wrote before after instead
+
+-- a run that fails and one on the same bytes that goes well: the one wrote nothing, or it stopped in
+-- the run of the other
+abbrev pub FailedRunsBeginWell : Type 0
+FailedRunsBeginWell =
+    (policy_bytes trace_bytes : List ℕ) (old new before after : Seen)
+    → EndsAs status.Failed policy_bytes trace_bytes old new
+    → EndsAs status.Done policy_bytes trace_bytes before after
+    → (new ≡ old)
+    ⊎ ((policy : Policy) × (lines : List Line) × Means policy_bytes trace_bytes policy lines
+    × (end : Progress) × (last : Progress) × (all : List ℕ)
+    × StopsInRun (opened policy) lines end last old new all × Wrote before after all)
 
 -- an input longer than the limit is not read
 abbrev pub LongInputsFail : Type 0

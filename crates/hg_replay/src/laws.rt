@@ -2,7 +2,9 @@
 
 ghost use Rattle.hg_replay.specs.ReplayLaws.{ListLinesPrintListings, ListingsShowWhatIsListed};
 ghost use Rattle.hg_replay.specs.ReplayLaws.{ReplaysAreRuns, ReplaysKeepPolicy, ReplaysKeepSound};
+ghost use Rattle.hg_replay.specs.ReplayLaws.{FirstLinesBeginRuns, StopsAreInRuns};
 ghost use Rattle.hg_replay.specs.StatusLaws.{ChecksEndAsDue, LongInputsFail, NumbersDiffer};
+ghost use Rattle.hg_replay.specs.StatusLaws.{FailedRunsBeginWell};
 ghost use Rattle.hg_replay.specs.StatusLaws.{OneStatusIsDue, RunsEndAsDue, RunsShowValuesInWords};
 ghost use Rattle.hg_replay.specs.WrittenValues.{LinesShowValuesInWords, ValuesShowInWords};
 
@@ -32,6 +34,16 @@ pub fn replays_keep_sound()
     ensures { ReplaysKeepSound }
 {}
 
+/// Whatever first lines of a trace are answered, their answers are the first of the run of all.
+pub fn first_lines_begin_runs()
+    ensures { FirstLinesBeginRuns }
+{}
+
+/// A replay that stopped stands after first lines of the run of all, of whose text it wrote a front.
+pub fn stops_are_in_runs()
+    ensures { StopsAreInRuns }
+{}
+
 /// Two lines that differ in a written value alone print the same but for a word that is read.
 pub fn lines_show_values_in_words()
     ensures { LinesShowValuesInWords }
@@ -56,6 +68,11 @@ pub fn runs_end_as_due()
 /// So do runs on the bytes of such traces under one policy, where both end with Done.
 pub fn runs_show_values_in_words()
     ensures { RunsShowValuesInWords }
+{}
+
+/// A run that fails wrote nothing, or it stopped in the run of one on the same bytes that goes well.
+pub fn failed_runs_begin_well()
+    ensures { FailedRunsBeginWell }
 {}
 
 /// A check that doesn't fail ends with BadPolicy where a run would, and else with Done.
