@@ -103,11 +103,18 @@ class Reader:
     def scope(self, at, opens):
         """The type that the impl there is of, and whether it is a trait's."""
         head = " ".join(self.code(here) for here in range(at, opens)).replace("< ", "<")
-        head = re.sub(r"^impl\s*<(?:[^<>]|<[^<>]*>)*>", "impl", head)
-        trait, _, of = head[len("impl") :].rpartition(" for ")
-        # rattle names a method of `impl Display for Place` as PlaceDisplay::fmt.
+        given = re.match(r"impl\s*<((?:[^<>]|<[^<>]*>)*)>", head)
+        params = {*re.findall(r"(?:^|,)\s*(?:const )?(\w+)", given[1] if given else "")}
+        trait, _, of = head[given.end() if given else len("impl") :].rpartition(" for ")
         parts = [re.findall(r"\w+", re.sub(r"<.*", "", it)) or ["?"] for it in (of, trait)]
-        return parts[0][-1] + (parts[1][-1] if trait else ""), bool(trait)
+        own = "Any" if parts[0][-1] in params else parts[0][-1]
+        if not trait:
+            return own, False
+        # rattle names a method of `impl Display for Place` as PlaceDisplay::fmt, one of `impl Blank
+        # for u64` as U64Blank::blank, one of `impl From<Fault> for Status` as StatusFromFault::from.
+        more = re.findall(r"\b\w+\b(?!\s*:)", trait.partition("<")[2])
+        named = [parts[1][-1], *[it for it in more if it not in params]]
+        return own[:1].upper() + own[1:] + "".join(named), True
 
     def functions(self):
         """The functions with a body, but for those of traits, of modules inside and of bodies."""

@@ -1,8 +1,10 @@
 """What a check of several edits shows of each: that its own function's goals are open, or nothing.
 
-Of an edited function the checker prints `not proved`, or that `search` left a goal of it open; of
-one that only waits for another's proof, which one that is. An edit counts as refused here only
-where all is as `told_of` asks; else it is to be tried alone. So a batch fails no edit.
+The check is told to prove the edited functions, and what those call (`--only`). Of an edited
+function the checker prints `not proved`, or that `search` left a goal of it open; of one that only
+waits for another's proof, which one that is. Of functions that it isn't led to it says nothing, and
+needn't: those were proved from the same text as the crate stands. An edit counts as refused here
+only where all is as `told_of` asks; else it is to be tried alone. So a batch fails no edit.
 """
 
 import os
@@ -20,6 +22,9 @@ WAITS = re.compile(
 OPEN = "it is not proved that"
 # What a proof file says of a name that an edit took away: it says little of the contract.
 GONE = re.compile(r"has no field|is not in scope|has no `|is no name")
+# How a check ends that was told which functions to prove: how many those are with all that they
+# call, but for closures and what is derived, and how many of them are proved.
+END = re.compile(r"only=(\d+) proved=(\d+)")
 
 
 class Said:
@@ -33,11 +38,20 @@ class Said:
         places = [PLACE.match(it) for it in self.lines]
         self.places = [(it[1], int(it[2]), it[3]) for it in places if it]
 
-    def names(self):
-        return {(kind, name) for kind, name, _ in self.rows}
+    def functions(self):
+        """The names of the functions of which it tells."""
+        return {name for kind, name, _ in self.rows if kind == "fn"}
 
     def is_proved(self):
         return self.status == 0 and not rt.rtlib.STALE.search(self.text)
+
+    def is_ended(self, asked):
+        """Whether it came to its end, over so many functions at least, some of them not proved."""
+        found = END.fullmatch(self.lines[-1])
+        if self.status != 1 or not found:
+            return False
+        count, proved = map(int, found.groups())
+        return asked <= count <= len(self.functions()) and proved < count
 
 
 class Failed:
@@ -45,22 +59,20 @@ class Failed:
 
     def __init__(self, edit, said):
         self.edit, self.said = edit, said
-        called = [row for row in said.rows if edit.function.is_called(row[1], said.crate)]
-        self.names = [name for kind, name, _ in called if kind == "fn"]
-        self.states = [state for _, name, state in said.rows if name in self.names]
-        self.folders = {f"proofs/{'/'.join(it.split('::')[1:])}" for it in self.names}
+        self.states = [state for _, name, state in said.rows if name == edit.called]
+        self.folder = f"proofs/{'/'.join(edit.called.split('::')[1:])}"
 
     def holds(self, place):
         """Whether a place is in the function's own proof files, or on its lines."""
         file, line, _ = place
         function = self.edit.function
         is_on = file == function.file and line in function.lines
-        return is_on or os.path.dirname(file) in self.folders
+        return is_on or os.path.dirname(file) == self.folder
 
     def answer(self):
         """Whether the edit is refused for its own function's sake, and where or why not."""
-        if len(self.names) != 1 or len(self.states) != 1:
-            return False, "the checker's name for its function isn't plain"
+        if len(self.states) != 1:
+            return False, "its batch tells of its function not once"
         if not OWN_GOALS.fullmatch(self.states[0]):
             return False, f"its function: {self.states[0][:90]}"
         own = [it for it in self.said.places if self.holds(it)]
@@ -77,18 +89,18 @@ class Failed:
 
 def why_none(said, failed, texts, known):
     """Why a check shows nothing of any edit of its batch, or None."""
-    if said.status != 1 or not said.lines[-1].startswith("logic=not-proved"):
-        return "the check of its batch didn't reach the end"
+    if not said.is_ended(len(failed)):
+        return "the check of its batch didn't reach the end with a goal open"
     if rt.rtlib.STALE.search(said.text):
         return "the check of its batch had kept work of another library"
     if any(rt.unread(it, texts) for it in said.lines):
         return "the check of its batch couldn't read a text"
-    if said.names() != known.names():
-        return "the check of its batch names other functions than the crate's own check"
-    edited = {name for it in failed for name in it.names}
-    for row in {*said.rows} - {*known.rows}:
-        if row[1] not in edited and not WAITS.match(row[2]):
-            return f"its batch also says '{row[0]} {row[1]}: {row[2][:60]}'"
+    if not said.functions() <= known:
+        return "the check of its batch names other functions than the crate's own"
+    edited = {it.edit.called for it in failed}
+    for kind, name, state in said.rows:
+        if name not in edited and state != "proved" and not WAITS.match(state):
+            return f"its batch also says '{kind} {name}: {state[:60]}'"
     for place in said.places:
         if place[2].startswith(("error", OPEN)) and not any(it.holds(place) for it in failed):
             return f"its batch also has an error or an open goal in {place[0]}"
@@ -98,10 +110,11 @@ def why_none(said, failed, texts, known):
 def told_of(batch, said, texts, known):
     """Of each edit of a batch, whether the check shows that it is refused, and where or why not.
 
-    It does where the check came to its end and told of just the functions and types of the crate's
-    own check (`known`); where each that isn't edited is as there or waits for another's proof, and
-    no error or open goal is told elsewhere than in the edited functions and their proof files; and
-    where the edit's own function has open goals, told there, and waits for no other.
+    It does where the check came to its end with a function not proved, and told of functions that
+    the crate has (`known`) and of no others; where each that isn't edited is proved or waits for
+    another's proof, and no error or open goal is told elsewhere than in the edited functions and
+    their proof files; and where the edit's own function has open goals, told there, and waits for
+    no other.
     """
     failed = [Failed(it, said) for it in batch]
     why = why_none(said, failed, texts, known)
