@@ -3,6 +3,8 @@
 #![tactic(auto)]
 
 #[cfg(test)]
+mod asked;
+#[cfg(test)]
 mod deny_rows;
 #[cfg(test)]
 mod event_rows;
@@ -13,6 +15,10 @@ mod policies;
 #[cfg(test)]
 mod text_secrets;
 #[cfg(test)]
+mod texts;
+#[cfg(test)]
 mod trace_rows;
+#[cfg(test)]
+mod traces;
 #[cfg(test)]
 mod versions;

@@ -14,7 +14,16 @@ arena = [ {name = "main", segments = 2}, {name = "vault", segments = 1, exclusiv
 grant = [ {owner = "alice", to = "bob", rights = ["read", "free"]} ]
 "#;
 
-/// The same, where alice has room for blocks of several pages.
+/// The same with a key that there isn't.
+pub const COLOURED: &str = r#"colour = 1
+version = 1
+workers = 2
+tenant = [ {name = "alice", limit = 8192}, {name = "bob", limit = 64} ]
+arena = [ {name = "main", segments = 2}, {name = "vault", segments = 1, exclusive = ["alice"]} ]
+grant = [ {owner = "alice", to = "bob", rights = ["read", "free"]} ]
+"#;
+
+/// As for two workers, where alice has room for blocks of several pages.
 pub const LARGE_BLOCKS: &str = r#"version = 1
 workers = 2
 tenant = [ {name = "alice", limit = 200000}, {name = "bob", limit = 64} ]

@@ -1,172 +1,136 @@
 //! Traces from bytes to bytes, under a policy that two tenants share.
 
-use crate::policies::{ONE_LIFE, ONE_WORKER, TWO_WORKERS};
+use crate::policies::{COLOURED, ONE_LIFE, ONE_WORKER, TWO_WORKERS};
 use hg_replay::{Status, run_texts};
 use std::alloc::Global;
 use std::process::Abort;
-use std::test::Fail;
 
-/// The run ends with this status, output and line on standard error.
-pub fn ends(
-    rt: &impl Abort,
-    a: Global,
-    policy: &str,
-    trace: &[u8],
-    want: (Status, &[u8], &[u8]),
-) -> Result<(), Fail> {
-    let mut out = Vec::new(a);
-    let mut err = Vec::new(a);
-    let status = run_texts(a, policy.as_bytes(), trace, &mut out, &mut err);
-    assert_eq!(rt; err.as_slice(), want.2);
-    assert_eq!(rt; out.as_slice(), want.1);
-    assert_eq!(rt; status, want.0);
-    Ok(())
+/// How a run ends: its status, output and line on standard error.
+pub type Ends<'a> = (Status, &'a str, &'a str);
+
+/// The run of a policy and a trace ends so.
+pub fn ends(rt: &impl Abort, alloc: Global, policy: &str, trace: &str, want: Ends) {
+    let mut out = Vec::new(alloc);
+    let mut err = Vec::new(alloc);
+    let status = run_texts(
+        alloc,
+        policy.as_bytes(),
+        trace.as_bytes(),
+        &mut out,
+        &mut err,
+    );
+    assert!(rt; err.as_slice() == want.2.as_bytes(), "{trace}");
+    assert!(rt; out.as_slice() == want.1.as_bytes(), "{trace}");
+    assert!(rt; status == want.0, "{trace}");
 }
 
-/// The trace is answered so.
-pub fn answers(
-    rt: &impl Abort,
-    a: Global,
-    policy: &str,
-    trace: &[u8],
-    want: &[u8],
-) -> Result<(), Fail> {
-    ends(rt, a, policy, trace, (Status::Done, want, b""))
+/// The trace has these answers.
+pub fn answers(rt: &impl Abort, alloc: Global, policy: &str, (trace, want): (&str, &str)) {
+    ends(rt, alloc, policy, trace, (Status::Done, want, ""));
 }
 
-/// A block is written and read, up to its length.
-fn written_and_read(rt: &impl Abort, a: Global, policy: &str) -> Result<(), Fail> {
-    answers(
-        rt,
-        a,
-        policy,
-        b"w0 refill main
+/// Each trace, by itself, has the answers beside it.
+fn each_answers(rt: &impl Abort, alloc: Global, policy: &str, rows: &[(&str, &str)]) {
+    for row in rows {
+        answers(rt, alloc, policy, *row);
+    }
+}
+
+/// What one worker alone can ask for.
+static OF_ONE_WORKER: [(&str, &str); 9] = [
+    // A block is written and read, up to its length.
+    (
+        "w0 refill main
 w0 alloc alice main 0 as x
 w0 write alice x 0 7
 w0 read alice x 0
 w0 read alice x 1
 ",
-        b"segment 0
+        "segment 0
 ok @0.0.0.1
 ok
 word 7
 range
 ",
-    )
-}
-
-/// Limits of tenants, for a block of one page and for one of several.
-fn limits_by_page_and_run(rt: &impl Abort, a: Global, policy: &str) -> Result<(), Fail> {
-    answers(
-        rt,
-        a,
-        policy,
-        b"w0 refill main
+    ),
+    // Limits of tenants, for a block of one page and for one of several.
+    (
+        "w0 refill main
 w0 alloc alice main 4096
 w0 alloc alice main 4097
 w0 alloc bob main 4097
 w0 alloc alice main 4096
 w0 alloc alice main 1
 ",
-        b"segment 0
+        "segment 0
 ok @0.0.0.1
 denied limit
 denied limit
 ok @0.1.0.1
 denied limit
 ",
-    )
-}
-
-/// A limit counts the bytes of classes.
-fn limit_of_classes(rt: &impl Abort, a: Global, policy: &str) -> Result<(), Fail> {
-    answers(
-        rt,
-        a,
-        policy,
-        b"w0 refill main
+    ),
+    // A limit counts the bytes of classes.
+    (
+        "w0 refill main
 w0 alloc bob main 64
 w0 alloc bob main 1
 ",
-        b"segment 0
+        "segment 0
 ok @0.0.0.1
 denied limit
 ",
-    )
-}
-
-/// A request is charged by its class.
-fn charged_by_class(rt: &impl Abort, a: Global, policy: &str) -> Result<(), Fail> {
-    answers(
-        rt,
-        a,
-        policy,
-        b"w0 refill main
+    ),
+    // A request is charged by its class.
+    (
+        "w0 refill main
 w0 alloc bob main 65
 w0 alloc alice main 1
 w0 alloc alice main 3585
 w0 alloc alice main 3585
 ",
-        b"segment 0
+        "segment 0
 denied limit
 ok @0.0.0.1
 ok @0.1.0.1
 denied limit
 ",
-    )
-}
-
-/// An arena of one tenant alone.
-fn closed_arena(rt: &impl Abort, a: Global, policy: &str) -> Result<(), Fail> {
-    answers(
-        rt,
-        a,
-        policy,
-        b"w0 refill vault
+    ),
+    // An arena of one tenant alone.
+    (
+        "w0 refill vault
 w0 alloc bob vault 8
 w0 alloc bob vault 4096
 w0 alloc bob vault 5000
 w0 alloc alice vault 8 as x
 w0 read bob x 0
 ",
-        b"segment 2
+        "segment 2
 denied arena
 denied arena
 denied arena
 ok @2.0.0.1
 denied arena
 ",
-    )
-}
-
-/// Strangers, and handles that were never given.
-fn strangers(rt: &impl Abort, a: Global, policy: &str) -> Result<(), Fail> {
-    answers(
-        rt,
-        a,
-        policy,
-        b"w0 refill main
+    ),
+    // Strangers, and handles that were never given.
+    (
+        "w0 refill main
 w0 alloc alice main 8
 w0 read eve @0.0.0.9 0
 w0 write bob @0.0.0.9 0 5
 w0 alloc eve main 8
 ",
-        b"segment 0
+        "segment 0
 ok @0.0.0.1
 denied stranger
 denied stale
 denied stranger
 ",
-    )
-}
-
-/// A place has a new life, and keeps no word of the old one.
-fn new_life(rt: &impl Abort, a: Global, policy: &str) -> Result<(), Fail> {
-    answers(
-        rt,
-        a,
-        policy,
-        b"w0 refill main
+    ),
+    // A place has a new life, and keeps no word of the old one.
+    (
+        "w0 refill main
 w0 alloc alice main 4096 as x
 w0 write alice x 511 99
 w0 free alice x
@@ -176,7 +140,7 @@ w0 free alice x
 w0 read alice y 0
 w0 read alice y 511
 ",
-        b"segment 0
+        "segment 0
 ok @0.0.0.1
 ok
 ok
@@ -186,99 +150,69 @@ denied stale
 word 0
 word 0
 ",
-    )
-}
-
-/// A label whose allocation was not served.
-fn unbound(rt: &impl Abort, a: Global, policy: &str) -> Result<(), Fail> {
-    answers(
-        rt,
-        a,
-        policy,
-        b"w0 alloc alice main 8 as x
+    ),
+    // A label whose allocation was not served.
+    (
+        "w0 alloc alice main 8 as x
 w0 read alice x 0
 ",
-        b"noroom
+        "noroom
 unbound
 ",
-    )
+    ),
+    // A segment that there isn't.
+    ("w0 read alice @9.0.0.1 0\n", "denied stale\n"),
+];
+
+/// A fault leaves nothing written.
+fn rows_of_one_worker(rt: &impl Abort, alloc: Global, policy: &str) {
+    each_answers(rt, alloc, policy, &OF_ONE_WORKER);
+    let fault = "trace fault 3 at line 2: operand\n";
+    let want = (Status::BadTrace, "", fault);
+    ends(rt, alloc, policy, "\nw0 read alice @0.0.0.0 0\n", want);
 }
 
-/// What one worker alone can ask for.
-fn rows_of_one_worker(rt: &impl Abort, a: Global, policy: &str) -> Result<(), Fail> {
-    written_and_read(rt, a, policy)?;
-    limits_by_page_and_run(rt, a, policy)?;
-    limit_of_classes(rt, a, policy)?;
-    charged_by_class(rt, a, policy)?;
-    closed_arena(rt, a, policy)?;
-    strangers(rt, a, policy)?;
-    new_life(rt, a, policy)?;
-    unbound(rt, a, policy)?;
-    // A segment that there isn't, and a fault that leaves nothing written.
-    answers(
-        rt,
-        a,
-        policy,
-        b"w0 read alice @9.0.0.1 0\n",
-        b"denied stale\n",
-    )?;
-    ends(
-        rt,
-        a,
-        policy,
-        b"\nw0 read alice @0.0.0.0 0\n",
-        (Status::BadTrace, b"", b"trace fault 3 at line 2: operand\n"),
-    )
-}
-
-/// The policy for one worker.
-#[test]
-fn rows_policy(rt: HostRuntime) -> Result<(), Fail> {
-    let a = rt.alloc();
-    rows_of_one_worker(&rt, a, ONE_WORKER)?;
-    answers(
-        &rt,
-        a,
-        ONE_WORKER,
-        b"w0 refill main
+/// What is granted to bob.
+static GRANTED: (&str, &str) = (
+    "w0 refill main
 w0 alloc alice main 24 as x
 w0 write bob x 0 5
 w0 read alice x 3
 w0 read bob x 2
 ",
-        b"segment 0
+    "segment 0
 ok @0.0.0.1
 denied grant
 range
 word 0
 ",
-    )
+);
+
+/// The policy for one worker.
+#[test]
+fn rows_policy(rt: HostRuntime) {
+    rows_of_one_worker(&rt, rt.alloc(), ONE_WORKER);
+    answers(&rt, rt.alloc(), ONE_WORKER, GRANTED);
 }
 
-/// No room before a refill.
-fn no_room(rt: &impl Abort, a: Global) -> Result<(), Fail> {
-    answers(
-        rt,
-        a,
-        TWO_WORKERS,
-        b"w0 alloc alice main 24
+/// What two workers can ask for.
+static OF_TWO_WORKERS: [(&str, &str); 11] = [
+    // No trace.
+    ("", ""),
+    // No room before a refill.
+    (
+        "w0 alloc alice main 24
 w0 refill main
 w0 alloc alice main 24
 ",
-        b"noroom
+        "noroom
 segment 0
 ok @0.0.0.1
 ",
-    )
-}
-
-/// A block is freed elsewhere, delivered and taken.
-fn freed_elsewhere(rt: &impl Abort, a: Global) -> Result<(), Fail> {
-    answers(
-        rt,
-        a,
-        TWO_WORKERS,
-        b"w0 refill main
+    ),
+    // A block is freed elsewhere, delivered and taken.
+    (
+        "w0 refill main
 w0 alloc alice main 24 as x
 w1 free bob x
 w0 read alice x 0
@@ -287,7 +221,7 @@ w1 deliver
 w0 take 0
 w1 deliver
 ",
-        b"segment 0
+        "segment 0
 ok @0.0.0.1
 parted
 denied freed
@@ -296,16 +230,10 @@ ok
 taken 1
 empty
 ",
-    )
-}
-
-/// A segment is abandoned and adopted while a block is in a hand.
-fn abandoned_and_adopted(rt: &impl Abort, a: Global) -> Result<(), Fail> {
-    answers(
-        rt,
-        a,
-        TWO_WORKERS,
-        b"w0 refill main
+    ),
+    // A segment is abandoned and adopted while a block is in a hand.
+    (
+        "w0 refill main
 w0 alloc alice main 4096 as x
 w1 free alice x
 w0 abandon 0
@@ -315,7 +243,7 @@ w1 take 0
 w0 take 0
 w1 alloc alice main 4096
 ",
-        b"segment 0
+        "segment 0
 ok @0.0.0.1
 parted
 ok
@@ -325,16 +253,10 @@ taken 1
 notheld
 ok @0.0.0.2
 ",
-    )
-}
-
-/// A hand has one block.
-fn one_in_hand(rt: &impl Abort, a: Global) -> Result<(), Fail> {
-    answers(
-        rt,
-        a,
-        TWO_WORKERS,
-        b"w0 refill main
+    ),
+    // A hand has one block.
+    (
+        "w0 refill main
 w0 alloc alice main 24 as x
 w0 alloc alice main 24 as y
 w1 free alice x
@@ -344,7 +266,7 @@ w0 read alice y 0
 w1 deliver
 w1 free alice y
 ",
-        b"segment 0
+        "segment 0
 ok @0.0.0.1
 ok @0.0.1.1
 parted
@@ -354,16 +276,10 @@ word 0
 ok
 parted
 ",
-    )
-}
-
-/// A parted block counts in the charge until it is taken.
-fn parted_is_charged(rt: &impl Abort, a: Global) -> Result<(), Fail> {
-    answers(
-        rt,
-        a,
-        TWO_WORKERS,
-        b"w0 refill main
+    ),
+    // A parted block counts in the charge until it is taken.
+    (
+        "w0 refill main
 w0 alloc bob main 64 as x
 w1 free bob x
 w0 alloc bob main 8
@@ -372,7 +288,7 @@ w0 alloc bob main 8
 w0 take 0
 w0 alloc bob main 8
 ",
-        b"segment 0
+        "segment 0
 ok @0.0.0.1
 parted
 denied limit
@@ -381,16 +297,10 @@ denied limit
 taken 1
 ok @0.1.0.1
 ",
-    )
-}
-
-/// What is granted, by a holder and by another worker.
-fn granted(rt: &impl Abort, a: Global) -> Result<(), Fail> {
-    answers(
-        rt,
-        a,
-        TWO_WORKERS,
-        b"w0 refill main
+    ),
+    // What is granted, by a holder and by another worker.
+    (
+        "w0 refill main
 w0 alloc alice main 24 as x
 w0 write bob x 0 5
 w1 write bob x 0 5
@@ -398,7 +308,7 @@ w1 read alice x 3
 w0 read alice x 3
 w0 read bob x 2
 ",
-        b"segment 0
+        "segment 0
 ok @0.0.0.1
 denied grant
 denied grant
@@ -406,16 +316,10 @@ elsewhere
 range
 word 0
 ",
-    )
-}
-
-/// All that was sent is taken, and idle pages lose their classes.
-fn all_taken(rt: &impl Abort, a: Global) -> Result<(), Fail> {
-    answers(
-        rt,
-        a,
-        TWO_WORKERS,
-        b"w0 refill main
+    ),
+    // All that was sent is taken, and idle pages lose their classes.
+    (
+        "w0 refill main
 w0 alloc alice main 8 as a
 w0 alloc alice main 8 as b
 w0 alloc alice main 8 as c
@@ -431,7 +335,7 @@ w1 deliver
 w0 take 0
 w0 collect
 ",
-        b"segment 0
+        "segment 0
 ok @0.0.0.1
 ok @0.0.1.1
 ok @0.0.2.1
@@ -447,16 +351,10 @@ ok
 taken 4
 pages 2
 ",
-    )
-}
-
-/// Listings.
-fn listed(rt: &impl Abort, a: Global) -> Result<(), Fail> {
-    answers(
-        rt,
-        a,
-        TWO_WORKERS,
-        b"w0 refill main
+    ),
+    // Listings.
+    (
+        "w0 refill main
 w0 alloc alice main 24
 w0 alloc bob main 16
 w0 list alice
@@ -467,7 +365,7 @@ w0 look bob 0.0.0
 w0 look alice 0.0.1
 w1 look alice 0.0.0
 ",
-        b"segment 0
+        "segment 0
 ok @0.0.0.1
 ok @0.1.0.1
 @0.0.0.1              alice               24
@@ -480,16 +378,10 @@ denied grant
 denied stale
 elsewhere
 ",
-    )
-}
-
-/// Refills by two workers, and orphans by turn.
-fn orphans(rt: &impl Abort, a: Global) -> Result<(), Fail> {
-    answers(
-        rt,
-        a,
-        TWO_WORKERS,
-        b"w0 refill main
+    ),
+    // Refills by two workers, and orphans by turn.
+    (
+        "w0 refill main
 w1 refill main
 w0 refill main
 w1 abandon 1
@@ -498,7 +390,7 @@ w1 refill main
 w1 abandon 0
 w0 refill nowhere
 ",
-        b"segment 0
+        "segment 0
 segment 1
 nosegment
 ok
@@ -507,16 +399,10 @@ segment 1
 notheld
 nosegment
 ",
-    )
-}
-
-/// Blocks stay live while nobody holds their segment.
-fn live_orphans(rt: &impl Abort, a: Global) -> Result<(), Fail> {
-    answers(
-        rt,
-        a,
-        TWO_WORKERS,
-        b"w0 refill main
+    ),
+    // Blocks stay live while nobody holds their segment.
+    (
+        "w0 refill main
 w0 alloc alice main 24 as x
 w0 write alice x 1 5
 w0 abandon 0
@@ -525,7 +411,7 @@ w1 refill main
 w1 read alice x 1
 w1 free alice x
 ",
-        b"segment 0
+        "segment 0
 ok @0.0.0.1
 ok
 ok
@@ -534,16 +420,12 @@ segment 0
 word 5
 ok
 ",
-    )
-}
+    ),
+];
 
-/// A place past its last life is never given out again.
-fn last_life(rt: &impl Abort, a: Global) -> Result<(), Fail> {
-    answers(
-        rt,
-        a,
-        ONE_LIFE,
-        b"w0 refill main
+/// Where each place is given out once: past its last life it is never given out again.
+static OF_ONE_LIFE: (&str, &str) = (
+    "w0 refill main
 w0 alloc alice main 4096 as x
 w0 free alice x
 w0 alloc alice main 4096 as y
@@ -553,7 +435,7 @@ w0 free alice x
 w0 free alice y
 w0 alloc alice main 8
 ",
-        b"segment 0
+    "segment 0
 ok @0.0.0.1
 ok
 ok @0.1.0.1
@@ -563,39 +445,36 @@ denied freed
 ok
 ok @0.0.1.1
 ",
-    )
+);
+
+/// A policy, a trace, and the status and line of the fault; nothing is written.
+static FAULTS: [(&str, &str, Status, &str); 2] = [
+    (
+        TWO_WORKERS,
+        "w5 deliver\n",
+        Status::BadTrace,
+        "trace fault 6 at line 1: worker\n",
+    ),
+    (
+        COLOURED,
+        "w0 refill main\n",
+        Status::BadPolicy,
+        "policy fault 4: unknown colour\n",
+    ),
+];
+
+/// Each fault is told.
+fn faults_are_told(rt: &impl Abort, alloc: Global) {
+    for (policy, trace, status, line) in &FAULTS {
+        ends(rt, alloc, policy, trace, (*status, "", line));
+    }
 }
 
 /// The policy for two workers.
 #[test]
-fn rows_replay(rt: HostRuntime) -> Result<(), Fail> {
-    let a = rt.alloc();
-    ends(&rt, a, TWO_WORKERS, b"", (Status::Done, b"", b""))?;
-    rows_of_one_worker(&rt, a, TWO_WORKERS)?;
-    no_room(&rt, a)?;
-    freed_elsewhere(&rt, a)?;
-    abandoned_and_adopted(&rt, a)?;
-    one_in_hand(&rt, a)?;
-    parted_is_charged(&rt, a)?;
-    granted(&rt, a)?;
-    all_taken(&rt, a)?;
-    listed(&rt, a)?;
-    orphans(&rt, a)?;
-    live_orphans(&rt, a)?;
-    last_life(&rt, a)?;
-    ends(
-        &rt,
-        a,
-        TWO_WORKERS,
-        b"w5 deliver\n",
-        (Status::BadTrace, b"", b"trace fault 6 at line 1: worker\n"),
-    )?;
-    let coloured = format!(in a; "colour = 1\n{TWO_WORKERS}")?;
-    ends(
-        &rt,
-        a,
-        coloured.as_str(),
-        b"w0 refill main\n",
-        (Status::BadPolicy, b"", b"policy fault 4: unknown colour\n"),
-    )
+fn rows_replay(rt: HostRuntime) {
+    rows_of_one_worker(&rt, rt.alloc(), TWO_WORKERS);
+    each_answers(&rt, rt.alloc(), TWO_WORKERS, &OF_TWO_WORKERS);
+    answers(&rt, rt.alloc(), ONE_LIFE, OF_ONE_LIFE);
+    faults_are_told(&rt, rt.alloc());
 }

@@ -1,19 +1,29 @@
 //! Policies of version 2 that are drawn from a seed, and the same written out in version 1: for
 //! each name of a group its members, and in each grant what no line denies.
 
-ghost use Rattle.std.specs.Prelude.{◌<◌};
-
-use crate::text_secrets::{Traces, printed};
-use std::alloc::{AllocError, Global};
+use crate::texts::{add, printed, push};
+use crate::traces::{Numbers, Traces};
+use std::alloc::Global;
 use std::process::Abort;
-use std::test::Fail;
-
-/// The tenants, and behind them the groups.
-static NAMES: [&str; 6] = ["alice", "bob", "carol", "staff", "guests", "nobody"];
 
 const TENANTS: usize = 3;
 
-static RIGHTS: [&str; 4] = ["read", "write", "list", "free"];
+/// The tenants, and behind them the groups.
+const NAMES: usize = 6;
+
+static WORDS: [&str; NAMES] = ["alice", "bob", "carol", "staff", "guests", "nobody"];
+
+/// The same as elements of a list.
+static QUOTED: [&str; NAMES] = [
+    "\"alice\", ",
+    "\"bob\", ",
+    "\"carol\", ",
+    "\"staff\", ",
+    "\"guests\", ",
+    "\"nobody\", ",
+];
+
+static RIGHTS: [&str; 4] = ["\"read\", ", "\"write\", ", "\"list\", ", "\"free\", "];
 
 /// Three tenants and two arenas, up to the list of those who are admitted to the second.
 const KEYS: &str = r#"workers = 4
@@ -32,60 +42,16 @@ struct Line {
 
 /// What is drawn: the members of each group but the last, which has none, who is admitted to the
 /// second arena, and the lines.
-#[derive(Drop)]
+#[derive(Clone, Copy)]
 struct Drawn {
-    random: u64,
     staff: [bool; TENANTS],
     guests: [bool; TENANTS],
-    exclusive: Vec<usize>,
-    grants: Vec<Line>,
-    denies: Vec<Line>,
+    exclusive: [usize; 2],
+    grants: [Line; 4],
+    denies: [Line; 4],
 }
 
-/// Whether a tenant's flag is set.
-fn flagged(flags: [bool; TENANTS], tenant: usize) -> bool {
-    tenant < TENANTS && flags[tenant]
-}
-
-impl Drawn {
-    fn new(alloc: Global, seed: u64, denies: u32) -> Result<Drawn, AllocError> {
-        let mut drawn = Drawn {
-            random: seed,
-            staff: [false; TENANTS],
-            guests: [false; TENANTS],
-            exclusive: Vec::new(alloc),
-            grants: Vec::new(alloc),
-            denies: Vec::new(alloc),
-        };
-        drawn.staff = drawn.flags();
-        drawn.guests = drawn.flags();
-        for _ in 0..2 {
-            let name = drawn.below(NAMES.len());
-            drawn.exclusive.push(name)?;
-        }
-        for _ in 0..4 {
-            let line = drawn.line();
-            drawn.grants.push(line)?;
-        }
-        for _ in 0..denies {
-            let line = drawn.line();
-            drawn.denies.push(line)?;
-        }
-        Ok(drawn)
-    }
-
-    /// A number below a bound.
-    fn below(&mut self, bound: usize) -> usize
-        requires { 0 < bound }
-        ensures { result < bound }
-    {
-        self.random = self
-            .random
-            .wrapping_mul(6364136223846793005)
-            .wrapping_add(1442695040888963407);
-        (self.random >> 32) as usize % bound
-    }
-
+impl Numbers {
     /// One of two.
     fn flag(&mut self) -> bool {
         self.below(2) == 1
@@ -95,11 +61,38 @@ impl Drawn {
         [self.flag(), self.flag(), self.flag()]
     }
 
-    fn line(&mut self) -> Line {
+    fn policy_line(&mut self) -> Line {
         Line {
-            owner: self.below(NAMES.len()),
-            to: self.below(NAMES.len()),
+            owner: self.below(NAMES),
+            to: self.below(NAMES),
             rights: [self.flag(), self.flag(), self.flag(), self.flag()],
+        }
+    }
+
+    fn policy_lines(&mut self) -> [Line; 4] {
+        [
+            self.policy_line(),
+            self.policy_line(),
+            self.policy_line(),
+            self.policy_line(),
+        ]
+    }
+}
+
+/// Whether a tenant's flag is set.
+fn flagged(flags: [bool; TENANTS], tenant: usize) -> bool {
+    tenant < TENANTS && flags[tenant]
+}
+
+impl Drawn {
+    fn new(seed: u64) -> Drawn {
+        let mut numbers = Numbers::new(seed);
+        Drawn {
+            staff: numbers.flags(),
+            guests: numbers.flags(),
+            exclusive: [numbers.below(NAMES), numbers.below(NAMES)],
+            grants: numbers.policy_lines(),
+            denies: numbers.policy_lines(),
         }
     }
 
@@ -113,157 +106,190 @@ impl Drawn {
         }
     }
 
-    /// Whether a line denies the right.
-    fn is_denied(&self, owner: usize, to: usize, right: usize) -> bool {
-        self.denies.iter().any(|line| {
-            self.is_meant(line.owner, owner)
-                && self.is_meant(line.to, to)
-                && right < 4
-                && line.rights[right]
-        })
+    /// The tenants for whom one of the names stands.
+    fn members(&self, names: &[usize]) -> [bool; TENANTS] {
+        let mut members = [false; TENANTS];
+        for (tenant, is_member) in members.iter_mut().enumerate() {
+            *is_member = names.iter().any(|name| self.is_meant(*name, tenant));
+        }
+        members
     }
 
-    /// The line of each owner and each actor that a line means, without what is denied.
-    fn lines_of(&self, alloc: Global, line: Line) -> Result<Vec<Line>, AllocError> {
-        let mut lines = Vec::new(alloc);
-        for owner in 0..TENANTS {
-            for to in 0..TENANTS {
-                if self.is_meant(line.owner, owner) && self.is_meant(line.to, to) {
-                    let mut rights = line.rights;
-                    for right in 0..4 {
-                        rights[right] = rights[right] && !self.is_denied(owner, to, right);
-                    }
-                    lines.push(Line { owner, to, rights })?;
+    /// Whether a line means an owner and an actor.
+    fn is_of(&self, line: Line, owner: usize, to: usize) -> bool {
+        self.is_meant(line.owner, owner) && self.is_meant(line.to, to)
+    }
+
+    /// The rights that a line says, without those that are denied.
+    fn allowed(&self, rights: [bool; 4], denies: &[Line], owner: usize, to: usize) -> [bool; 4] {
+        let mut allowed = rights;
+        for line in denies {
+            if self.is_of(*line, owner, to) {
+                for (right, is_denied) in allowed.iter_mut().zip(line.rights.iter()) {
+                    *right = *right && !*is_denied;
                 }
             }
         }
-        Ok(lines)
+        allowed
     }
 
-    /// The tenants for whom one of the names stands.
-    fn members(&self, alloc: Global, names: &[usize]) -> Result<Vec<usize>, AllocError> {
-        let mut members = Vec::new(alloc);
-        for tenant in 0..TENANTS {
-            if names.iter().any(|name| self.is_meant(*name, tenant)) {
-                members.push(tenant)?;
+    /// The groups, with their members.
+    fn push_groups(&self, rt: &impl Abort, text: &mut String) {
+        push(rt, text, "group = [\n");
+        for group in TENANTS..NAMES {
+            push(rt, text, "{name = \"");
+            push(rt, text, WORDS[group]);
+            push(rt, text, "\", members = [");
+            push_members(rt, text, self.members(&[group]));
+            push(rt, text, "]},\n");
+        }
+        push(rt, text, "]\n");
+    }
+
+    /// Its document in version 2, with these denies.
+    fn document(&self, rt: &impl Abort, alloc: Global, denies: &[Line]) -> String {
+        let mut text = head(rt, alloc, 2);
+        for name in self.exclusive {
+            push(rt, &mut text, QUOTED[name % NAMES]);
+        }
+        push(rt, &mut text, "]} ]\n");
+        self.push_groups(rt, &mut text);
+        push(rt, &mut text, "grant = [\n");
+        push_lines(rt, &mut text, &self.grants);
+        push(rt, &mut text, "]\ndeny = [\n");
+        push_lines(rt, &mut text, denies);
+        push(rt, &mut text, "]\n");
+        text
+    }
+
+    /// The line of each owner and each actor that a line means, without what is denied.
+    fn push_written_out(&self, rt: &impl Abort, text: &mut String, line: Line, denies: &[Line]) {
+        for owner in 0..TENANTS {
+            for to in 0..TENANTS {
+                if self.is_of(line, owner, to) {
+                    let rights = self.allowed(line.rights, denies, owner, to);
+                    push_line(rt, text, Line { owner, to, rights });
+                }
             }
         }
-        Ok(members)
-    }
-
-    /// Its document in version 2.
-    fn document(&self, alloc: Global) -> Result<String, AllocError> {
-        let mut text = head(alloc, 2, self.exclusive.as_slice())?;
-        text.push_str("group = [\n")?;
-        for group in TENANTS..NAMES.len() {
-            let members = names(alloc, self.members(alloc, &[group])?.as_slice())?;
-            let name = NAMES[group];
-            let entry = format!(in alloc; "{{name = \"{name}\", members = [{members}]}},\n")?;
-            text.push_str(entry.as_str())?;
-        }
-        text.push_str("]\ngrant = [\n")?;
-        add_lines(alloc, &mut text, self.grants.as_slice())?;
-        text.push_str("]\ndeny = [\n")?;
-        add_lines(alloc, &mut text, self.denies.as_slice())?;
-        text.push_str("]\n")?;
-        Ok(text)
     }
 
     /// The same in version 1.
-    fn written_out(&self, alloc: Global) -> Result<String, AllocError> {
-        let admitted = self.members(alloc, self.exclusive.as_slice())?;
-        let mut text = head(alloc, 1, admitted.as_slice())?;
-        text.push_str("grant = [\n")?;
-        for grant in &self.grants {
-            add_lines(alloc, &mut text, self.lines_of(alloc, *grant)?.as_slice())?;
+    fn written_out(&self, rt: &impl Abort, alloc: Global, denies: &[Line]) -> String {
+        let mut text = head(rt, alloc, 1);
+        push_members(rt, &mut text, self.members(&self.exclusive));
+        push(rt, &mut text, "]} ]\ngrant = [\n");
+        for grant in self.grants {
+            self.push_written_out(rt, &mut text, grant, denies);
         }
-        text.push_str("]\n")?;
-        Ok(text)
+        push(rt, &mut text, "]\n");
+        text
     }
 }
 
-/// Names, as elements of a list.
-fn names(alloc: Global, numbers: &[usize]) -> Result<String, AllocError> {
+/// The keys with numbers, the tenants and the arenas, up to who is admitted to the second.
+fn head(rt: &impl Abort, alloc: Global, version: u32) -> String {
     let mut text = String::new(alloc);
-    for number in numbers {
-        if let Some(name) = NAMES.get(*number) {
-            text.push_str(format!(in alloc; "\"{name}\", ")?.as_str())?;
-        }
-    }
-    Ok(text)
+    add(
+        rt,
+        &mut text,
+        format!(in alloc; "version = {version}\n{KEYS}"),
+    );
+    text
 }
 
-/// What stands before groups and lines: the keys with numbers, the tenants and the arenas.
-fn head(alloc: Global, version: u32, exclusive: &[usize]) -> Result<String, AllocError> {
-    let mut text = format!(in alloc; "version = {version}\n{KEYS}")?;
-    text.push_str(names(alloc, exclusive)?.as_str())?;
-    text.push_str("]} ]\n")?;
-    Ok(text)
+/// The names of tenants, as elements of a list.
+fn push_members(rt: &impl Abort, text: &mut String, members: [bool; TENANTS]) {
+    for (name, is_member) in QUOTED.iter().zip(members.iter()) {
+        if *is_member {
+            push(rt, text, name);
+        }
+    }
+}
+
+/// The entry of a line.
+fn push_line(rt: &impl Abort, text: &mut String, line: Line) {
+    push(rt, text, "{owner = \"");
+    push(rt, text, WORDS[line.owner % NAMES]);
+    push(rt, text, "\", to = \"");
+    push(rt, text, WORDS[line.to % NAMES]);
+    push(rt, text, "\", rights = [");
+    for (right, is_named) in RIGHTS.iter().zip(line.rights.iter()) {
+        if *is_named {
+            push(rt, text, right);
+        }
+    }
+    push(rt, text, "]},\n");
 }
 
 /// The entries of lines.
-fn add_lines(alloc: Global, text: &mut String, lines: &[Line]) -> Result<(), AllocError> {
+fn push_lines(rt: &impl Abort, text: &mut String, lines: &[Line]) {
     for line in lines {
-        let (owner, to) = (
-            NAMES[line.owner % NAMES.len()],
-            NAMES[line.to % NAMES.len()],
-        );
-        let entry = format!(in alloc; "{{owner = \"{owner}\", to = \"{to}\", rights = [")?;
-        text.push_str(entry.as_str())?;
-        for (right, is_named) in RIGHTS.iter().zip(line.rights.iter()) {
-            if *is_named {
-                text.push_str(format!(in alloc; "\"{right}\", ")?.as_str())?;
-            }
-        }
-        text.push_str("]},\n")?;
+        push_line(rt, text, *line);
     }
-    Ok(())
 }
 
 /// How many lines say `forbidden`, where the other policy's say `grant`; the others are the same.
 fn forbidden(rt: &impl Abort, two: &str, one: &str) -> u32 {
     let (mut number, mut forbidden) = (0u32, 0u32);
-    assert_eq!(rt; two.lines().count(), one.lines().count());
+    assert!(rt; two.lines().count() == one.lines().count());
     for (line, beside) in two.lines().zip(one.lines()) {
         number = number.wrapping_add(1);
         if line == "denied forbidden" {
-            assert_eq!(rt; beside, "denied grant", "line {number}");
+            assert!(rt; beside == "denied grant", "line {number}");
             forbidden = forbidden.wrapping_add(1);
         } else {
-            assert_eq!(rt; line, beside, "line {number}");
+            assert!(rt; line == beside, "line {number}");
         }
     }
     forbidden
 }
 
-/// What is forbidden by so many denies of a policy that is drawn, where a trace that is drawn has
-/// the same answers but for that in both versions.
-fn compared(rt: &impl Abort, alloc: Global, seed: u64, denies: u32) -> Result<u32, Fail> {
-    let drawn = Drawn::new(alloc, seed, denies)?;
-    let mut traces = Traces::new(alloc, seed);
-    traces.lines(alloc, 600)?;
-    let trace = traces.one.as_str();
-    let two = printed(rt, alloc, drawn.document(alloc)?.as_str(), trace);
-    let one = printed(rt, alloc, drawn.written_out(alloc)?.as_str(), trace);
-    Ok(forbidden(rt, two.as_str(), one.as_str()))
+/// What is forbidden under the first of two policies, where a trace has the same answers under both
+/// but for that.
+fn compared(rt: &impl Abort, alloc: Global, two: &str, one: &str, trace: &str) -> u32 {
+    let two = printed(rt, alloc, two, trace);
+    let one = printed(rt, alloc, one, trace);
+    let found = forbidden(rt, two.as_str(), one.as_str());
+    drop(two);
+    drop(one);
+    found
+}
+
+/// The same of a policy that is drawn, in both versions, with denies or without, and of a trace that
+/// is drawn.
+fn forbidden_from(rt: &impl Abort, alloc: Global, seed: u64, has_denies: bool) -> u32 {
+    let drawn = Drawn::new(seed);
+    let denies = if has_denies {
+        drawn.denies.as_slice()
+    } else {
+        &[]
+    };
+    let two = drawn.document(rt, alloc, denies);
+    let one = drawn.written_out(rt, alloc, denies);
+    let traces = Traces::drawn(rt, alloc, seed, 600);
+    let found = compared(rt, alloc, two.as_str(), one.as_str(), traces.one.as_str());
+    drop(traces);
+    drop(two);
+    drop(one);
+    found
 }
 
 // A group is written out as its members: the answers are the same.
 #[test]
-fn groups_as_their_members(rt: HostRuntime) -> Result<(), Fail> {
+fn groups_as_their_members(rt: HostRuntime) {
     for seed in 0..12 {
-        assert_eq!(&rt; compared(&rt, rt.alloc(), seed, 0)?, 0, "seed {seed}");
+        let found = forbidden_from(&rt, rt.alloc(), seed, false);
+        assert!(&rt; found == 0, "seed {seed}");
     }
-    Ok(())
 }
 
 // What is denied is left out of the grants: the answers are the same, but for the rule.
 #[test]
-fn denies_left_out_of_grants(rt: HostRuntime) -> Result<(), Fail> {
+fn denies_left_out_of_grants(rt: HostRuntime) {
     let mut found = 0u32;
     for seed in 0..12 {
-        found = found.wrapping_add(compared(&rt, rt.alloc(), seed, 4)?);
+        found = found.wrapping_add(forbidden_from(&rt, rt.alloc(), seed, true));
     }
     assert!(&rt; found > 0);
-    Ok(())
 }
