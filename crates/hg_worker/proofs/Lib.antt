@@ -11,3 +11,6 @@ pub mod Takings
 pub mod Hands
 pub mod Comings
 pub mod Listings
+pub mod Records
+pub mod FreedRecords
+pub mod Judged

@@ -30,7 +30,7 @@ use Rattle.hg_table.specs.Told.{IsShown}
 use Rattle.hg_table.proofs.Knowing.{itself}
 use Rattle.hg_worker.specs.Had.{Had, view_in}
 use Rattle.hg_worker.specs.Seats.{number_in, records_in, part_of_seat}
-use Rattle.hg_worker.specs.Seen.{word_of, part_by, part_for, Decided, Looked}
+use Rattle.hg_worker.specs.Seen.{word_of, part_by, part_for, Decided, Looked, MayShow}
 use Rattle.hg_worker.specs.Tied.{IsTied, KeepsRest}
 use Rattle.hg_worker.proofs.Away.{holds_in, same_view}
 use Rattle.hg_worker.proofs.Hands.{past_hand, saw_for}
@@ -153,6 +153,25 @@ module _ {N : Type 0} {table : Ghosts N} where
         agrees old None whole tt usual;
   }
 
+  -- whatever may be found
+  pub machines_any : (old new : Had (SegmentSeat N table)) (shown : Option Shown) (event : Event)
+      (answer : Answer) (left : Option Shown) → Whole old
+      → MayShow number_in part_of_seat old shown
+      → Ties (view_in number_in records_in old) shown event answer
+      (view_in number_in records_in new) left
+      → IsTied number_in records_in shown event answer left old new
+  machines_any old new None event answer left whole may ties =
+      machines_unseen old new event answer left whole ties
+  machines_any old new (Some s) event answer left whole may ties = record {
+    ties = ties;
+    witness = λ usual.
+        let arena = some_arena (arena_of old.policy may.0.segment) may.1 in
+        agrees old (Some s) whole
+        (subst (λ n. IsFoundBy (view_in number_in records_in old)
+        (record { place = n; word = s.word })) (sym may.2)
+        (found_by old may.0 s.word arena.0 whole.known arena.1 may.3)) usual;
+  }
+
   -- whatever was looked at
   pub machines_looked : (old new : Had (SegmentSeat N table))
       (place : Place) (shown : Option Shown) (event : Event)
@@ -163,15 +182,8 @@ module _ {N : Type 0} {table : Ghosts N} where
       → IsTied number_in records_in shown event answer shown old new
   machines_looked old new place None event answer whole l ties =
       machines_unseen old new event answer None whole ties
-  machines_looked old new place (Some s) event answer whole l ties = record {
-    ties = ties;
-    witness = λ usual.
-        let arena = some_arena (arena_of old.policy place.segment) l.0 in
-        agrees old (Some s) whole
-        (subst (λ n. IsFoundBy (view_in number_in records_in old)
-        (record { place = n; word = s.word })) (sym l.1)
-        (found_by old place s.word arena.0 whole.known arena.1 l.2.shown)) usual;
-  }
+  machines_looked old new place (Some s) event answer whole l ties =
+      machines_any old new (Some s) event answer (Some s) whole (place, l.0, l.1, l.2.shown) ties
 
   -- what is refused of a segment that isn't held is the machine's
   pub machines_away : (old new : Had (SegmentSeat N table))

@@ -2,6 +2,8 @@ pub mod Had
 pub mod Seats
 pub mod Seen
 pub mod Tied
+pub mod Records
+pub mod Judged
 pub mod Met
 pub mod CallerLocked
 pub mod Hands

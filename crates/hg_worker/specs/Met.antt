@@ -1,13 +1,13 @@
 -- Two workers that have met at a place.
-use Rattle.std.specs.Prelude.{◌≡◌, ℕ, List, [], Option, Some, map}
+use Rattle.std.specs.Prelude.{◌≡◌, ℕ, List, [], Option, Some}
 use mathlib.Core.Option.{some}
 use lib.ListN.{get_elem?}
 use Rattle.hg_place.specs.declared.Handle.{Handle}
 use Rattle.hg_place.specs.declared.Place.{Place}
 use Rattle.hg_place.specs.declared.standing.Standing.{Standing}
-use Rattle.hg_page.specs.PageLists.{PageLists}
 use Rattle.hg_segment.specs.Kept.{Kept}
 use Rattle.hg_heap.specs.Held.{Held}
+use Rattle.hg_heap.specs.Keeping.{rest_of, KeepsAll}
 use Rattle.hg_table.specs.declared.view.Part.{Part}
 use Rattle.hg_table.specs.Seats.{HaveMet}
 use Rattle.hg_worker.specs.Had.{Had}
@@ -25,39 +25,18 @@ module _ {S : Type 0} (number : S → ℕ) (part : S → Part) where
         → get_elem? (part_for number part other place).ended l ≡ some (word_of place, generation)
         → ⊥
 
--- all of a segment but what its seat knows
-pub record Rest : Type 0 where
-  pub number : ℕ
-  pub arena : ℕ
-  pub greatest : ℕ
-  pub standings : List Standing
-  pub words : List ℕ
-  pub classes : List (Option ℕ)
-  pub lists : List PageLists
-
 module _ {S : Type 0} (numbered : S → ℕ) (records : S → List Standing) where
-  abbrev pub rest_of : Kept S → Rest
-  rest_of k = record {
-    number = numbered k.slots;
-    arena = k.arena;
-    greatest = k.greatest;
-    standings = records k.slots;
-    words = k.words;
-    classes = k.classes;
-    lists = k.lists;
-  }
-
   -- the heap has the same segments in the same order, but for what their seats know
   abbrev pub KeepsHeap : Held S → Held S → Type 0
   KeepsHeap old new =
-      (map rest_of new.segments ≡ map rest_of old.segments) × (new.queues ≡ old.queues)
+      KeepsAll numbered records old.segments new.segments × (new.queues ≡ old.queues)
 
   -- A segment comes to a worker with this in hand. Where that is of one of its places, the seats of
   -- the segment and of the worker meet there; else they are as they were. Nothing else of the
   -- segment changes
   pub record ComesTo (part : S → Part) (hand : Option Handle) (one one' : Kept S) (own own' : Part)
       : Type 0 where
-    pub rest : rest_of one' ≡ rest_of one
+    pub rest : rest_of numbered records one' ≡ rest_of numbered records one
     pub met :
         (handle : Handle) → hand ≡ Some handle → handle.place.segment ≡ numbered one.slots
         → (word : ℕ)

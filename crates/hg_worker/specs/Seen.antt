@@ -70,6 +70,13 @@ module _ {S : Type 0} (number : S → ℕ) (part : S → Part) where
       (is_some (arena_of old.policy place.segment) ≡ true) × (shown.place ≡ number_of place)
       × Decided place shown.word shown.word [] old new
 
+  -- a step of the worker's seat for a place of the policy may find this word there
+  abbrev pub MayShow : Had S → Option Shown → Type 0
+  MayShow had None = Unit {0}
+  MayShow had (Some shown) =
+      (place : Place) × (is_some (arena_of had.policy place.segment) ≡ true)
+      × (shown.place ≡ number_of place) × IsShown (word_of place) shown.word (part_for had place)
+
   -- no seat that the worker has before and after the call has ended anything more
   pub record EndsNothing (old new : Had S) : Type 0 where
     pub own : new.own.ended ≡ old.own.ended

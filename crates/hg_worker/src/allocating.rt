@@ -1,16 +1,25 @@
 //! Blocks are given out, and pages without open places lose their class.
 
-ghost use Rattle.std.specs.Prelude.{◌≡◌, ℕ, [], None, Some, MatchOption, IfSome, IfNone};
+ghost use Rattle.std.specs.Prelude.{◌≡◌, ℕ, [], Option, None, Some, MatchOption, IfSome, IfNone};
 ghost use Rattle.hg_place.specs.Lives.{live_word};
 ghost use Rattle.hg_machine.specs.declared.Event.TheVariants as Event;
 ghost use Rattle.hg_machine.specs.Request.{size_of};
-ghost use Rattle.hg_place.specs.Places.{number_of};
+ghost use Rattle.hg_machine.specs.declared.Answer.TheVariants as Answer;
+ghost use Rattle.hg_place.specs.Places.{number_of, page_number};
+ghost use Rattle.hg_size.specs.Sizes.{number_of_size};
+ghost use Rattle.hg_size.specs.SizeLaws.{key_of};
+ghost use Rattle.hg_agreement.specs.Views.{Shown};
 ghost use Rattle.hg_heap.specs.Allotted.{IsAllotted};
 ghost use Rattle.hg_heap.specs.Choice.{chosen_place};
+ghost use Rattle.hg_heap.specs.Held.{lists_on, has_place};
+ghost use Rattle.hg_heap.specs.Idle.{idle_pages, Collected, IdleAreOut};
+ghost use Rattle.hg_heap.specs.Lists.{GivenOut};
+ghost use Rattle.hg_heap.specs.Requeued.{requeued};
 ghost use Rattle.hg_heap.specs.Ties.{shown_at};
 ghost use Rattle.hg_worker.specs.Answers.{block_in};
 ghost use Rattle.hg_worker.specs.Seats.{number_in, records_in, seat_shows, seat_steps};
 ghost use Rattle.hg_worker.specs.Workers.{Decides, StaysUnseen, IsMachines, Keeps};
+ghost use Rattle.hg_worker.specs.Workers.{Finds, SendsNoneHome};
 
 use crate::answers::refused_answer;
 use crate::{ServiceName, Worker};
@@ -34,7 +43,20 @@ impl<N: ServiceName> Worker<N> {
         ensures chosen { IfSome (block_in result) (λ handle.
             chosen_place number_in records_in self.old.heap arena (size_of bytes)
             ≡ Some (number_of handle.place)) }
+        ensures no_room { result ≡ Answer.NoRoom
+            → chosen_place number_in records_in self.old.heap arena (size_of bytes) ≡ None }
+        ensures lists { IfSome (block_in result) (λ handle. GivenOut number_in records_in arena
+            (size_of bytes) (page_number handle.place) handle.place.index self.old.heap.segments
+            self.new.heap.segments) }
+        ensures queues { IfSome (block_in result) (λ handle. self.new.heap.queues ≡ requeued
+            (key_of arena (number_of_size (size_of bytes))) (page_number handle.place)
+            (has_place (lists_on number_in self.new.heap.segments (page_number handle.place)))
+            self.old.heap.queues) }
         ensures refused { IfNone (block_in result) (StaysUnseen self.old self.new) }
+        ensures unchanged { IfNone (block_in result) (self.new.heap ≡ self.old.heap) }
+        ensures any { IfNone (block_in result) ((shown : Option Shown) → Finds shown self.old
+            → IsMachines shown (Event.Alloc actor arena bytes) result shown self.old self.new) }
+        ensures home { SendsNoneHome self.old self.new }
         ensures rest { Keeps self.old self.new }
     {
         self.heap.settled();
@@ -48,7 +70,14 @@ impl<N: ServiceName> Worker<N> {
     /// many. No step is made.
     pub fn collect_own(&mut self) -> Answer
         ensures collect { IsMachines None Event.Collect result None self.old self.new }
+        ensures any { (shown : Option Shown) → Finds shown self.old
+            → IsMachines shown Event.Collect result shown self.old self.new }
+        ensures pages { result ≡ Answer.Pages
+            (idle_pages number_in records_in self.old.heap.segments) }
+        ensures collected { Collected number_in records_in self.old.heap self.new.heap }
+        ensures out { IdleAreOut number_in records_in self.old.heap self.new.heap }
         ensures seats { StaysUnseen self.old self.new }
+        ensures home { SendsNoneHome self.old self.new }
         ensures rest { Keeps self.old self.new }
     {
         self.heap.settled();

@@ -1,7 +1,12 @@
 //! Calls on remote lists and pools that the caller has locked, or has for itself.
 
-ghost use Rattle.std.specs.Prelude.{◌≡◌, false};
+ghost use Rattle.std.specs.Prelude.{◌≡◌, ◌≢◌, ◌≤◌, ◌%◌, ℕ, false, Contains};
+ghost use Rattle.hg_place.specs.declared.geometry.TheConstants.{SEGMENT_PLACES};
+ghost use Rattle.hg_place.specs.Places.{segment_of};
+ghost use Rattle.hg_machine.specs.declared.Answer.TheVariants as Answer;
+ghost use Rattle.hg_remote.specs.Remote.{contents};
 ghost use Rattle.hg_heap.specs.Held.{is_held, segment_in};
+ghost use Rattle.hg_heap.specs.Homecoming.{HaveComeHome};
 ghost use Rattle.hg_pool.specs.Pooled.{next_in};
 ghost use Rattle.hg_table.specs.Seats.{part_on};
 ghost use Rattle.hg_worker.specs.CallerLocked.{IsDelivered, IsTakenFrom, IsRefilled, IsAbandoned};
@@ -9,6 +14,7 @@ ghost use Rattle.hg_worker.specs.Met.{ComesTo};
 ghost use Rattle.hg_worker.specs.Seats.{number_in, records_in, part_of_seat};
 ghost use Rattle.hg_worker.specs.Seats.{seat_shows, seat_steps};
 ghost use Rattle.hg_worker.specs.Workers.{had, Keeps, LeavesLives, StaysUnseen};
+ghost use Rattle.hg_worker.specs.Workers.{SendsHome, SendsNoneHome};
 
 use crate::kept_pool::never_twice;
 use crate::{KeptPool, ServiceName, Worker};
@@ -25,6 +31,9 @@ impl<N: ServiceName> Worker<N> {
         ensures delivered { IsDelivered self.old.hand result list.old list.new self.new.hand }
         ensures heap { self.new.heap ≡ self.old.heap }
         ensures seats { StaysUnseen self.old self.new }
+        ensures home { SendsNoneHome self.old self.new }
+        ensures rest { (self.new.policy ≡ self.old.policy)
+            × (self.new.number ≡ self.old.number) }
     {
         let Some(handle) = self.hand else {
             return Answer::NothingInHand;
@@ -41,7 +50,12 @@ impl<N: ServiceName> Worker<N> {
         ensures taken { IsTakenFrom number_in records_in seat_shows seat_steps
             (is_held number_in self.old.heap.segments segment) segment result list.old list.new
             self.old.heap self.new.heap }
+        ensures whole { (count : ℕ) → result ≡ Answer.Taken count → (count ≤ SEGMENT_PLACES)
+            × HaveComeHome number_in records_in segment (contents list.old)
+            self.old.heap.segments self.new.heap.segments count }
         ensures lives { LeavesLives self.old self.new }
+        ensures home { SendsHome (λ place. (segment_of place ≡ segment)
+            × Contains (contents list.old) (place % SEGMENT_PLACES)) self.old self.new }
         ensures rest { Keeps self.old self.new }
     {
         if !self.heap.holds(segment) {
@@ -58,6 +72,7 @@ impl<N: ServiceName> Worker<N> {
             (next_in pool.old.pool arena) result pool.old.pool pool.new.pool
             (had self.old) (had self.new) }
         ensures lives { LeavesLives self.old self.new }
+        ensures home { SendsNoneHome self.old self.new }
         ensures rest { Keeps self.old self.new }
     {
         let Some(mut one) = pool.pool.next_of(arena) else {
@@ -79,7 +94,11 @@ impl<N: ServiceName> Worker<N> {
             (segment_in number_in self.old.heap.segments segment) result
             pool.old.pool pool.new.pool self.old.heap self.new.heap }
         ensures gone { is_held number_in self.new.heap.segments segment ≡ false }
+        ensures others { (other : ℕ) → other ≢ segment
+            → segment_in number_in self.new.heap.segments other
+            ≡ segment_in number_in self.old.heap.segments other }
         ensures lives { LeavesLives self.old self.new }
+        ensures home { SendsNoneHome self.old self.new }
         ensures rest { Keeps self.old self.new }
     {
         let Some(one) = self.heap.release(segment) else {

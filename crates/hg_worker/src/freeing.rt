@@ -1,13 +1,22 @@
 //! Blocks are freed.
 
-ghost use Rattle.std.specs.Prelude.{◌≡◌, ℕ, ◌-◌, true, false, Option, IsTrue, IsFalse};
+ghost use Rattle.std.specs.Prelude.{◌≡◌, ◌==◌, ℕ, ◌-◌, true, false, Option, Some, None, IsTrue};
+ghost use Rattle.std.specs.Prelude.{IsFalse};
+ghost use Rattle.hg_place.specs.declared.Right.TheVariants as Right;
+ghost use Rattle.hg_place.specs.Places.{number_of, page_number};
 ghost use Rattle.hg_machine.specs.declared.Event.TheVariants as Event;
 ghost use Rattle.hg_agreement.specs.Views.{Shown};
-ghost use Rattle.hg_heap.specs.Held.{is_held};
+ghost use Rattle.hg_heap.specs.Held.{is_held, lists_on, has_place, greatest_in};
+ghost use Rattle.hg_heap.specs.Judged.{IsJudged};
+ghost use Rattle.hg_heap.specs.Lists.{CameHome};
+ghost use Rattle.hg_heap.specs.Queues.{key_on};
+ghost use Rattle.hg_heap.specs.Requeued.{requeued};
 ghost use Rattle.hg_heap.specs.Ties.{shown_at};
-ghost use Rattle.hg_worker.specs.Answers.{is_freed, hand_after};
-ghost use Rattle.hg_worker.specs.Seats.{number_in};
-ghost use Rattle.hg_worker.specs.Workers.{Ends, Looks, IsMachines};
+ghost use Rattle.hg_worker.specs.Answers.{is_done, is_freed, hand_after};
+ghost use Rattle.hg_worker.specs.Judged.{found_word, rule_of};
+ghost use Rattle.hg_worker.specs.Records.{IsHomeAlone};
+ghost use Rattle.hg_worker.specs.Seats.{number_in, records_in};
+ghost use Rattle.hg_worker.specs.Workers.{Ends, Looks, IsMachines, KeepsSegments, SendsHome};
 
 use crate::answers::{denied_answer, refused_answer};
 use crate::{ServiceName, Worker};
@@ -27,7 +36,32 @@ impl<N: ServiceName> Worker<N> {
         ensures refused { IsFalse (is_freed result) → (shown : Option Shown)
             × Looks handle.place shown self.old self.new
             × IsMachines shown (Event.Free actor handle) result shown self.old self.new }
+        ensures served { IsTrue (is_freed result) → (word : ℕ)
+            × Ends handle.place word self.old self.new
+            × IsJudged self.old.policy actor.0 Right.Free handle word None }
+        ensures judged { IsFalse (is_freed result) → (shown : Option Shown)
+            × Looks handle.place shown self.old self.new
+            × IsJudged self.old.policy actor.0 Right.Free handle (found_word shown)
+            (rule_of result) }
+        ensures records { IsTrue (is_done result) → IsHomeAlone number_in records_in handle
+            self.old.heap.segments self.new.heap.segments }
+        ensures lists { IsTrue (is_done result) → CameHome number_in
+            (handle.generation == greatest_in number_in self.old.heap.segments
+            handle.place.segment) (page_number handle.place) handle.place.index
+            self.old.heap.segments self.new.heap.segments }
+        ensures queues { IsTrue (is_done result) → (key : ℕ)
+            × (key_on number_in self.old.heap.segments (page_number handle.place) ≡ Some key)
+            × (self.new.heap.queues ≡ requeued key (page_number handle.place)
+            (has_place (lists_on number_in self.new.heap.segments (page_number handle.place)))
+            self.old.heap.queues) }
+        ensures kept { IsFalse (is_done result) → KeepsSegments self.old self.new
+            × (self.new.heap.queues ≡ self.old.heap.queues) }
+        ensures home { SendsHome
+            (λ place. IsTrue (is_done result) × (place ≡ number_of handle.place))
+            self.old self.new }
         ensures hand { self.new.hand ≡ hand_after result handle self.old.hand }
+        ensures rest { (self.new.policy ≡ self.old.policy)
+            × (self.new.number ≡ self.old.number) }
     {
         if self.heap.holds(handle.place.segment) {
             return self.free_here(actor, handle);
@@ -45,7 +79,32 @@ impl<N: ServiceName> Worker<N> {
         ensures refused { IsFalse (is_freed result) → (shown : Option Shown)
             × Looks handle.place shown self.old self.new
             × IsMachines shown (Event.Free actor handle) result shown self.old self.new }
+        ensures served { IsTrue (is_freed result) → (word : ℕ)
+            × Ends handle.place word self.old self.new
+            × IsJudged self.old.policy actor.0 Right.Free handle word None }
+        ensures judged { IsFalse (is_freed result) → (shown : Option Shown)
+            × Looks handle.place shown self.old self.new
+            × IsJudged self.old.policy actor.0 Right.Free handle (found_word shown)
+            (rule_of result) }
+        ensures records { IsTrue (is_done result) → IsHomeAlone number_in records_in handle
+            self.old.heap.segments self.new.heap.segments }
+        ensures lists { IsTrue (is_done result) → CameHome number_in
+            (handle.generation == greatest_in number_in self.old.heap.segments
+            handle.place.segment) (page_number handle.place) handle.place.index
+            self.old.heap.segments self.new.heap.segments }
+        ensures queues { IsTrue (is_done result) → (key : ℕ)
+            × (key_on number_in self.old.heap.segments (page_number handle.place) ≡ Some key)
+            × (self.new.heap.queues ≡ requeued key (page_number handle.place)
+            (has_place (lists_on number_in self.new.heap.segments (page_number handle.place)))
+            self.old.heap.queues) }
+        ensures kept { IsFalse (is_done result) → KeepsSegments self.old self.new
+            × (self.new.heap.queues ≡ self.old.heap.queues) }
+        ensures home { SendsHome
+            (λ place. IsTrue (is_done result) × (place ≡ number_of handle.place))
+            self.old self.new }
         ensures hand { self.new.hand ≡ hand_after result handle self.old.hand }
+        ensures rest { (self.new.policy ≡ self.old.policy)
+            × (self.new.number ≡ self.old.number) }
     {
         self.heap.settled();
         if let Err(refused) = self.heap.free_here(&self.policy, actor, handle) {
@@ -64,7 +123,18 @@ impl<N: ServiceName> Worker<N> {
         ensures refused { IsFalse (is_freed result) → (shown : Option Shown)
             × Looks handle.place shown self.old self.new
             × IsMachines shown (Event.Free actor handle) result shown self.old self.new }
+        ensures served { IsTrue (is_freed result) → (word : ℕ)
+            × Ends handle.place word self.old self.new
+            × IsJudged self.old.policy actor.0 Right.Free handle word None }
+        ensures judged { IsFalse (is_freed result) → (shown : Option Shown)
+            × Looks handle.place shown self.old self.new
+            × IsJudged self.old.policy actor.0 Right.Free handle (found_word shown)
+            (rule_of result) }
+        ensures away { IsFalse (is_done result) }
+        ensures heap { self.new.heap ≡ self.old.heap }
         ensures hand { self.new.hand ≡ hand_after result handle self.old.hand }
+        ensures rest { (self.new.policy ≡ self.old.policy)
+            × (self.new.number ≡ self.old.number) }
     {
         let place = handle.place;
         self.heap.settled();

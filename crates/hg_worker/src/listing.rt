@@ -10,7 +10,7 @@ ghost use Rattle.hg_heap.specs.Keeping.{KeepsAll};
 ghost use Rattle.hg_worker.specs.Answers.{rows_in};
 ghost use Rattle.hg_worker.specs.Listing.{open_among, open_places, places_in};
 ghost use Rattle.hg_worker.specs.Seats.{number_in, records_in};
-ghost use Rattle.hg_worker.specs.Workers.{Keeps, Lists, LooksAt};
+ghost use Rattle.hg_worker.specs.Workers.{Keeps, Lists, LooksAt, SendsNoneHome};
 
 use crate::{ServiceName, Worker};
 use hg_heap::Heap;
@@ -29,6 +29,7 @@ impl<N: ServiceName> Worker<N> {
         ensures kept { KeepsAll number_in records_in self.old.heap.segments
             self.new.heap.segments }
         ensures queues { self.new.heap.queues ≡ self.old.heap.queues }
+        ensures home { SendsNoneHome self.old self.new }
         ensures rest { Keeps self.old self.new }
     {
         let places = open_places(alloc, &self.heap)?;

@@ -9,6 +9,7 @@ use Rattle.hg_worker.proofs.Hands.{knows_still, some_left, the_same}
 use Rattle.hg_segment.specs.Kept.{Kept}
 use Rattle.std.specs.Prelude.{Contains}
 use Rattle.hg_worker.proofs.Comings.{lives_go}
+use Rattle.hg_worker.proofs.Records.{left_goes}
 use Rattle.hg_worker.proofs.Pools.{either_option, are_of_part, left_there, pool_with}
 use Rattle.hg_worker.proofs.worker.Worker.abandon_to.Goals as goal
 
@@ -64,3 +65,7 @@ pub returns-clause-lives : goal.returns-clause-lives
 returns-clause-lives g c =
     lives_go number_in records_in part_of_seat (had c.args.self.now) _ c.args.segment refl
     c.release.ensures.gone c.release.ensures.others
+
+pub returns-clause-home : goal.returns-clause-home
+returns-clause-home g c =
+    left_goes number_in records_in _ _ _ c.release.ensures.gone c.release.ensures.others

@@ -19,7 +19,12 @@ use Rattle.hg_worker.proofs.Allocs.{no_block, by_none, if_no_block, given_follow
 use Rattle.hg_worker.proofs.Allocs.{live_ends_none}
 use Rattle.hg_worker.specs.Hands.{KnowsHand}
 use Rattle.hg_worker.proofs.Hands.{knows_still, stepped_grown, the_same}
-use Rattle.hg_worker.proofs.Seats.{machines_shown, machines_unseen}
+use Rattle.hg_heap.specs.declared.refused.Refused.TheVariants as refused
+use Rattle.hg_worker.specs.Records.{record_in}
+use Rattle.hg_worker.specs.Seats.{records_in}
+use Rattle.hg_worker.proofs.Records.{same_goes, given_goes}
+use Rattle.hg_worker.proofs.Seats.{machines_shown, machines_unseen, machines_any}
+use Rattle.std.specs.Prelude.{Option, Some, Err, IfNone}
 use Rattle.hg_worker.proofs.Steps.{either_way, held_decides, seat_shows, seat_steps}
 use Rattle.hg_worker.proofs.Workers.{whole_of}
 use Rattle.hg_worker.proofs.worker.Worker.alloc.Goals as goal
@@ -104,3 +109,59 @@ returns-in-Err-clause-chosen g c =
 
 pub returns-in-Ok-clause-given : goal.returns-in-Ok-clause-given
 returns-in-Ok-clause-given g c = c.in-Ok.ensures.given.0
+
+pub returns-in-Err-clause-lists : goal.returns-in-Err-clause-lists
+returns-in-Err-clause-lists g c =
+    if_no_block _ _ (refusal c.in-Err.refused c.refused_answer.result c.refused_answer.ensures)
+
+pub returns-in-Err-clause-queues : goal.returns-in-Err-clause-queues
+returns-in-Err-clause-queues g c =
+    if_no_block _ _ (refusal c.in-Err.refused c.refused_answer.result c.refused_answer.ensures)
+
+only_no_room : (why : Refused) → refused_answer why ≡ answer.NoRoom → why ≡ refused.NoRoom
+only_no_room (refused.Denied rule) e = absurd (cc)
+only_no_room refused.TooLarge e = absurd (cc)
+only_no_room refused.NoRoom e = refl
+only_no_room refused.Elsewhere e = absurd (cc)
+only_no_room refused.OutOfBlock e = absurd (cc)
+
+where_none : {X : Type 0} (o : Option X) (P : Type 0) → P → IfNone o P
+where_none None P p = p
+where_none (Some x) P p = tt
+
+pub returns-in-Err-clause-no_room : goal.returns-in-Err-clause-no_room
+returns-in-Err-clause-no_room g c = λ is.
+    c.alloc.ensures.no_room
+    (c.in-Err.is
+    ∙ ap Err (only_no_room c.in-Err.refused (sym c.refused_answer.ensures ∙ is)))
+
+pub returns-in-Err-clause-unchanged : goal.returns-in-Err-clause-unchanged
+returns-in-Err-clause-unchanged g c =
+    where_none (block_in c.refused_answer.result) _ c.in-Err.ensures.refused.0
+
+pub returns-in-Err-clause-any : goal.returns-in-Err-clause-any
+returns-in-Err-clause-any g c =
+    let s = c.args.self.now in
+    let old = had s in
+    let e = c.in-Err.ensures.refused in
+    let new = record old { heap = c.alloc.new.self } in
+    where_none (block_in c.refused_answer.result) _
+    (λ shown may.
+    let ties = e.1 shown s.number (hand_place s.hand) (hand_generation s.hand) s.below in
+    machines_any old new shown (event.Alloc c.args.actor c.args.arena c.args.bytes)
+    c.refused_answer.result shown (whole_of s c.settled.ensures.each) may
+    (rw (c.refused_answer.ensures, e.0) ties))
+
+pub returns-in-Err-clause-home : goal.returns-in-Err-clause-home
+returns-in-Err-clause-home g c =
+    same_goes number_in records_in _ _
+    (λ place.
+    ap (λ (h : Held _). record_in number_in records_in h.segments place)
+    c.in-Err.ensures.refused.0)
+
+pub returns-in-Ok-clause-no_room : goal.returns-in-Ok-clause-no_room
+returns-in-Ok-clause-no_room g c = λ is. absurd (cc)
+
+pub returns-in-Ok-clause-home : goal.returns-in-Ok-clause-home
+returns-in-Ok-clause-home g c =
+    given_goes number_in records_in part_of_seat c.settled.ensures.once c.in-Ok.ensures.given.0

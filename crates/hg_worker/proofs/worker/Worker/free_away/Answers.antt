@@ -17,7 +17,9 @@ use Rattle.hg_worker.specs.Workers.{had}
 use Rattle.hg_worker.proofs.Frees.{word_within, within_reach, hand_full, undenied_live}
 use Rattle.hg_worker.proofs.Frees.{lost_is_denied, own_decides_twice, free_denied, free_busy}
 use Rattle.hg_worker.proofs.Frees.{free_parted}
+use Rattle.hg_worker.specs.Judged.{rule_of}
 use Rattle.hg_worker.proofs.Hands.{own_saw, saw_freed, knows_new}
+use Rattle.hg_worker.proofs.Judged.{judged_by}
 use Rattle.hg_worker.proofs.Seats.{some_arena, machines_unseen, machines_looked, machines_shown}
 use Rattle.hg_worker.proofs.Steps.{none_in, own_looks, seats_stay, looked_ends}
 use Rattle.hg_worker.proofs.Workers.{whole_of}
@@ -240,4 +242,115 @@ returns-clause-freed g c = λ _.
       machines_shown old new place word arena.0 (event.Free c.args.actor c.args.handle)
           answer.Parted (shown_at place (word - 1)) (whole_of s c.settled.ensures.each) arena.1
           decided.shown ties,
+    )
+
+pub returns-then-is_none-clause-judged : goal.returns-then-is_none-clause-judged
+returns-then-is_none-clause-judged g c = λ _.
+    let s = c.args.self.now in
+    let old = had s in
+    let e = c.denied_answer.ensures in
+    let at : arena_of s.policy c.args.handle.place.segment ≡ None =
+    sym c.arena_of.ensures
+    ∙ none_in c.arena_of.result (c.is_none.ensures ∙ ap not c.if-is_none.true) in
+    let looked : Looked number_in part_of_seat c.args.handle.place None old old =
+    (at, seats_stay number_in part_of_seat old old refl refl) in (
+      None,
+      looked,
+      judged_by number_in part_of_seat s.policy c.args.actor.0 right.Free c.args.handle None old
+          old (rule_of c.denied_answer.result) looked (e.1 ∙ sym (ap rule_of e.2)),
+    )
+
+pub returns-in-Denied-clause-judged : goal.returns-in-Denied-clause-judged
+returns-in-Denied-clause-judged g c = λ _.
+    let s = c.args.self.now in
+    let old = had s in
+    let place = c.args.handle.place in
+    let word = c.look-word.result in
+    let some : is_some (arena_of s.policy place.segment) ≡ true =
+    ap is_some (sym c.arena_of.ensures) ∙ (c.is_none.ensures ∙ ap not c.if-is_none.false) in
+    let new = record old { own = part_on c.look-word.new.self.inner.badge } in
+    let looked : Looked number_in part_of_seat place (shown_at place word) old new = (
+      some,
+      refl,
+      own_looks number_in part_of_seat place word old new c.requires refl
+          c.look-word.ensures.shown c.look-word.ensures.step,
+    ) in (
+      shown_at place word,
+      looked,
+      judged_by number_in part_of_seat s.policy c.args.actor.0 right.Free c.args.handle
+          (shown_at place word) old new (Some c.in-Denied.rule) looked
+          (denied_by _ c.in-Denied.rule c.in-Denied.ensures),
+    )
+
+pub returns-then-is_some-clause-judged : goal.returns-then-is_some-clause-judged
+returns-then-is_some-clause-judged g c = λ _.
+    let s = c.args.self.now in
+    let old = had s in
+    let place = c.args.handle.place in
+    let word = c.look-word.result in
+    let some : is_some (arena_of s.policy place.segment) ≡ true =
+    ap is_some (sym c.arena_of.ensures) ∙ (c.is_none.ensures ∙ ap not c.if-is_none.false) in
+    let new = record old { own = part_on c.look-word.new.self.inner.badge } in
+    let looked : Looked number_in part_of_seat place (shown_at place word) old new = (
+      some,
+      refl,
+      own_looks number_in part_of_seat place word old new c.requires refl
+          c.look-word.ensures.shown c.look-word.ensures.step,
+    ) in (
+      shown_at place word,
+      looked,
+      judged_by number_in part_of_seat s.policy c.args.actor.0 right.Free c.args.handle
+          (shown_at place word) old new None looked (allowed_by _ c.in_default.ensures),
+    )
+
+pub returns-in-Err-clause-judged : goal.returns-in-Err-clause-judged
+returns-in-Err-clause-judged g c = λ _.
+    let s = c.args.self.now in
+    let old = had s in
+    let place = c.args.handle.place in
+    let word = c.look-word.result in
+    let found = c.in-Err.found in
+    let err = c.in-Err.ensures.err in
+    let e = c.denied_answer-in-Err.ensures in
+    let some : is_some (arena_of s.policy place.segment) ≡ true =
+    ap is_some (sym c.arena_of.ensures) ∙ (c.is_none.ensures ∙ ap not c.if-is_none.false) in
+    let new = record old { own = part_on c.part.new.self.inner.badge } in
+    let looked : Looked number_in part_of_seat place (shown_at place found) old new = (
+      some,
+      refl,
+      own_decides_twice number_in part_of_seat place word found found [] old new
+          (part_on c.look-word.new.self.inner.badge) c.requires refl s.seat.inner.plain
+          c.look-word.ensures.step err.1 err.2 (itself found) (looked_ends (word_of place) found),
+    ) in (
+      shown_at place found,
+      looked,
+      judged_by number_in part_of_seat s.policy c.args.actor.0 right.Free c.args.handle
+          (shown_at place found) old new (rule_of c.denied_answer-in-Err.result) looked
+          (e.1 ∙ sym (ap rule_of e.2)),
+    )
+
+pub returns-clause-served : goal.returns-clause-served
+returns-clause-served g c = λ _.
+    let s = c.args.self.now in
+    let old = had s in
+    let place = c.args.handle.place in
+    let word = c.look-word.result in
+    let none = allowed_by _ c.in_default.ensures in
+    let live = undenied_live s.policy c.args.actor.0 right.Free c.args.handle word
+    c.look-word.ensures.shown.slot_word none in
+    let ok = c.in_default-part.ensures.ok in
+    let new = record old {
+      own = part_on c.part.new.self.inner.badge;
+      hand = Some c.args.handle;
+    } in
+    let decided : Decided number_in part_of_seat place word (word - 1)
+    ((word_of place, word_generation word) ∷ []) old new =
+    own_decides_twice number_in part_of_seat place word word (word - 1)
+    ((word_of place, word_generation word) ∷ []) old new
+    (part_on c.look-word.new.self.inner.badge) c.requires refl s.seat.inner.plain
+    c.look-word.ensures.step ok.0 ok.1 (freed_word_after word live.0).0
+    (λ es. is_ended (word_of place) word es live.0) in (
+      word,
+      (live.0, decided),
+      record { named = none; live = λ _. live.0; generation = λ _. live.1 },
     )

@@ -11,6 +11,14 @@ use Rattle.hg_worker.specs.Had.{hand_place, hand_generation}
 use Rattle.hg_worker.specs.Seats.{number_in, part_of_seat}
 use Rattle.hg_worker.specs.Seen.{word_of, Decided}
 use Rattle.hg_worker.specs.Workers.{had}
+use Rattle.hg_worker.specs.Answers.{is_done}
+use Rattle.hg_worker.specs.Judged.{rule_of}
+use Rattle.hg_worker.specs.Seats.{records_in}
+use Rattle.hg_worker.proofs.FreedRecords.{freed_alone}
+use Rattle.hg_worker.proofs.Judged.{rule_refused, not_refused}
+use Rattle.hg_worker.proofs.Records.{all_goes, none_goes, alone_goes}
+use Rattle.std.proofs.lemmas.Bool.{true≢false}
+use Rattle.std.proofs.Common.{ap, sym, ◌∙◌}
 use Rattle.hg_worker.proofs.Hands.{knows_still, stepped_grown, the_same}
 use Rattle.hg_worker.proofs.Seats.{arena_held, looked_held, machines_held, machines_shown}
 use Rattle.hg_worker.proofs.Steps.{either_end, held_decides, seat_shows, seat_steps}
@@ -77,3 +85,72 @@ returns-clause-freed g c = λ _.
       machines_shown old new place e.0 arena.0 (event.Free c.args.actor c.args.handle)
           answer.Done (shown_at place (e.0 - 1)) whole arena.1 decided.shown ties,
     )
+
+pub returns-in-Err-clause-judged : goal.returns-in-Err-clause-judged
+returns-in-Err-clause-judged g c = λ _.
+    let s = c.args.self.now in
+    let e = c.in-Err.ensures.judged c.requires in (
+      shown_at c.args.handle.place e.0,
+      looked_held (had s) _ c.args.handle.place e.0 (whole_of s c.settled.ensures.each)
+          c.settled.ensures.once c.requires e.3 refl,
+      rw (ap rule_of c.refused_answer.ensures ∙ rule_refused c.in-Err.refused, e.2) e.4,
+    )
+
+pub returns-in-Err-clause-records : goal.returns-in-Err-clause-records
+returns-in-Err-clause-records g c = λ is.
+    absurd
+    (true≢false
+    (sym is ∙ ap is_done c.refused_answer.ensures ∙ not_refused c.in-Err.refused))
+
+pub returns-in-Err-clause-lists : goal.returns-in-Err-clause-lists
+returns-in-Err-clause-lists g c = λ is.
+    absurd
+    (true≢false
+    (sym is ∙ ap is_done c.refused_answer.ensures ∙ not_refused c.in-Err.refused))
+
+pub returns-in-Err-clause-queues : goal.returns-in-Err-clause-queues
+returns-in-Err-clause-queues g c = λ is.
+    absurd
+    (true≢false
+    (sym is ∙ ap is_done c.refused_answer.ensures ∙ not_refused c.in-Err.refused))
+
+pub returns-in-Err-clause-kept : goal.returns-in-Err-clause-kept
+returns-in-Err-clause-kept g c = λ _. (c.in-Err.ensures.kept, c.in-Err.ensures.same_queues)
+
+pub returns-in-Err-clause-home : goal.returns-in-Err-clause-home
+returns-in-Err-clause-home g c =
+    none_goes number_in records_in _ _ _ (all_goes number_in records_in _ _ c.in-Err.ensures.kept)
+
+pub returns-clause-served : goal.returns-clause-served
+returns-clause-served g c = λ _.
+    let s = c.args.self.now in
+    let old = had s in
+    let place = c.args.handle.place in
+    let e = c.in_default.ensures.served in
+    let live = e.2.live refl in
+    let new = record old { heap = c.free_here.new.self } in
+    let decided : Decided number_in part_of_seat place e.0 (e.0 - 1)
+    ((word_of place, word_generation e.0) ∷ []) old new =
+    held_decides number_in part_of_seat place e.0 (e.0 - 1)
+    ((word_of place, word_generation e.0) ∷ []) old new c.settled.ensures.once e.1 refl
+    (freed_word_after e.0 live).0 (λ es. is_ended (word_of place) e.0 es live) in
+    (e.0, (live, decided), e.2)
+
+pub returns-clause-records : goal.returns-clause-records
+returns-clause-records g c = λ _.
+    let s = c.args.self.now in
+    let e = c.in_default.ensures.served in
+    let f = c.in_default.ensures.freed in
+    freed_alone s.policy s.number c.args.actor c.args.handle s.heap.segments
+    c.free_here.new.self.segments s.sound s.below s.of c.settled.ensures.each
+    c.settled.ensures.once e.0 f.0 (e.2.live refl) (e.2.generation refl) e.1 f.2 f.3
+
+pub returns-clause-home : goal.returns-clause-home
+returns-clause-home g c =
+    let s = c.args.self.now in
+    let e = c.in_default.ensures.served in
+    let f = c.in_default.ensures.freed in
+    alone_goes number_in records_in refl
+    (freed_alone s.policy s.number c.args.actor c.args.handle s.heap.segments
+    c.free_here.new.self.segments s.sound s.below s.of c.settled.ensures.each
+    c.settled.ensures.once e.0 f.0 (e.2.live refl) (e.2.generation refl) e.1 f.2 f.3)

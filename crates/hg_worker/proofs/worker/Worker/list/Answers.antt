@@ -6,6 +6,7 @@ use Rattle.hg_place.specs.declared.Place.{Place}
 use Rattle.hg_worker.specs.Seats.{number_in, records_in, part_of_seat}
 use Rattle.hg_worker.specs.Workers.{had, Lists}
 use Rattle.hg_worker.proofs.Listings.{looks_then}
+use Rattle.hg_worker.proofs.Records.{all_goes}
 use Rattle.hg_worker.proofs.worker.Worker.list.Goals as goal
 
 pub loop-place-preserved : goal.loop-place-preserved
@@ -41,3 +42,6 @@ loop-place-preserved g c =
       room = c.look_into.ensures.room ∙ so_far.room;
       few = omega arith;
     }
+
+pub returns-clause-home : goal.returns-clause-home
+returns-clause-home g c = all_goes number_in records_in _ _ c.loop-place.invariant.kept

@@ -1,4 +1,4 @@
-use Rattle.std.proofs.Common.{◌≡◌, Some, None, refl, sym, ◌∙◌, subst}
+use Rattle.std.proofs.Common.{◌≡◌, Some, None, refl, sym, ap, ◌∙◌, subst, map, max}
 use Rattle.std.specs.Prelude.{Option}
 use Rattle.hg_agreement.specs.Agreement.{Ties}
 use Rattle.hg_heap.specs.Answers.{list_denial, look_answer}
@@ -14,10 +14,29 @@ use Rattle.hg_worker.specs.Seats.{number_in, records_in, part_of_seat}
 use Rattle.hg_worker.specs.Workers.{had}
 use Rattle.hg_worker.proofs.Away.{look_away, shown_where}
 use Rattle.hg_worker.proofs.Hands.{knows_still, stepped_grown, the_same}
+use Rattle.hg_worker.proofs.Judged.{found_slot, rule_away}
+use Rattle.hg_worker.proofs.Records.{all_goes}
 use Rattle.hg_worker.proofs.Seats.{looked_held, machines_held, machines_away}
 use Rattle.hg_worker.proofs.Steps.{seat_shows, seat_steps}
 use Rattle.hg_worker.proofs.Workers.{whole_of}
+use Rattle.hg_heap.specs.Held.{Held}
+use Rattle.hg_heap.specs.Reading.{block_in, IsRowOf}
+use Rattle.hg_heap.specs.Keeping.{rest_of}
+use Rattle.hg_machine.specs.Denial.{denial_on}
+use Rattle.hg_machine.specs.declared.Row.{Row}
+use Rattle.hg_place.specs.Slots.{Slot}
+use Rattle.hg_place.specs.declared.Right.TheVariants as right
+use Rattle.hg_worker.specs.Answers.{rows_in}
+use Rattle.hg_worker.specs.Judged.{rule_of}
+use Rattle.std.proofs.Common.{[], ◌∷◌}
 use Rattle.hg_worker.proofs.worker.Worker.look.Goals as goal
+
+same_row : (row other : Row) → answer.Listed row ≡ answer.Listed other → row ≡ other
+same_row row other e = let rows : row ∷ [] ≡ other ∷ [] = ap rows_in e in cc
+
+no_row_away : (denial : Option Rule) (row : Row) → away_answer denial ≡ answer.Listed row → ⊥
+no_row_away None row e = absurd (cc)
+no_row_away (Some rule) row e = absurd (cc)
 
 no_row : (denial : Option Rule) → look_answer None denial ≡ away_answer denial
 no_row None = refl
@@ -94,3 +113,70 @@ returns-in-None-clause-look g c =
           (no_row (list_denial s.policy c.args.actor place word)
           ∙ sym c.unlisted_answer.ensures) ties),
     )
+
+pub returns-then-not-holds-clause-judged : goal.returns-then-not-holds-clause-judged
+returns-then-not-holds-clause-judged g c =
+    let s = c.args.self.now in
+    let e = c.out_of_sight.ensures.judged in (
+      e.0,
+      e.1,
+      ap (λ (w : Slot). denial_on s.policy c.args.actor.0 right.List c.args.place.segment
+          (max 1 w.generation) w) (found_slot e.0)
+          ∙ sym (ap rule_of e.2 ∙ rule_away _),
+    )
+
+pub returns-then-not-holds-clause-row : goal.returns-then-not-holds-clause-row
+returns-then-not-holds-clause-row g c = λ row is.
+    absurd (no_row_away _ row (sym c.out_of_sight.ensures.judged.2 ∙ is))
+
+pub returns-then-not-holds-clause-home : goal.returns-then-not-holds-clause-home
+returns-then-not-holds-clause-home g c =
+    all_goes number_in records_in _ _
+    (ap (λ (h : Held _). map (rest_of number_in records_in) h.segments)
+    c.out_of_sight.ensures.heap)
+
+pub returns-in-Some-clause-judged : goal.returns-in-Some-clause-judged
+returns-in-Some-clause-judged g c =
+    let s = c.args.self.now in
+    let held = sym c.holds.ensures ∙ c.if-not-holds.false in
+    let new = record (had s) { heap = c.look.new.self } in (
+      shown_at c.args.place c.look.new.shown,
+      looked_held (had s) new c.args.place c.look.new.shown (whole_of s c.settled.ensures.each)
+          c.settled.ensures.once held c.look.ensures.step refl,
+      c.in-Some.ensures.allowed,
+    )
+
+pub returns-in-Some-clause-row : goal.returns-in-Some-clause-row
+returns-in-Some-clause-row g c = λ row is.
+    let s = c.args.self.now in
+    let held = sym c.holds.ensures ∙ c.if-not-holds.false in
+    let new = record (had s) { heap = c.look.new.self } in (
+      c.look.new.shown,
+      looked_held (had s) new c.args.place c.look.new.shown (whole_of s c.settled.ensures.each)
+          c.settled.ensures.once held c.look.ensures.step refl,
+      c.in-Some.ensures.live,
+      subst (IsRowOf c.args.place c.look.new.shown
+          (block_in number_in s.heap.segments c.args.place)) (same_row c.in-Some.row row is)
+          c.in-Some.ensures.row,
+    )
+
+pub returns-in-Some-clause-home : goal.returns-in-Some-clause-home
+returns-in-Some-clause-home g c = all_goes number_in records_in _ _ c.look.ensures.kept
+
+pub returns-in-None-clause-judged : goal.returns-in-None-clause-judged
+returns-in-None-clause-judged g c =
+    let s = c.args.self.now in
+    let held = sym c.holds.ensures ∙ c.if-not-holds.false in
+    let new = record (had s) { heap = c.look.new.self } in (
+      shown_at c.args.place c.look.new.shown,
+      looked_held (had s) new c.args.place c.look.new.shown (whole_of s c.settled.ensures.each)
+          c.settled.ensures.once held c.look.ensures.step refl,
+      sym (ap rule_of c.unlisted_answer.ensures ∙ rule_away _),
+    )
+
+pub returns-in-None-clause-row : goal.returns-in-None-clause-row
+returns-in-None-clause-row g c = λ row is.
+    absurd (no_row_away _ row (sym c.unlisted_answer.ensures ∙ is))
+
+pub returns-in-None-clause-home : goal.returns-in-None-clause-home
+returns-in-None-clause-home g c = all_goes number_in records_in _ _ c.look.ensures.kept

@@ -5,10 +5,11 @@ use Rattle.hg_place.specs.Standings.{slot_of}
 use Rattle.hg_table.specs.Seats.{part_on, word_at}
 use Rattle.hg_worker.specs.Seen.{word_of}
 use Rattle.hg_worker.proofs.Hands.{knows_still, stepped_grown, the_same, own_saw}
-use Rattle.hg_worker.specs.Seats.{number_in, part_of_seat}
+use Rattle.hg_worker.specs.Seats.{number_in, records_in, part_of_seat}
 use Rattle.hg_worker.specs.Workers.{had}
 use Rattle.hg_worker.proofs.Pools.{by_some}
 use Rattle.hg_worker.proofs.Meetings.{met_away, met_held, met_held_other, met_keeps, met_stepped}
+use Rattle.hg_worker.proofs.Records.{all_goes}
 use Rattle.hg_worker.proofs.Seats.{some_arena}
 use Rattle.hg_worker.proofs.Steps.{seat_shows, seat_steps}
 use Rattle.hg_worker.proofs.worker.Worker.meet.Goals as goal
@@ -145,3 +146,17 @@ invariant_of-other-then-not-holds-3-clause-known g c =
     own_saw number_in part_of_seat
     ((word_at (number_in m.one.slots) (slot_of c.args.handle.place), c.meet-then-not-holds-3.result)
     ∷ []) m.met.step_other.1 c.args.other.now.known
+
+pub returns-then-not-holds-clause-other_home : goal.returns-then-not-holds-clause-other_home
+returns-then-not-holds-clause-other_home g c =
+    all_goes number_in records_in _ _
+    (met_keeps c.args.handle.place c.meet-then-not-holds.result c.args.other.now.heap
+    c.meet-then-not-holds.new.self c.args.self.now.seat _ c.meet-then-not-holds.ensures.met
+    c.meet-then-not-holds.ensures.queues).0
+
+pub returns-then-not-holds-3-clause-home : goal.returns-then-not-holds-3-clause-home
+returns-then-not-holds-3-clause-home g c =
+    all_goes number_in records_in _ _
+    (met_keeps c.args.handle.place c.meet-then-not-holds-3.result c.args.self.now.heap
+    c.meet-then-not-holds-3.new.self c.args.other.now.seat _ c.meet-then-not-holds-3.ensures.met
+    c.meet-then-not-holds-3.ensures.queues).0

@@ -14,6 +14,7 @@ use Rattle.hg_worker.specs.Workers.{had}
 use Rattle.hg_worker.proofs.Comings.{comes_knows, comes_ends, lives_come}
 use Rattle.hg_worker.proofs.Pools.{either_option, pool_without, next_contained, are_of_more}
 use Rattle.hg_worker.proofs.Pools.{arena_low}
+use Rattle.hg_worker.proofs.Records.{come_goes}
 use Rattle.hg_worker.proofs.worker.Worker.refill_from.Goals as goal
 
 pub invariant_of-pool : goal.invariant_of-pool
@@ -92,5 +93,12 @@ returns-clause-lives g c =
     lives_come number_in records_in part_of_seat (had s) _ one'
     (comes_ends number_in records_in part_of_seat s.hand c.in-Some.one one' (had s).own
     (part_on c.see_hand.new.seat.inner.badge) c.see_hand.ensures)
+    (c.adopt.ensures.segments
+    ∙ ap (λ (h : Held _). h.segments ++ one' ∷ []) c.in_default-release.ensures.unchanged)
+
+pub returns-clause-home : goal.returns-clause-home
+returns-clause-home g c =
+    let one' = c.see_hand.new.one in
+    come_goes number_in records_in _ _ _
     (c.adopt.ensures.segments
     ∙ ap (λ (h : Held _). h.segments ++ one' ∷ []) c.in_default-release.ensures.unchanged)

@@ -1,4 +1,4 @@
-use Rattle.std.proofs.Common.{refl, sym, ◌∙◌}
+use Rattle.std.proofs.Common.{refl, sym, ap, ◌∙◌}
 use Rattle.hg_heap.specs.Ties.{shown_at}
 use Rattle.hg_heap.proofs.PolicyKept.{steps_keep_policy}
 use Rattle.hg_machine.specs.declared.Event.TheVariants as event
@@ -6,11 +6,37 @@ use Rattle.hg_worker.specs.Had.{hand_place, hand_generation}
 use Rattle.hg_worker.specs.Seats.{number_in, records_in, part_of_seat}
 use Rattle.hg_worker.specs.Workers.{had}
 use Rattle.hg_worker.proofs.Away.{write_away, shown_where}
+use Rattle.hg_place.specs.declared.Right.TheVariants as right
 use Rattle.hg_worker.proofs.Hands.{knows_still, stepped_grown, the_same}
+use Rattle.hg_worker.proofs.Judged.{judged_by, rule_away, rule_done, not_away, not_refused}
+use Rattle.hg_worker.proofs.Records.{all_goes, wrote_goes}
 use Rattle.hg_worker.proofs.Seats.{looked_held, machines_held, machines_away}
 use Rattle.hg_worker.proofs.Steps.{seat_shows, seat_steps}
 use Rattle.hg_worker.proofs.Workers.{whole_of}
+use Rattle.hg_worker.specs.Judged.{rule_of}
+use Rattle.hg_worker.specs.Answers.{is_done}
+use Rattle.hg_heap.specs.Answers.{done_answer}
+use Rattle.hg_heap.specs.Held.{Held}
+use Rattle.hg_heap.specs.Keeping.{rest_of}
+use Rattle.hg_heap.specs.declared.refused.Refused.{Refused}
+use Rattle.std.specs.Prelude.{Result, Ok, Err, OnOk, OnErr, IsTrue, IsFalse}
+use Rattle.std.proofs.Common.{map, subst}
+use Rattle.std.proofs.lemmas.Bool.{true≢false}
 use Rattle.hg_worker.proofs.worker.Worker.write.Goals as goal
+
+-- what is so where a call is served, and where it isn't
+where_done : {X P : Type 0} (r : Result X Refused) → OnOk r P → IsTrue (is_done (done_answer r)) → P
+where_done (Ok x) p is = p
+where_done (Err why) p is = absurd (true≢false (sym is ∙ not_refused why))
+
+where_refused : {X P : Type 0} (r : Result X Refused) → OnErr r P
+    → IsFalse (is_done (done_answer r)) → P
+where_refused (Ok x) p is = absurd (true≢false is)
+where_refused (Err why) p is = p
+
+either : {X P Q G : Type 0} (r : Result X Refused) → OnOk r P → OnErr r Q → (P → G) → (Q → G) → G
+either (Ok x) p q f h = f p
+either (Err why) p q f h = h q
 
 pub returns-then-not-holds-clause-write : goal.returns-then-not-holds-clause-write
 returns-then-not-holds-clause-write g c =
@@ -63,3 +89,54 @@ returns-clause-write g c =
           (event.Write c.args.actor c.args.handle c.args.index c.args.value) c.done_answer.result
           (rw c.done_answer.ensures ties),
     )
+
+pub returns-then-not-holds-clause-judged : goal.returns-then-not-holds-clause-judged
+returns-then-not-holds-clause-judged g c =
+    let s = c.args.self.now in
+    let e = c.out_of_reach.ensures.judged in (
+      e.0,
+      e.1,
+      judged_by number_in part_of_seat s.policy c.args.actor.0 right.Write c.args.handle e.0 (had s)
+          (had c.out_of_reach.new.self) (rule_of c.out_of_reach.result) e.1
+          (sym (ap rule_of e.2 ∙ rule_away _)),
+    )
+
+pub returns-then-not-holds-clause-kept : goal.returns-then-not-holds-clause-kept
+returns-then-not-holds-clause-kept g c = λ _.
+    ap (λ (h : Held _). map (rest_of number_in records_in) h.segments) c.out_of_reach.ensures.heap
+
+pub returns-then-not-holds-clause-wrote : goal.returns-then-not-holds-clause-wrote
+returns-then-not-holds-clause-wrote g c = λ is.
+    absurd (true≢false (sym is ∙ ap is_done c.out_of_reach.ensures.judged.2 ∙ not_away _))
+
+pub returns-then-not-holds-clause-home : goal.returns-then-not-holds-clause-home
+returns-then-not-holds-clause-home g c =
+    all_goes number_in records_in _ _
+    (ap (λ (h : Held _). map (rest_of number_in records_in) h.segments)
+    c.out_of_reach.ensures.heap)
+
+pub returns-clause-judged : goal.returns-clause-judged
+returns-clause-judged g c =
+    let s = c.args.self.now in
+    let held = sym c.holds.ensures ∙ c.if-not-holds.false in
+    let e = c.write.ensures.judged held in (
+      shown_at c.args.handle.place e.0,
+      looked_held (had s) _ c.args.handle.place e.0 (whole_of s c.settled.ensures.each)
+          c.settled.ensures.once held e.1 refl,
+      rw (ap rule_of c.done_answer.ensures ∙ rule_done c.write.result) e.2,
+    )
+
+pub returns-clause-kept : goal.returns-clause-kept
+returns-clause-kept g c = λ is.
+    where_refused c.write.result c.write.ensures.kept
+    (subst (λ a. IsFalse (is_done a)) c.done_answer.ensures is)
+
+pub returns-clause-wrote : goal.returns-clause-wrote
+returns-clause-wrote g c = λ is.
+    where_done c.write.result c.write.ensures.wrote
+    (subst (λ a. IsTrue (is_done a)) c.done_answer.ensures is)
+
+pub returns-clause-home : goal.returns-clause-home
+returns-clause-home g c =
+    either c.write.result c.write.ensures.wrote c.write.ensures.kept
+    (wrote_goes number_in records_in) (all_goes number_in records_in _ _)
