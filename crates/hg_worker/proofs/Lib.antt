@@ -14,3 +14,4 @@ pub mod Listings
 pub mod Records
 pub mod FreedRecords
 pub mod Judged
+pub mod WorkerLaws

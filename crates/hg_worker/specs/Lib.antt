@@ -11,3 +11,4 @@ pub mod Answers
 pub mod Listing
 pub mod Names
 pub mod Workers
+pub mod WorkerLaws

@@ -7,6 +7,7 @@ mod answers;
 mod caller_locked;
 mod freeing;
 mod kept_pool;
+pub mod laws;
 mod listing;
 mod meeting;
 mod name;
