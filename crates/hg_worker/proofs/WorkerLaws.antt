@@ -103,6 +103,11 @@ module _ {S : Type 0} (number : S → ℕ) (part : S → Part) where
         ))
         (at_snoc es (word_of handle.place, _) (at, generation) has.0
         (sym (ap (λ (l : List (ℕ × ℕ)). get_elem? l has.0) f.1.ended) ∙ has.1));
+    still = λ policy actor handle word old new f at generation has. (
+      has.0,
+      ap (λ (l : List (ℕ × ℕ)). get_elem? l has.0) f.1.ended
+          ∙ at_longer (part_for number part old handle.place).ended _ has.0 (at, generation) has.1,
+    );
   }
 
   -- without lives a seat has ended what it had

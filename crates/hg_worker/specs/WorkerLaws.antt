@@ -52,6 +52,11 @@ module _ {S : Type 0} (number : S → ℕ) (part : S → Part) where
         → HasEnded (part_for number part new handle.place) at generation
         → HasEnded (part_for number part old handle.place) at generation
         ⊎ ((at ≡ word_of handle.place) × (generation ≡ handle.generation))
+    pub still :
+        (policy : Policy) (actor : ℕ) (handle : Handle) (word : ℕ) (old new : Had S)
+        → IsFree policy actor handle word old new → (at generation : ℕ)
+        → HasEnded (part_for number part old handle.place) at generation
+        → HasEnded (part_for number part new handle.place) at generation
 
   -- two workers that have met at a place have ended no life of it both
   abbrev pub TheirLivesAreApart : Type 0

@@ -1,6 +1,6 @@
 //! Calls on remote lists and pools that the caller has locked, or has for itself.
 
-ghost use Rattle.std.specs.Prelude.{◌≡◌, ◌≢◌, ◌≤◌, ◌%◌, ℕ, false, Contains};
+ghost use Rattle.std.specs.Prelude.{◌≡◌, ◌≢◌, ◌≤◌, ◌%◌, ℕ, false, Contains, IfSome};
 ghost use Rattle.hg_place.specs.declared.geometry.TheConstants.{SEGMENT_PLACES};
 ghost use Rattle.hg_place.specs.Places.{segment_of};
 ghost use Rattle.hg_machine.specs.declared.Answer.TheVariants as Answer;
@@ -71,6 +71,8 @@ impl<N: ServiceName> Worker<N> {
         ensures refilled { IsRefilled number_in records_in part_of_seat
             (next_in pool.old.pool arena) result pool.old.pool pool.new.pool
             (had self.old) (had self.new) }
+        ensures unheld { IfSome (next_in pool.old.pool arena) (λ one.
+            is_held number_in self.old.heap.segments (number_in one.slots) ≡ false) }
         ensures lives { LeavesLives self.old self.new }
         ensures home { SendsNoneHome self.old self.new }
         ensures rest { Keeps self.old self.new }

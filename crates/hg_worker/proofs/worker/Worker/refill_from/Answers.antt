@@ -1,6 +1,6 @@
-use Rattle.std.proofs.Common.{◌≡◌, ◌<◌, ◌++◌, ◌∷◌, [], reverse, sym, ap, subst, ◌∙◌, Some}
+use Rattle.std.proofs.Common.{◌≡◌, ◌<◌, ◌++◌, ◌∷◌, [], reverse, false, sym, ap, subst, ◌∙◌, Some}
 use Rattle.hg_heap.specs.Entering.{pages_of_key}
-use Rattle.hg_heap.specs.Held.{Held}
+use Rattle.hg_heap.specs.Held.{Held, is_held}
 use Rattle.hg_queue.specs.Queues.{queue_of}
 use Rattle.hg_machine.specs.declared.Answer.TheVariants as answer
 use Rattle.hg_heap.specs.Policies.{AreOf, IsOf}
@@ -102,3 +102,13 @@ returns-clause-home g c =
     come_goes number_in records_in _ _ _
     (c.adopt.ensures.segments
     ∙ ap (λ (h : Held _). h.segments ++ one' ∷ []) c.in_default-release.ensures.unchanged)
+
+pub returns-clause-unheld : goal.returns-clause-unheld
+returns-clause-unheld g c =
+    let one = c.in-Some.one in
+    let away : is_held number_in c.args.self.now.heap.segments (number_in one.slots) ≡ false =
+    ap (λ (h : Held _). is_held number_in h.segments (number_in one.slots))
+    (sym c.in_default-release.ensures.unchanged)
+    ∙ ap (is_held number_in c.release.new.self.segments) (sym c.number-segment.ensures)
+    ∙ c.release.ensures.gone in
+    rw (sym c.in-Some.ensures.next) away
