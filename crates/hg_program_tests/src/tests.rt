@@ -4,11 +4,10 @@ ghost use Rattle.std.specs.Prelude.{None, true, false};
 
 use hg_program::{Host, program, start};
 use hg_replay::{ReadFault, Status, read_limited};
-use std::alloc::Global;
+use std::alloc::{AllocError, Global};
 use std::io;
 use std::io::Write;
 use std::process::{Abort, ExitCode};
-use std::test::Fail;
 
 const POLICY: &str = "version = 1
 workers = 1
@@ -17,6 +16,16 @@ arena = [ {name = \"main\", segments = 1} ]
 ";
 
 const TRACE: &str = "w0 refill main\nw0 alloc alice main 24\n";
+
+/// The policy and the trace in one.
+const JOINED: &str = "version = 1
+workers = 1
+tenant = [ {name = \"alice\", limit = 8192} ]
+arena = [ {name = \"main\", segments = 1} ]
+---
+w0 refill main
+w0 alloc alice main 24
+";
 
 const ANSWERS: &str = "segment 0\nok @0.0.0.1\n";
 
@@ -75,212 +84,194 @@ impl Write for Full {
     }
 }
 
+/// How the program ends on a host and an input.
+fn ended<H: Host, W: Write, E: Write>(
+    alloc: Global,
+    words: &[&str],
+    host: &H,
+    input: &str,
+    out: &mut W,
+    err: &mut E,
+) -> Status {
+    program(alloc, words, host, &mut input.as_bytes(), out, err)
+}
+
 /// The program ends with this status, output and standard error.
-fn ends(
+fn ends<H: Host>(
     rt: &impl Abort,
     alloc: Global,
     words: &[&str],
+    host: &H,
     input: &str,
     want: (Status, &str, &str),
-) -> Result<(), Fail> {
+) {
     let mut out = Vec::new(alloc);
     let mut err = Vec::new(alloc);
-    let status = program(
-        alloc,
-        words,
-        &Shelf,
-        &mut input.as_bytes(),
-        &mut out,
-        &mut err,
-    );
-    assert_eq!(rt; err.as_slice(), want.2.as_bytes());
-    assert_eq!(rt; out.as_slice(), want.1.as_bytes());
-    assert_eq!(rt; status, want.0);
-    Ok(())
+    let status = ended(alloc, words, host, input, &mut out, &mut err);
+    assert!(rt; err.as_slice() == want.2.as_bytes(), "{words:?}");
+    assert!(rt; out.as_slice() == want.1.as_bytes(), "{words:?}");
+    assert!(rt; status == want.0, "{words:?}");
 }
 
-#[test]
-fn jobs_are_done(rt: HostRuntime) -> Result<(), Fail> {
-    let a = rt.alloc();
-    let joined = format!(in a; "{POLICY}---\n{TRACE}")?;
-    ends(&rt, a, &[], joined.as_str(), (Status::Done, ANSWERS, ""))?;
-    ends(
-        &rt,
-        a,
-        &["check", "p"],
-        "",
-        (
-            Status::Done,
-            "ok workers 1 tenants 1 arenas 1 segments 1\n",
-            "",
-        ),
-    )?;
-    ends(
-        &rt,
-        a,
-        &["replay", "p", "t"],
-        "",
-        (Status::Done, ANSWERS, ""),
-    )
-}
+/// The words of a command line, and how the program ends: its status, output and standard error.
+type Row = (&'static [&'static str], Status, &'static str, &'static str);
 
-#[test]
-fn files_keep_their_places(rt: HostRuntime) -> Result<(), Fail> {
-    let a = rt.alloc();
-    ends(
-        &rt,
-        a,
-        &["replay", "t", "p"],
-        "",
-        (Status::BadPolicy, "", "policy fault 1: not toml\n"),
-    )?;
-    ends(
-        &rt,
-        a,
-        &["replay", "p", "p"],
-        "",
-        (Status::BadTrace, "", "trace fault 2 at line 1: command\n"),
-    )?;
-    for words in [
-        ["check", "none"].as_slice(),
-        &["replay", "none", "t"],
-        &["replay", "p", "none"],
-    ] {
-        ends(&rt, a, words, "", (Status::Failed, "", "read fault\n"))?;
+/// With nothing on the input the program ends as each row says.
+fn end_each(rt: &impl Abort, alloc: Global, rows: &[Row]) {
+    for (words, status, out, err) in rows {
+        ends(rt, alloc, words, &Shelf, "", (*status, out, err));
     }
-    Ok(())
 }
+
+static ON_FILES: [Row; 2] = [
+    (
+        &["check", "p"],
+        Status::Done,
+        "ok workers 1 tenants 1 arenas 1 segments 1\n",
+        "",
+    ),
+    (&["replay", "p", "t"], Status::Done, ANSWERS, ""),
+];
+
+#[test]
+fn jobs_are_done(rt: HostRuntime) {
+    let want = (Status::Done, ANSWERS, "");
+    ends(&rt, rt.alloc(), &[], &Shelf, JOINED, want);
+    end_each(&rt, rt.alloc(), &ON_FILES);
+}
+
+static PLACES: [Row; 5] = [
+    (
+        &["replay", "t", "p"],
+        Status::BadPolicy,
+        "",
+        "policy fault 1: not toml\n",
+    ),
+    (
+        &["replay", "p", "p"],
+        Status::BadTrace,
+        "",
+        "trace fault 2 at line 1: command\n",
+    ),
+    (&["check", "none"], Status::Failed, "", "read fault\n"),
+    (&["replay", "none", "t"], Status::Failed, "", "read fault\n"),
+    (&["replay", "p", "none"], Status::Failed, "", "read fault\n"),
+];
+
+#[test]
+fn files_keep_their_places(rt: HostRuntime) {
+    end_each(&rt, rt.alloc(), &PLACES);
+}
+
+/// A write that stops in what was asked for is a fault.
+fn stops(rt: &impl Abort, alloc: Global, words: &[&str]) {
+    let mut err = Vec::new(alloc);
+    let status = ended(alloc, words, &Shelf, "", &mut Full, &mut err);
+    assert!(rt; status == Status::Failed);
+    assert!(rt; err.as_slice() == b"write fault\n".as_slice());
+}
+
+static REQUESTS: [Row; 1] = [(&["--version"], Status::Done, "heapguard 0.1.0\n", "")];
 
 /// What was asked for is printed, and a write that stops in it is a fault.
 #[test]
-fn requests_are_printed(rt: HostRuntime) -> Result<(), Fail> {
-    let a = rt.alloc();
-    ends(
-        &rt,
-        a,
-        &["--version"],
-        "",
-        (Status::Done, "heapguard 0.1.0\n", ""),
-    )?;
-    for words in [["--help"], ["--version"]] {
-        let mut err = Vec::new(a);
-        let status = program(a, &words, &Shelf, &mut b"".as_slice(), &mut Full, &mut err);
-        assert_eq!(&rt; status, Status::Failed);
-        assert_eq!(&rt; err.as_slice(), b"write fault\n".as_slice());
+fn requests_are_printed(rt: HostRuntime) {
+    end_each(&rt, rt.alloc(), &REQUESTS);
+    for word in ["--help", "--version"] {
+        stops(&rt, rt.alloc(), &[word]);
     }
-    Ok(())
 }
 
-#[test]
-fn bad_lines_are_told(rt: HostRuntime) -> Result<(), Fail> {
-    let a = rt.alloc();
-    let nine = ["replay", "p", "t", "d", "e", "f", "g", "h", "i"];
-    for words in [["jump"].as_slice(), &["check"], &nine] {
-        let mut out = Vec::new(a);
-        let mut err = Vec::new(a);
-        let status = program(a, words, &Shelf, &mut b"".as_slice(), &mut out, &mut err);
-        assert_eq!(&rt; status, Status::BadLine);
-        assert_eq!(&rt; out.len(), 0);
-        assert!(&rt; err.as_slice().starts_with(b"error: "));
-    }
-    // Standard error that takes nothing changes no status.
-    let status = program(a, &nine, &Shelf, &mut b"".as_slice(), &mut Full, &mut Full);
-    assert_eq!(&rt; status, Status::BadLine);
-    Ok(())
-}
+/// Command lines that are refused.
+static BAD_LINES: [&[&str]; 3] = [&["jump"], &["check"], &NINE];
 
-/// The program ends so where the system gives no words.
-fn wordless(rt: &impl Abort, alloc: Global, kind: io::ErrorKind, want: (u8, &str)) {
+const NINE: [&str; 9] = ["replay", "p", "t", "d", "e", "f", "g", "h", "i"];
+
+/// A line is refused on standard error alone.
+fn is_refused(rt: &impl Abort, alloc: Global, words: &[&str]) {
     let mut out = Vec::new(alloc);
     let mut err = Vec::new(alloc);
-    let words = Err(io::Error::from(kind));
-    let code = start(
-        alloc,
-        words,
-        &Shelf,
-        &mut b"".as_slice(),
-        &mut out,
-        &mut err,
-    );
-    assert_eq!(rt; code, ExitCode::from(want.0));
-    assert_eq!(rt; out.len(), 0);
-    assert_eq!(rt; err.as_slice(), want.1.as_bytes());
+    let status = ended(alloc, words, &Shelf, "", &mut out, &mut err);
+    assert!(rt; status == Status::BadLine, "{words:?}");
+    assert!(rt; out.len() == 0, "{words:?}");
+    assert!(rt; err.as_slice().starts_with(b"error: "), "{words:?}");
 }
 
+#[test]
+fn bad_lines_are_told(rt: HostRuntime) {
+    for words in &BAD_LINES {
+        is_refused(&rt, rt.alloc(), words);
+    }
+    // Standard error that takes nothing changes no status.
+    let status = ended(rt.alloc(), &NINE, &Shelf, "", &mut Full, &mut Full);
+    assert!(&rt; status == Status::BadLine);
+}
+
+/// The whole program ends so on what the system gave as its words.
+fn starts(rt: &impl Abort, alloc: Global, words: io::Result<Vec<String>>, want: (u8, &str, &str)) {
+    let mut out = Vec::new(alloc);
+    let mut err = Vec::new(alloc);
+    let mut input = b"".as_slice();
+    let code = start(alloc, words, &Shelf, &mut input, &mut out, &mut err);
+    assert!(rt; code == ExitCode::from(want.0));
+    assert!(rt; out.as_slice() == want.1.as_bytes());
+    assert!(rt; err.as_slice() == want.2.as_bytes());
+}
+
+/// Where the system gives no words.
 #[test]
 fn words_are_text(rt: HostRuntime) {
-    let a = rt.alloc();
     let line = "the arguments are no text: see heapguard --help\n";
-    wordless(&rt, a, io::ErrorKind::InvalidData, (4, line));
-    wordless(&rt, a, io::ErrorKind::OutOfMemory, (3, "no memory\n"));
+    for (kind, status, told) in [
+        (io::ErrorKind::InvalidData, 4, line),
+        (io::ErrorKind::OutOfMemory, 3, "no memory\n"),
+    ] {
+        let words = Err(io::Error::from(kind));
+        starts(&rt, rt.alloc(), words, (status, "", told));
+    }
+}
+
+/// Words as the system gives them.
+fn given(rt: &impl Abort, alloc: Global, words: &[&str]) -> Vec<String> {
+    let mut given = Vec::new(alloc);
+    for word in words {
+        let word = String::from_str(alloc, word).expect(rt, "memory");
+        given.push(word).expect(rt, "memory");
+    }
+    given
 }
 
 #[test]
-fn words_are_passed_on(rt: HostRuntime) -> Result<(), Fail> {
-    let a = rt.alloc();
-    let mut words = Vec::new(a);
-    for word in ["replay", "p", "t"] {
-        words.push(String::from_str(a, word)?)?;
-    }
-    let mut out = Vec::new(a);
-    let mut err = Vec::new(a);
-    let code = start(
-        a,
-        Ok(words),
-        &Shelf,
-        &mut b"".as_slice(),
-        &mut out,
-        &mut err,
-    );
-    assert_eq!(&rt; code, ExitCode::from(0));
-    assert_eq!(&rt; out.as_slice(), ANSWERS.as_bytes());
-    Ok(())
+fn words_are_passed_on(rt: HostRuntime) {
+    let words = given(&rt, rt.alloc(), &["replay", "p", "t"]);
+    starts(&rt, rt.alloc(), Ok(words), (0, ANSWERS, ""));
 }
+
+const READS: &str = "heapguard reads a policy, a line ---, and a trace; see heapguard --help\n";
 
 /// At a terminal it is said what is read.
 #[test]
-fn a_terminal_is_told_what_is_read(rt: HostRuntime) -> Result<(), Fail> {
-    let a = rt.alloc();
-    let joined = format!(in a; "{POLICY}---\n{TRACE}")?;
-    let mut out = Vec::new(a);
-    let mut err = Vec::new(a);
-    let status = program(
-        a,
-        &[],
-        &Terminal,
-        &mut joined.as_bytes(),
-        &mut out,
-        &mut err,
-    );
-    assert_eq!(&rt; status, Status::Done);
-    assert_eq!(&rt; out.as_slice(), ANSWERS.as_bytes());
-    assert_eq!(&rt;
-        err.as_slice(),
-        b"heapguard reads a policy, a line ---, and a trace; see heapguard --help\n".as_slice()
-    );
-    Ok(())
+fn a_terminal_is_told_what_is_read(rt: HostRuntime) {
+    let want = (Status::Done, ANSWERS, READS);
+    ends(&rt, rt.alloc(), &[], &Terminal, JOINED, want);
 }
+
+/// A place for the few bytes of a test that asks for no memory.
+type Held = arrayvec::ArrayVec<u8, 64>;
 
 /// The answers, or want of memory and nothing written.
 #[test]
 fn program_refused_in_turn(rt: HostRuntime) {
-    let mut out = arrayvec::ArrayVec::<u8, 64>::new();
-    let mut err = arrayvec::ArrayVec::<u8, 64>::new();
+    let mut out = Held::new();
+    let mut err = Held::new();
     let words = ["replay", "p", "t"];
-    let status = program(
-        rt.alloc(),
-        &words,
-        &Shelf,
-        &mut b"".as_slice(),
-        &mut out,
-        &mut err,
-    );
+    let status = ended(rt.alloc(), &words, &Shelf, "", &mut out, &mut err);
     if status == Status::Done {
-        assert_eq!(&rt; out.as_slice(), ANSWERS.as_bytes());
-        assert_eq!(&rt; err.len(), 0);
+        assert!(&rt; out.as_slice() == ANSWERS.as_bytes());
+        assert!(&rt; err.len() == 0);
     } else {
-        assert_eq!(&rt; status, Status::Failed);
-        assert_eq!(&rt; out.len(), 0);
-        assert_eq!(&rt; err.as_slice(), b"no memory\n".as_slice());
+        assert!(&rt; status == Status::Failed);
+        assert!(&rt; out.len() == 0);
+        assert!(&rt; err.as_slice() == b"no memory\n".as_slice());
     }
 }
