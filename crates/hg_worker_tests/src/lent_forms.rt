@@ -1,17 +1,10 @@
 //! The calls over a list and a pool of the caller's own.
 
-ghost use Rattle.std.specs.Prelude.{◌≡◌, length, Ok};
-ghost use Rattle.hg_policy.specs.Document.{document_of};
-ghost use Rattle.hg_table.specs.Named.{table_of};
-
-use crate::services::{ALICE, DOCUMENT, MAIN, VAULT, opened, policy};
+use crate::services::{ALICE, DOCUMENT, MAIN, Service, Trial, VAULT, tried};
 use hg_machine::Answer;
-use hg_policy::Policy;
 use hg_remote::RemoteList;
-use hg_table::LifeTable;
 use hg_worker::{KeptPool, ServiceName, Worker};
 use std::alloc::Global;
-use std::marker::Brand;
 use std::process::Abort;
 
 /// A worker's block is parted by another.
@@ -45,41 +38,27 @@ fn given_back<N: ServiceName>(rt: &impl Abort, worker: &mut Worker<N>, pool: &mu
     assert!(rt; worker.holds(0));
 }
 
-/// Two workers of a new service, a list, and a pool.
-fn lent<N: ServiceName>(rt: &impl Abort, alloc: Global, policy: &Policy, table: LifeTable)
-    requires table { table_of table ≡ N.table }
-    requires policy { policy.now ≡ N.policy }
-    requires document { document_of DOCUMENT.now ≡ Ok policy.now }
-    requires segments { table.segments ≡ length policy.now.segments }
-{
-    let Some(mut all) = opened::<N>(alloc, policy, table) else {
-        panic!(rt; "no service")
-    };
-    assert_eq!(rt; (all.worker.number(), all.other.number()), (0, 1));
-    assert_eq!(rt;
-        all.worker.refill_from(MAIN, &mut all.pool),
-        Answer::Refilled(0)
-    );
-    parted(rt, &mut all.worker, &mut all.other);
-    let mut list = RemoteList::new(alloc).expect(rt, "a list");
-    delivered(rt, &mut all.other, &mut list);
-    taken(rt, &mut all.worker, &mut list);
-    let mut own = KeptPool::new(alloc).expect(rt, "a pool");
-    given_back(rt, &mut all.worker, &mut own);
-    drop(own);
-    drop(list);
-    drop(all);
+/// Two workers, a list, and a pool.
+#[derive(Clone, Copy)]
+struct Lent;
+
+impl Trial for Lent {
+    fn go<N: ServiceName, R: Abort>(&self, rt: &R, alloc: Global, all: &mut Service<N>) {
+        all.begin(rt);
+        let (worker, other) = all.two(rt, 0, 1);
+        assert_eq!(rt; (worker.number(), other.number()), (0, 1));
+        parted(rt, worker, other);
+        let mut list = RemoteList::new(alloc).expect(rt, "a list");
+        delivered(rt, other, &mut list);
+        taken(rt, worker, &mut list);
+        let mut own = KeptPool::new(alloc).expect(rt, "a pool");
+        given_back(rt, worker, &mut own);
+        drop(own);
+        drop(list);
+    }
 }
 
 #[test]
 fn lent_forms(rt: HostRuntime) {
-    let alloc = rt.alloc();
-    let Some(policy) = policy(alloc) else {
-        panic!(&rt; "no policy")
-    };
-    let Ok(table) = LifeTable::new(alloc, &policy) else {
-        panic!(&rt; "no table")
-    };
-    lent::<Brand>(&rt, alloc, &policy, table);
-    drop(policy);
+    tried(&rt, rt.alloc(), DOCUMENT, &Lent).expect(&rt, "memory");
 }

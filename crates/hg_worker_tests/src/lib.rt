@@ -2,6 +2,8 @@
 #![tactic(auto)]
 
 #[cfg(test)]
+mod drawn;
+#[cfg(test)]
 mod lent_forms;
 #[cfg(test)]
 mod listings;
@@ -9,5 +11,7 @@ mod listings;
 mod meets;
 #[cfg(test)]
 mod rows;
+#[cfg(test)]
+mod seeded;
 #[cfg(test)]
 mod services;

@@ -1,17 +1,10 @@
 //! Two workers meet at a place.
 
-ghost use Rattle.std.specs.Prelude.{◌≡◌, length, Ok};
-ghost use Rattle.hg_policy.specs.Document.{document_of};
-ghost use Rattle.hg_table.specs.Named.{table_of};
-
-use crate::services::{ALICE, DOCUMENT, MAIN, opened, policy};
+use crate::services::{ALICE, DOCUMENT, MAIN, Service, Trial, tried};
 use hg_machine::Answer;
 use hg_place::{Handle, Place};
-use hg_policy::Policy;
-use hg_table::LifeTable;
 use hg_worker::{ServiceName, Worker};
 use std::alloc::Global;
-use std::marker::Brand;
 use std::process::Abort;
 
 /// The first life of a place that no policy here has.
@@ -47,32 +40,18 @@ fn met<N: ServiceName>(rt: &impl Abort, worker: &mut Worker<N>, other: &mut Work
 }
 
 /// The two workers of a new service meet.
-fn meeting<N: ServiceName>(rt: &impl Abort, alloc: Global, policy: &Policy, table: LifeTable)
-    requires table { table_of table ≡ N.table }
-    requires policy { policy.now ≡ N.policy }
-    requires document { document_of DOCUMENT.now ≡ Ok policy.now }
-    requires segments { table.segments ≡ length policy.now.segments }
-{
-    let Some(mut all) = opened::<N>(alloc, policy, table) else {
-        panic!(rt; "no service")
-    };
-    assert_eq!(rt;
-        all.worker.refill_from(MAIN, &mut all.pool),
-        Answer::Refilled(0)
-    );
-    met(rt, &mut all.worker, &mut all.other);
-    drop(all);
+#[derive(Clone, Copy)]
+struct Meeting;
+
+impl Trial for Meeting {
+    fn go<N: ServiceName, R: Abort>(&self, rt: &R, _alloc: Global, all: &mut Service<N>) {
+        all.begin(rt);
+        let (worker, other) = all.two(rt, 0, 1);
+        met(rt, worker, other);
+    }
 }
 
 #[test]
 fn meets(rt: HostRuntime) {
-    let alloc = rt.alloc();
-    let Some(policy) = policy(alloc) else {
-        panic!(&rt; "no policy")
-    };
-    let Ok(table) = LifeTable::new(alloc, &policy) else {
-        panic!(&rt; "no table")
-    };
-    meeting::<Brand>(&rt, alloc, &policy, table);
-    drop(policy);
+    tried(&rt, rt.alloc(), DOCUMENT, &Meeting).expect(&rt, "memory");
 }

@@ -1,18 +1,12 @@
 //! Worked runs of two workers, called in turn.
 
-ghost use Rattle.std.specs.Prelude.{◌≡◌, ◌≤◌, ◌<◌, length, Ok};
-ghost use Rattle.hg_policy.specs.Document.{document_of};
-ghost use Rattle.hg_table.specs.Named.{table_of};
+ghost use Rattle.std.specs.Prelude.{◌≤◌, ◌<◌};
 
-use crate::services::{ALICE, BOB, DOCUMENT, MAIN, NOWHERE, Service, opened, policy};
+use crate::services::{ALICE, BOB, DOCUMENT, MAIN, NOWHERE, Service, Trial, tried};
 use hg_machine::{Answer, Event, Rule};
 use hg_place::{Actor, Handle, Place};
-use hg_policy::Policy;
-use hg_remote::RemoteList;
-use hg_table::LifeTable;
-use hg_worker::{KeptPool, ServiceName, Worker};
+use hg_worker::ServiceName;
 use std::alloc::Global;
-use std::marker::Brand;
 use std::process::Abort;
 
 /// An event of a worker, and what it answers.
@@ -72,80 +66,22 @@ fn abandon(segment: u8) -> Event {
     Event::Abandon { segment }
 }
 
-/// What a worker answers to an event, by its call of that name.
-fn asked<N: ServiceName>(
-    worker: &mut Worker<N>,
-    list: &mut RemoteList,
-    pool: &mut KeptPool<N>,
-    event: Event,
-) -> Answer {
-    match event {
-        Event::Alloc {
-            actor,
-            arena,
-            bytes,
-        } => worker.alloc(actor, arena, bytes),
-        Event::Free { actor, handle } => worker.free(actor, handle),
-        Event::Deliver => worker.deliver_to(list),
-        Event::Take { segment } => worker.take_from(segment, list),
-        Event::Collect => worker.collect_own(),
-        Event::Read {
-            actor,
-            handle,
-            index,
-        } => worker.read(actor, handle, index),
-        Event::Write {
-            actor,
-            handle,
-            index,
-            value,
-        } => worker.write(actor, handle, index, value),
-        Event::Look { actor, place } => worker.look(actor, place),
-        Event::Abandon { segment } => worker.abandon_to(segment, pool),
-        Event::Refill { arena } => worker.refill_from(arena, pool),
+/// Calls with what each must answer, from the opening of the service.
+#[derive(Clone, Copy)]
+struct Rows<'a> {
+    rows: &'a [Row],
+}
+
+impl<'a> Trial for Rows<'a> {
+    fn go<N: ServiceName, R: Abort>(&self, rt: &R, _alloc: Global, all: &mut Service<N>) {
+        for (number, event, wanted) in self.rows {
+            assert_eq!(rt; all.answer(rt, usize::from(*number), *event), *wanted);
+        }
     }
 }
 
-/// What the worker of a number answers: the first for 0, else the other one.
-fn answer<N: ServiceName>(all: &mut Service<N>, number: u8, event: Event) -> Answer {
-    if number == 0 {
-        return asked(&mut all.worker, &mut all.list, &mut all.pool, event);
-    }
-    asked(&mut all.other, &mut all.list, &mut all.pool, event)
-}
-
-/// Calls the workers of a new service, and compares what they answer.
-fn called<N: ServiceName>(
-    rt: &impl Abort,
-    alloc: Global,
-    policy: &Policy,
-    table: LifeTable,
-    rows: &[Row],
-)
-    requires table { table_of table ≡ N.table }
-    requires policy { policy.now ≡ N.policy }
-    requires document { document_of DOCUMENT.now ≡ Ok policy.now }
-    requires segments { table.segments ≡ length policy.now.segments }
-{
-    let Some(mut all) = opened::<N>(alloc, policy, table) else {
-        panic!(rt; "no service")
-    };
-    for (number, event, wanted) in rows {
-        assert_eq!(rt; answer(&mut all, *number, *event), *wanted);
-    }
-    drop(all);
-}
-
-/// The answers to the events of a row, from the opening of the service.
-fn answers_are(rt: &impl Abort, alloc: Global, rows: &[Row]) {
-    let Some(policy) = policy(alloc) else {
-        panic!(rt; "no policy")
-    };
-    let Ok(table) = LifeTable::new(alloc, &policy) else {
-        panic!(rt; "no table")
-    };
-    called::<Brand>(rt, alloc, &policy, table, rows);
-    drop(policy);
+fn answers_are<R: Abort>(rt: &R, alloc: Global, rows: &[Row]) {
+    tried(rt, alloc, DOCUMENT, &Rows { rows }).expect(rt, "memory");
 }
 
 /// A block that another worker frees is parted, sent, and taken in.

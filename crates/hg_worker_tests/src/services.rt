@@ -1,14 +1,15 @@
-//! A service in the hands of its caller: its two workers, a list and a pool.
+//! A service in the hands of its caller: its workers, called in turn, a list for each segment and a
+//! pool.
 
-ghost use Rattle.std.specs.Prelude.{◌≡◌, ◌+◌, ◌*◌, length, All, Ok, IfSome};
+ghost use Rattle.std.specs.Prelude.{◌≡◌, ◌+◌, ◌*◌, length, All, IfSome};
 ghost use Rattle.std.specs.Box.{boxed_slice_items};
 ghost use Rattle.hg_place.specs.declared.geometry.TheConstants.{SEGMENT_PLACES};
-ghost use Rattle.hg_policy.specs.Document.{document_of};
 ghost use Rattle.hg_heap.specs.Policies.{IsOf};
 ghost use Rattle.hg_table.specs.Named.{table_of};
 ghost use Rattle.hg_table.specs.Seats.{AreHome, KnowsNothing, part_in};
 ghost use Rattle.hg_worker.specs.Seats.{number_in};
 
+use hg_machine::{Answer, Event};
 use hg_place::{Actor, SlotWords};
 use hg_policy::{Policy, read_policy};
 use hg_remote::RemoteList;
@@ -16,6 +17,8 @@ use hg_segment::Segment;
 use hg_table::{LifeTable, Seats, SegmentSeat, WorkerSeat};
 use hg_worker::{KeptPool, ServiceName, Worker};
 use std::alloc::Global;
+use std::marker::Brand;
+use std::process::Abort;
 
 pub const ALICE: Actor = Actor(0);
 
@@ -36,51 +39,81 @@ arena = [ {name = "main", segments = 2}, {name = "vault", segments = 1, exclusiv
 grant = [ {owner = "alice", to = "bob", rights = ["read", "free"]} ]
 "#;
 
-/// The policy of the worked runs, which a second call gives again. None is want of memory, as of
-/// each function here.
-pub fn policy(alloc: Global) -> Option<Policy>
-    ensures { IfSome result (λ policy. document_of DOCUMENT.now ≡ Ok policy) }
-{
-    read_policy(alloc, DOCUMENT.as_bytes()).ok()
-}
-
-/// The parts of a service, whose segments all begin in the pool. What is sent to a segment goes to
-/// the one list.
+/// The parts of a service, whose segments all begin in the pool.
 #[derive(Drop)]
 pub struct Service<N: ServiceName> {
-    pub worker: Worker<N>,
-    pub other: Worker<N>,
-    pub list: RemoteList,
-    pub pool: KeptPool<N>,
+    workers: Vec<Worker<N>>,
+    /// What is sent to each segment.
+    lists: Vec<RemoteList>,
+    pool: KeptPool<N>,
 }
 
-/// The parts of a new service.
-pub fn opened<N: ServiceName>(
+/// What is tried on a new service.
+pub trait Trial {
+    fn go<N: ServiceName, R: Abort>(&self, rt: &R, alloc: Global, all: &mut Service<N>);
+}
+
+/// Tries it on a new service of a document's policy. `None` is want of memory, and then it wasn't
+/// tried.
+pub fn tried<R: Abort, T: Trial>(rt: &R, alloc: Global, document: &str, trial: &T) -> Option<()> {
+    let policy = read_policy(alloc, document.as_bytes()).ok()?;
+    let table = LifeTable::new(alloc, &policy).ok()?;
+    let done = tried_on::<Brand, R, T>(rt, alloc, &policy, table, trial);
+    drop(policy);
+    done
+}
+
+fn tried_on<N: ServiceName, R: Abort, T: Trial>(
+    rt: &R,
     alloc: Global,
     policy: &Policy,
     table: LifeTable,
-) -> Option<Service<N>>
+    trial: &T,
+) -> Option<()>
     requires table { table_of table ≡ N.table }
     requires policy { policy.now ≡ N.policy }
-    requires document { document_of DOCUMENT.now ≡ Ok policy.now }
     requires segments { table.segments ≡ length policy.now.segments }
 {
-    let Seats {
-        segments,
-        mut workers,
-    } = table.open::<N>(alloc).ok()?;
+    let mut all = opened::<N>(alloc, policy, table)?;
+    trial.go(rt, alloc, &mut all);
+    drop(all);
+    Some(())
+}
+
+/// The parts of a new service. `None` is want of memory, as of each function below.
+fn opened<N: ServiceName>(alloc: Global, policy: &Policy, table: LifeTable) -> Option<Service<N>>
+    requires table { table_of table ≡ N.table }
+    requires policy { policy.now ≡ N.policy }
+    requires segments { table.segments ≡ length policy.now.segments }
+{
+    let Seats { segments, workers } = table.open::<N>(alloc).ok()?;
     let pool = fresh_pool(alloc, policy, segments)?;
-    let last = workers.pop()?;
-    let first = workers.pop()?;
     Some(Service {
-        worker: new_worker(alloc, policy, 0, first)?,
-        other: new_worker(alloc, policy, 1, last)?,
-        list: RemoteList::new(alloc).ok()?,
+        workers: workers_of(alloc, policy, workers)?,
+        lists: lists_of(alloc, policy)?,
         pool,
     })
 }
 
-/// The worker of a seat, with a policy of its own: the document is read again.
+/// The workers of these seats.
+fn workers_of<N: ServiceName>(
+    alloc: Global,
+    policy: &Policy,
+    seats: Vec<WorkerSeat<N>>,
+) -> Option<Vec<Worker<N>>>
+    requires policy { policy.now ≡ N.policy }
+    requires words { N.table.words ≡ length policy.now.segments * SEGMENT_PLACES + 1 }
+{
+    let mut seats = seats;
+    let mut workers = Vec::new(alloc);
+    for number in 0..policy.workers() {
+        let worker = new_worker(alloc, policy, number, seats.pop()?)?;
+        workers.push(worker).ok()?;
+    }
+    Some(workers)
+}
+
+/// The worker of a seat, with a copy of the policy.
 fn new_worker<N: ServiceName>(
     alloc: Global,
     policy: &Policy,
@@ -88,23 +121,22 @@ fn new_worker<N: ServiceName>(
     seat: WorkerSeat<N>,
 ) -> Option<Worker<N>>
     requires policy { policy.now ≡ N.policy }
-    requires document { document_of DOCUMENT.now ≡ Ok policy.now }
     requires words { N.table.words ≡ length policy.now.segments * SEGMENT_PLACES + 1 }
 {
-    let copy = copied(alloc, policy)?;
+    let copy = policy.copy(alloc).ok()?;
     if number >= copy.workers() {
         return None;
     }
     Worker::new(alloc, copy, number, seat).ok()
 }
 
-/// The policy once more.
-fn copied(alloc: Global, policy: &Policy) -> Option<Policy>
-    requires { document_of DOCUMENT.now ≡ Ok policy.now }
-    ensures { IfSome result (λ copy. copy ≡ policy.now) }
-{
-    let _workers = policy.workers();
-    read_policy(alloc, DOCUMENT.as_bytes()).ok()
+/// An empty list for each segment.
+fn lists_of(alloc: Global, policy: &Policy) -> Option<Vec<RemoteList>> {
+    let mut lists = Vec::new(alloc);
+    for _ in 0..policy.segments() {
+        lists.push(RemoteList::new(alloc).ok()?).ok()?;
+    }
+    Some(lists)
 }
 
 /// The segments of these seats, all fresh.
@@ -137,4 +169,81 @@ fn fresh_segment<N: ServiceName>(
     let number = seat.segment();
     let arena = policy.arena_of(number)?;
     Segment::new(alloc, number, arena, policy.max_generation(), seat).ok()
+}
+
+/// The segment whose list a call is lent: that of the block in hand, or the one that it names.
+fn lent_to<N: ServiceName>(worker: &Worker<N>, event: Event) -> u8 {
+    match (event, worker.hand()) {
+        (Event::Deliver, Some(place)) => place.segment,
+        (Event::Take { segment }, _) => segment,
+        _ => 0,
+    }
+}
+
+/// What a worker answers to an event, by its call of that name.
+fn asked<N: ServiceName>(
+    worker: &mut Worker<N>,
+    list: &mut RemoteList,
+    pool: &mut KeptPool<N>,
+    event: Event,
+) -> Answer {
+    match event {
+        Event::Alloc {
+            actor,
+            arena,
+            bytes,
+        } => worker.alloc(actor, arena, bytes),
+        Event::Free { actor, handle } => worker.free(actor, handle),
+        Event::Deliver => worker.deliver_to(list),
+        Event::Take { segment } => worker.take_from(segment, list),
+        Event::Collect => worker.collect_own(),
+        Event::Read {
+            actor,
+            handle,
+            index,
+        } => worker.read(actor, handle, index),
+        Event::Write {
+            actor,
+            handle,
+            index,
+            value,
+        } => worker.write(actor, handle, index, value),
+        Event::Look { actor, place } => worker.look(actor, place),
+        Event::Abandon { segment } => worker.abandon_to(segment, pool),
+        Event::Refill { arena } => worker.refill_from(arena, pool),
+    }
+}
+
+impl<N: ServiceName> Service<N> {
+    /// What the worker of a number answers.
+    pub fn answer<R: Abort>(&mut self, rt: &R, number: usize, event: Event) -> Answer {
+        assert!(rt; number < self.workers.len() && !self.lists.is_empty());
+        let worker = &mut self.workers[number];
+        let segment = usize::from(lent_to(worker, event));
+        // (a segment that the policy lacks has no list, and nobody holds it)
+        let at = if segment < self.lists.len() {
+            segment
+        } else {
+            0
+        };
+        asked(worker, &mut self.lists[at], &mut self.pool, event)
+    }
+
+    /// The first worker takes the first segment of the main arena.
+    pub fn begin<R: Abort>(&mut self, rt: &R) {
+        let event = Event::Refill { arena: MAIN };
+        assert_eq!(rt; self.answer(rt, 0, event), Answer::Refilled(0));
+    }
+
+    /// Two workers, the lower number first.
+    pub fn two<R: Abort>(
+        &mut self,
+        rt: &R,
+        one: usize,
+        other: usize,
+    ) -> (&mut Worker<N>, &mut Worker<N>) {
+        assert!(rt; one < other && other < self.workers.len());
+        let (front, back) = self.workers.as_mut_slice().split_at_mut(other);
+        (&mut front[one], &mut back[0])
+    }
 }
