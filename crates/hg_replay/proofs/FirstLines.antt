@@ -121,6 +121,9 @@ pub stops_are_in_runs : StopsAreInRuns
 stops_are_in_runs k lines end last old new all stop replayed =
     let on = subst (λ ls. Replays (starting k) ls last all) stop.split replayed in
     let run = goes (starting k) stop.mid end last stop.before stop.last stop.after stop.text stop.here all stop.replayed stop.answered on in
+    let soon : StopsSoon old new (all_text k.state.policy run.told) (all_text k.state.policy (run.entry ∷ [])) =
+    subst (λ t. StopsSoon old new t (all_text k.state.policy (run.entry ∷ []))) run.prints
+    (subst (StopsSoon old new stop.text) run.prints_here stop.stopped) in
     record {
       told = run.told;
       here = run.entry;
@@ -130,7 +133,11 @@ stops_are_in_runs k lines end last old new all stop replayed =
       leads_on = run.leads_on;
       stands = run.stands;
       prints = run.prints_all;
-      stopped =
-          subst (λ t. StopsSoon old new t (all_text k.state.policy (run.entry ∷ []))) run.prints
-          (subst (StopsSoon old new stop.text) run.prints_here stop.stopped);
+      front = soon.stopped.front;
+      rest = soon.stopped.rest;
+      split = soon.stopped.split;
+      not_all = soon.stopped.not_all;
+      written = soon.stopped.written;
+      stopped = soon.stopped.stopped;
+      waited = soon.waited;
     }

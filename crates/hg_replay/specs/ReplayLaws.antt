@@ -1,6 +1,7 @@
 -- Laws of listings and of replays.
 use Rattle.std.specs.Prelude.{◌≡◌, ℕ, List, [], ◌∷◌, ◌++◌, Option, Some, None, map, filter}
-use Rattle.std.specs.Prelude.{filter_map, flat_map, All, Contains}
+use Rattle.std.specs.Prelude.{filter_map, flat_map, All, Contains, ◌<◌, ◌≤◌, ◌+◌, true, length}
+use Rattle.std.specs.Io.KnownBytes.{Appends}
 use Rattle.hg_place.specs.declared.Actor.{Actor}
 use Rattle.hg_place.specs.declared.Handle.{Handle}
 use Rattle.hg_machine.specs.Policy.{Policy}
@@ -23,7 +24,7 @@ use Rattle.hg_replay.specs.Text.{listing_text, reply_text}
 use Rattle.hg_replay.specs.Replays.{Progress, Answered, Replays, handles_after, meaning_at}
 use Rattle.hg_replay.specs.Replays.{StopsAt, starting}
 use Rattle.hg_replay.specs.Sinks.{Seen}
-use Rattle.hg_replay.specs.Writes.{StopsSoon}
+use Rattle.hg_replay.specs.declared.replaying.output.TheConstants.{ROOM}
 
 -- the row that an answer is
 abbrev pub row_of : Answer → Option Row
@@ -142,8 +143,8 @@ FirstLinesBeginRuns =
     → BeginsAlike from mid end before after text all
 
 -- a replay of lines stopped in the run of all of them: it stands where the first entries and one
--- more lead, and a write stopped in the text of these, where of that of the first no more isn't
--- written than may wait
+-- more lead. The known bytes have grown by a front of the text of these and not all of it, since a
+-- write stopped, and what isn't written of the text of the first fits into the room
 pub record StopsInRun (k : Kept) (lines : List Line) (end last : Progress) (old new : Seen)
     (all : List ℕ) : Type 0 where
   pub told : List Told
@@ -154,8 +155,14 @@ pub record StopsInRun (k : Kept) (lines : List Line) (end last : Progress) (old 
   pub leads_on : LeadsTo (starting k) (told ++ here ∷ more) last
   pub stands : StandsWhereLed (starting k) (told ++ here ∷ more)
   pub prints : all ≡ all_text k.state.policy (told ++ here ∷ more)
-  pub stopped :
-      StopsSoon old new (all_text k.state.policy told) (all_text k.state.policy (here ∷ []))
+  pub front : List ℕ
+  pub rest : List ℕ
+  pub split :
+      all_text k.state.policy told ++ all_text k.state.policy (here ∷ []) ≡ front ++ rest
+  pub not_all : 0 < length rest
+  pub written : Appends old.contents new.contents front
+  pub stopped : new.has_stopped ≡ true
+  pub waited : length (all_text k.state.policy told) ≤ length front + ROOM
 
 -- so does each replay that stopped: the lines that it answered are the first of the run of all
 abbrev pub StopsAreInRuns : Type 0
