@@ -3,22 +3,4 @@
 #![tactic(auto)]
 
 #[cfg(test)]
-mod asked;
-#[cfg(test)]
-mod deny_rows;
-#[cfg(test)]
-mod event_rows;
-#[cfg(test)]
-mod large_rows;
-#[cfg(test)]
-mod policies;
-#[cfg(test)]
-mod text_secrets;
-#[cfg(test)]
-mod texts;
-#[cfg(test)]
-mod trace_rows;
-#[cfg(test)]
-mod traces;
-#[cfg(test)]
-mod versions;
+mod tests;

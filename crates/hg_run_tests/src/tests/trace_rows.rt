@@ -1,6 +1,6 @@
 //! Traces from bytes to bytes, under a policy that two tenants share.
 
-use crate::policies::{COLOURED, ONE_LIFE, ONE_WORKER, TWO_WORKERS};
+use crate::tests::policies::{COLOURED, ONE_LIFE, ONE_WORKER, TWO_WORKERS};
 use hg_replay::{Status, run_texts};
 use std::alloc::Global;
 use std::process::Abort;

@@ -1,8 +1,8 @@
 //! Policies of version 2 that are drawn from a seed, and the same written out in version 1: for
 //! each name of a group its members, and in each grant what no line denies.
 
-use crate::texts::{add, printed, push};
-use crate::traces::{Numbers, Traces};
+use crate::tests::texts::{add, printed, push};
+use crate::tests::traces::{Numbers, Traces};
 use std::alloc::Global;
 use std::process::Abort;
 

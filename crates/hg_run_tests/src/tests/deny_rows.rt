@@ -1,6 +1,6 @@
 //! Traces under a policy with a group and with lines that deny, from bytes to bytes.
 
-use crate::trace_rows::{Ends, ends};
+use crate::tests::trace_rows::{Ends, ends};
 use hg_replay::Status;
 use std::alloc::Global;
 use std::process::Abort;

@@ -1,7 +1,7 @@
 //! Traces that differ in written values alone print the same lines, but for words that were read.
 
-use crate::texts::printed;
-use crate::traces::Traces;
+use crate::tests::texts::printed;
+use crate::tests::traces::Traces;
 use std::alloc::Global;
 use std::process::Abort;
 

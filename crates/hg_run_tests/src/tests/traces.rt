@@ -2,7 +2,7 @@
 
 ghost use Rattle.std.specs.Prelude.{◌<◌};
 
-use crate::texts::{add, push};
+use crate::tests::texts::{add, push};
 use std::alloc::{AllocError, Global};
 use std::process::Abort;
 

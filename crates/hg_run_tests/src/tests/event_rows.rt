@@ -2,8 +2,8 @@
 
 ghost use Rattle.std.specs.Prelude.{◌<◌, IsTrue, All};
 
-use crate::asked::{Asked, Block, Row, Told, answer, event};
-use crate::policies::{ONE_LIFE, TWO_WORKERS};
+use crate::tests::asked::{Asked, Block, Row, Told, answer, event};
+use crate::tests::policies::{ONE_LIFE, TWO_WORKERS};
 use hg_core::Core;
 use hg_machine::{Answer, Event, Rule};
 use hg_place::Actor;

@@ -1,7 +1,7 @@
 //! Traces with blocks of several pages, from bytes to bytes.
 
-use crate::policies::{LARGE_BLOCKS, LARGE_BLOCKS_ONE_LIFE};
-use crate::trace_rows::answers;
+use crate::tests::policies::{LARGE_BLOCKS, LARGE_BLOCKS_ONE_LIFE};
+use crate::tests::trace_rows::answers;
 
 /// A block of two pages, another beside it, and one of a whole segment.
 static HAS_ITS_PAGES: (&str, &str) = (

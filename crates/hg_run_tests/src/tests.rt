@@ -1,0 +1,10 @@
+mod asked;
+mod deny_rows;
+mod event_rows;
+mod large_rows;
+mod policies;
+mod text_secrets;
+mod texts;
+mod trace_rows;
+mod traces;
+mod versions;
