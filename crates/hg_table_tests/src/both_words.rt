@@ -108,26 +108,6 @@ fn on_seat<N: TableName, R: Abort>(rt: &R, alloc: Global, table: LifeTable) -> R
     Ok(())
 }
 
-/// The same calls on the seat of a segment without its table's name.
-fn on_unnamed_seat<N: TableName, R: Abort>(
-    rt: &R,
-    alloc: Global,
-    table: LifeTable,
-) -> Result<(), Fail>
-    requires { table_of table ≡ N.table }
-{
-    let Seats {
-        mut segments,
-        workers: _,
-    } = table.open::<N>(alloc)?;
-    let seat = segments.pop().ok_or("a segment")?.without_name();
-    let number = seat.segment();
-    assert!(rt; number == 1);
-    let mut segment = Segment::new(alloc, number, 0, 9, seat)?;
-    assert_eq!(rt; life(&mut segment).ok_or("a life")?, expected());
-    Ok(())
-}
-
 /// What each call answers.
 fn expected() -> Answers {
     Answers {
@@ -142,14 +122,12 @@ fn expected() -> Answers {
 }
 
 // A block is given out, looked at, written, read, freed, freed in vain, and the next one given out:
-// the answers are the same on words of one thread and on the words of a table, through a seat with
-// its table's name and without.
+// the answers are the same on words of one thread and on the words of a table.
 #[test]
 fn both_words(rt: HostRuntime) -> Result<(), Fail> {
     let alloc = rt.alloc();
     let plain = PlainWords::new(alloc, 1)?;
     let mut segment = Segment::new(alloc, 1, 0, 9, plain)?;
     assert_eq!(rt; life(&mut segment).ok_or("a life")?, expected());
-    on_seat::<Brand, _>(&rt, alloc, LifeTable::new(alloc, &policy(alloc)?)?)?;
-    on_unnamed_seat::<Brand, _>(&rt, alloc, LifeTable::new(alloc, &policy(alloc)?)?)
+    on_seat::<Brand, _>(&rt, alloc, LifeTable::new(alloc, &policy(alloc)?)?)
 }
