@@ -5,4 +5,5 @@ mod order;
 mod parting;
 mod releases;
 mod seeded;
+mod steps;
 mod taking;

@@ -3,7 +3,7 @@
 ghost use Rattle.hg_place.specs.Lives.{IsLiveWord};
 
 use hg_heap::{Heap, Refused};
-use hg_machine::{Row, Rule};
+use hg_machine::Row;
 use hg_place::{Actor, Handle, MAX_SEGMENTS, PAGE_PLACES, Place, PlainWords, SEGMENT_PAGES, pack};
 use hg_policy::{Policy, read_policy};
 use hg_queue::ARENAS;
@@ -16,6 +16,9 @@ use std::process::Abort;
 pub const ALICE: Actor = Actor(0);
 
 pub const BOB: Actor = Actor(1);
+
+/// A stranger.
+pub const NOBODY: Actor = Actor(255);
 
 /// The arenas: of segments 0 and 1, and of segment 2.
 pub const MAIN: u8 = 0;
@@ -111,13 +114,6 @@ impl Tried {
         (row, shown)
     }
 
-    /// A heap with segment 0, of which no place was ever given out.
-    pub fn with_segment(rt: &impl Abort, alloc: Global, text: &str) -> Tried {
-        let mut tried = Tried::new(rt, alloc, text);
-        tried.adopt_fresh(rt, alloc, 0);
-        tried
-    }
-
     /// What a request for a block must be answered.
     pub fn allocs(
         &mut self,
@@ -128,57 +124,6 @@ impl Tried {
         expected: Result<Handle, Refused>,
     ) {
         assert_eq!(rt; self.alloc(rt, actor, arena, bytes), expected);
-    }
-
-    /// What freeing a block must be answered.
-    pub fn frees(
-        &mut self,
-        rt: &impl Abort,
-        actor: Actor,
-        handle: Handle,
-        expected: Result<(), Refused>,
-    ) {
-        assert_eq!(rt; self.free(actor, handle), expected);
-    }
-
-    /// What reading a word must be answered.
-    pub fn reads(
-        &mut self,
-        rt: &impl Abort,
-        actor: Actor,
-        handle: Handle,
-        index: u32,
-        expected: Result<u64, Refused>,
-    ) {
-        assert_eq!(rt; self.read(actor, handle, index), expected);
-    }
-
-    /// What writing a word must be answered.
-    pub fn writes(
-        &mut self,
-        rt: &impl Abort,
-        actor: Actor,
-        handle: Handle,
-        index: u32,
-        value: u64,
-        expected: Result<(), Refused>,
-    ) {
-        assert_eq!(rt; self.write(actor, handle, index, value), expected);
-    }
-
-    /// What a tenant must be charged.
-    pub fn charges(&self, rt: &impl Abort, owner: u8, bytes: u64) {
-        assert_eq!(rt; self.heap.charge(owner), bytes);
-    }
-
-    /// A segment must not be held.
-    pub fn lacks(&self, rt: &impl Abort, number: u8) {
-        assert!(rt; !self.heap.holds(number));
-    }
-
-    /// So many pages must lose their classes.
-    pub fn collects(&mut self, rt: &impl Abort, pages: u32) {
-        assert_eq!(rt; self.heap.collect(), pages);
     }
 }
 
@@ -194,11 +139,6 @@ pub fn handle(rt: &impl Abort, segment: u8, page: u8, index: u16, generation: u3
         },
         generation,
     }
-}
-
-/// A refusal by a rule.
-pub fn denied<T>(rule: Rule) -> Result<T, Refused> {
-    Err(Refused::Denied(rule))
 }
 
 /// The word of a live block.

@@ -1,38 +1,34 @@
 //! Blocks of a heap that a worker frees which hasn't the heap.
 
-ghost use Rattle.hg_place.specs.Lives.{IsLiveWord};
-
-use crate::tests::heaps::{ALICE, MAIN, POLICY, Tried, denied, live};
+use crate::tests::heaps::{ALICE, MAIN, POLICY};
+use crate::tests::steps::{Block, Step, meets};
+use hg_heap::Refused;
 use hg_machine::Rule;
-use hg_place::Place;
-use std::process::Abort;
 
-/// What parting a place must be answered.
-fn parts(rt: &impl Abort, tried: &mut Tried, place: Place, expected: u64, answer: Result<(), u64>)
-    requires { IsLiveWord expected }
-{
-    assert!(rt; tried.heap.holds(place.segment));
-    assert_eq!(rt; tried.heap.part(place, expected), answer);
-}
+/// The first block of the first place of segment 0, and the words of its place while it is live and
+/// once it is freed.
+const X: Block = Block(0, 0, 0, 1);
 
-/// The word of a place must be this.
-fn is_word(rt: &impl Abort, tried: &Tried, place: Place, word: u64) {
-    assert!(rt; tried.heap.holds(place.segment));
-    assert_eq!(rt; tried.heap.word(place), word);
-}
+const LIVE: u64 = 0x0000_0001_0000_0001;
+
+const FREED: u64 = 0x0000_0001_0000_0000;
+
+const ALREADY: Refused = Refused::Denied(Rule::AlreadyFreed);
 
 // A block is parted once; nobody reaches it then, and its owner is charged for it.
+static PARTED: [Step; 9] = [
+    Step::Adopt(0),
+    Step::Alloc(ALICE, MAIN, 24, Ok(X)),
+    Step::Word(X, LIVE),
+    Step::Part(X, 0, Ok(())),
+    Step::Word(X, FREED),
+    Step::Part(X, 0, Err(FREED)),
+    Step::Read(ALICE, X, 0, Err(ALREADY)),
+    Step::Free(ALICE, X, Err(ALREADY)),
+    Step::Charge(0, 24),
+];
+
 #[test]
 fn parted_once(rt: HostRuntime) {
-    let mut tried = Tried::with_segment(&rt, rt.alloc(), POLICY);
-    let block = tried.alloc(&rt, ALICE, MAIN, 24).expect(&rt, "a block");
-    let whole = live(&rt, 1, 0);
-    is_word(&rt, &tried, block.place, whole);
-    parts(&rt, &mut tried, block.place, whole, Ok(()));
-    is_word(&rt, &tried, block.place, whole - 1);
-    parts(&rt, &mut tried, block.place, whole, Err(whole - 1));
-    tried.reads(&rt, ALICE, block, 0, denied(Rule::AlreadyFreed));
-    tried.frees(&rt, ALICE, block, denied(Rule::AlreadyFreed));
-    tried.charges(&rt, 0, 24);
-    drop(tried);
+    meets(&rt, rt.alloc(), POLICY, &PARTED);
 }
