@@ -54,7 +54,7 @@ class Calls:
         return self.compiled[known] if known in self.compiled else self.named(known.calls)
 
     def reached(self, function, words):
-        """What a function may call, at any depth, or what these words, which an edit gives it, may."""
+        """What a function, or these words, which an edit gives it, may call at any depth."""
         left = self.of(self.known(function)) | self.named(words)
         found = set()
         while left:

@@ -111,7 +111,7 @@ class Reader:
         if not trait:
             return own, False
         # rattle names a method of `impl Display for Place` as PlaceDisplay::fmt, one of `impl Blank
-        # for u64` as U64Blank::blank, one of `impl From<Fault> for Status` as StatusFromFault::from.
+        # for u64` as U64Blank::blank, of `impl From<Fault> for Status` as StatusFromFault::from.
         more = re.findall(r"\b\w+\b(?!\s*:)", trait.partition("<")[2])
         named = [parts[1][-1], *[it for it in more if it not in params]]
         return own[:1].upper() + own[1:] + "".join(named), True
