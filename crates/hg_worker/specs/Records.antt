@@ -23,8 +23,8 @@ module _ {S : Type 0} (number : S → ℕ) (records : S → List Standing) where
       → is_home before ≡ false → record_in new place ≡ Some after → is_home after ≡ true
       → These place
 
-  -- The place of the handle was open in the handle's life, and is home in its generation; each other
-  -- place has the record that it had
+  -- The place of the handle was open in the handle's life, and is home in its generation; each
+  -- other place has the record that it had
   pub record IsHomeAlone (handle : Handle) (old new : List (Kept S)) : Type 0 where
     pub owner : ℕ
     pub was :

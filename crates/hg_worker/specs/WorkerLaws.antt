@@ -22,8 +22,8 @@ use Rattle.hg_worker.specs.Seen.{word_of, part_for, part_of_segment, Decided, Lo
 use Rattle.hg_worker.specs.Seen.{EndsNothing}
 
 module _ {S : Type 0} (number : S → ℕ) (part : S → Part) where
-  -- what was left and which lives were ended is told by the worker before the call and after it: two
-  -- clauses of one call never speak of two words
+  -- what was left and which lives were ended is told by the worker before the call and after it:
+  -- two clauses of one call never speak of two words
   abbrev pub OneWordIsLeft : Type 0
   OneWordIsLeft =
       (place : Place) (found left found' left' : ℕ) (lives lives' : List (ℕ × ℕ)) (old new : Had S)

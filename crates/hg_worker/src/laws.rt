@@ -1,5 +1,5 @@
-//! Laws of workers, over slot words of any kind, and whatever is told of them as what they know. Each
-//! function does nothing: what it promises is the law.
+//! Laws of workers, over slot words of any kind, and whatever is told of them as what they know.
+//! Each function does nothing: what it promises is the law.
 
 ghost use Rattle.hg_table.specs.declared.view.Part.{Part};
 ghost use Rattle.hg_worker.specs.WorkerLaws.{OneWordIsLeft, FreesEndTheirs, TheirLivesAreApart};
