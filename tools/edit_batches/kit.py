@@ -18,3 +18,8 @@ def load():
 
 
 rt = load()
+
+# What the kit's trial of an edit comes to where the prover refuses it: by its contract, or where a
+# limit of the prover was met. An older kit says of both just that it is refused.
+REFUSED = getattr(rt, "REFUSED", True)
+AT_LIMIT = getattr(rt, "AT_LIMIT", True)
