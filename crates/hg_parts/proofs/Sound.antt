@@ -186,4 +186,5 @@ accounted_sound parts policy right whole = (
 
 pub tidy_sound : TidyPartsAreSound
 tidy_sound parts policy t =
-    accounted_sound parts policy t.segments (accounted parts t.segments t.remotes t.out_once)
+    accounted_sound parts policy t.segments
+    (λ place. accounted parts t.segments t.remotes place (t.out_once place))
