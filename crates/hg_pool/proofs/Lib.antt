@@ -6,5 +6,6 @@ mod Found
 mod Calls
 mod Puts
 mod Nexts
+mod Settling
 pub mod Placed
 pub mod Replacing
