@@ -15,3 +15,4 @@ mod FreedAway
 mod Kept
 mod Charged
 mod Runs
+mod MadeOfParts

@@ -5,6 +5,8 @@
 mod abandoning;
 mod allocating;
 mod answers;
+mod apart;
+mod auditing;
 mod calling;
 mod charging;
 mod collecting;
@@ -21,6 +23,7 @@ mod serving;
 mod stores;
 mod taking;
 
+pub use hg_audit::{AuditFault, AuditRoom, Parts};
 pub use hg_heap::Refused;
 pub use refusals::{Freed, NoSegment, NotFreed, NotHeld, NothingInHand};
 pub use serving::Core;
