@@ -1,0 +1,5 @@
+mod asked;
+mod damaged_parts;
+mod each_step;
+mod policies;
+mod refused;
