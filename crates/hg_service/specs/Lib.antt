@@ -1,0 +1,2 @@
+pub mod New
+pub mod Sent
