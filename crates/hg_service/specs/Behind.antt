@@ -1,6 +1,6 @@
 -- What a worker's calls do behind a lock: each is its caller-locked form on the list, or the pool, as
 -- it stood there when the lock was taken. What stood there no clause says.
-use Rattle.std.specs.Prelude.{◌≡◌, ◌≤◌, ℕ, Bool, true, false, List, Option, None, Some, ◌++◌}
+use Rattle.std.specs.Prelude.{◌≡◌, ◌≤◌, ◌%◌, ℕ, List, Option, ◌++◌, Contains}
 use Rattle.hg_place.specs.declared.geometry.TheConstants.{SEGMENT_PLACES}
 use Rattle.hg_place.specs.declared.Handle.{Handle}
 use Rattle.hg_place.specs.declared.standing.Standing.{Standing}
@@ -14,7 +14,9 @@ use Rattle.hg_heap.specs.Policies.{AreOf}
 use Rattle.hg_pool.specs.Pooled.{Pooled, next_in}
 use Rattle.hg_remote.specs.Remote.{Remote, contents}
 use Rattle.hg_table.specs.declared.view.Part.{Part}
+use Rattle.hg_place.specs.Places.{segment_of}
 use Rattle.hg_worker.specs.Had.{Had}
+use Rattle.hg_worker.specs.Records.{GoHome}
 use Rattle.hg_worker.specs.CallerLocked.{IsDelivered, IsTakenFrom, IsRefilled, IsAbandoned}
 
 -- what is in hand goes to a list, unless that has it
@@ -37,6 +39,10 @@ module _ {S : Type 0} (number : S → ℕ) where
       pub whole :
           (count : ℕ) → result ≡ answer.Taken count → (count ≤ SEGMENT_PLACES)
           × HaveComeHome number records segment (contents old) heap.segments heap'.segments count
+      pub home :
+          GoHome number records
+          (λ place. (segment_of place ≡ segment) × Contains (contents old) (place % SEGMENT_PLACES))
+          heap.segments heap'.segments
 
     -- a segment of the arena comes from a pool of segments that are as the policy has them
     pub record Refills (part : S → Part) (policy : Policy) (arena : ℕ) (result : Answer)

@@ -1,9 +1,11 @@
 ghost use Rattle.std.specs.Prelude.{◌≡◌, ◌≢◌, ◌<◌, ℕ, length, is_some, true, false, IfOk, IfSome};
 ghost use Rattle.std.specs.Box.{boxed_slice_items};
 ghost use Rattle.hg_table.specs.Named.{table_of};
+ghost use Rattle.hg_service.specs.New.{AreNew};
 ghost use Rattle.hg_service.specs.Ready.{AreReady, IsNewOwn, is_ready};
 
 use crate::caller_locked::CallerLocked;
+use crate::kept_list::KeptList;
 use crate::left::Left;
 use crate::opening::opened;
 use crate::shared::Shared;
@@ -59,7 +61,7 @@ impl<N: ServiceName> Service<N> {
         Ok(Service {
             policy,
             shared,
-            workers,
+            workers: workers.into_boxed_slice(),
         })
     }
 
@@ -87,4 +89,38 @@ impl<N: ServiceName> Service<N> {
         }
         self.workers[at].take()
     }
+}
+
+/// These lists, each behind a lock.
+fn behind_locks<N: ServiceName>(
+    alloc: Global,
+    lists: Vec<KeptList<N>>,
+) -> Result<Vec<Mutex<KeptList<N>>>, AllocError>
+    ensures { IfOk result (λ locked. length locked.items ≡ length lists.items) }
+{
+    let mut locked = Vec::with_capacity(alloc, lists.len())?;
+    for list in lists {
+        locked.push(Mutex::new(list))?;
+    }
+    Ok(locked)
+}
+
+/// These workers, none of them taken.
+fn all_ready<N: ServiceName>(
+    alloc: Global,
+    workers: Vec<hg_worker::Worker<N>>,
+    shared: &Arc<Shared<N>, Global>,
+) -> Result<Vec<Option<Worker<N>>>, AllocError>
+    requires { AreNew (length workers.items) workers.items }
+    ensures all { IfOk result (λ ready. length ready.items ≡ length workers.items) }
+    ensures there { IfOk result (λ ready. (number : ℕ) → number < length workers.items
+        → is_ready ready.items number ≡ true) }
+    ensures ready { IfOk result (λ ready. AreReady ready.items) }
+{
+    let mut ready = Vec::with_capacity(alloc, workers.len())?;
+    for own in workers {
+        let shared = Arc::try_clone(shared)?;
+        ready.push(Some(Worker { own, shared }))?;
+    }
+    Ok(ready)
 }

@@ -32,12 +32,12 @@ loop-seat-preserved g c =
         suc fresh.0,
         omega (arith, fresh.1, more),
         next_put c.args.policy.now (length c.pop.new.self.items) fresh.0 c.loop-seat.kept.pool
-        c.put_fresh.new.self.pool c.in_ok-fresh_segment.field-0
-        (subst (λ n. AreFresh c.args.policy.now n fresh.0 c.loop-seat.kept.pool) (sym more) fresh.2)
-        (c.in_ok-fresh_segment.ensures.number
-        ∙ last_number number_in _ _ c.in-Some.seat c.in-Some.ensures.items
-        c.loop-seat.invariant.numbers)
-        c.in_ok-fresh_segment.ensures.unused c.put_fresh.ensures.fresh
-        c.put_fresh.ensures.orphans c.put_fresh.ensures.right,
+            c.put_fresh.new.self.pool c.in_ok-fresh_segment.field-0
+            (subst (λ n. AreFresh c.args.policy.now n fresh.0 c.loop-seat.kept.pool) (sym more) fresh.2)
+            (c.in_ok-fresh_segment.ensures.number
+            ∙ last_number number_in _ _ c.in-Some.seat c.in-Some.ensures.items
+            c.loop-seat.invariant.numbers)
+            c.in_ok-fresh_segment.ensures.unused c.put_fresh.ensures.fresh
+            c.put_fresh.ensures.orphans c.put_fresh.ensures.right,
       );
     }
