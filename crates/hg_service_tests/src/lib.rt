@@ -10,4 +10,6 @@ mod rows;
 #[cfg(test)]
 mod services;
 #[cfg(test)]
+mod stress;
+#[cfg(test)]
 mod threads;

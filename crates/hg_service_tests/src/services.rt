@@ -41,9 +41,19 @@ pub trait Trial {
     );
 }
 
-/// Tries it on a new service.
+/// Tries it on a new service of the policy above.
 pub fn tried<R: Threads + Wait + Abort + Sync, T: Trial>(rt: &R, alloc: Global, trial: &T) {
-    let policy = read_policy(alloc, DOCUMENT.as_bytes())
+    tried_by(rt, alloc, DOCUMENT, trial);
+}
+
+/// Tries it on a new service of a document's policy.
+pub fn tried_by<R: Threads + Wait + Abort + Sync, T: Trial>(
+    rt: &R,
+    alloc: Global,
+    document: &str,
+    trial: &T,
+) {
+    let policy = read_policy(alloc, document.as_bytes())
         .ok()
         .expect(rt, "a policy");
     let table = LifeTable::new(alloc, &policy).expect(rt, "a table");
