@@ -53,6 +53,7 @@ impl<N: ServiceName> Worker<N> {
         ensures whole { (count : ℕ) → result ≡ Answer.Taken count → (count ≤ SEGMENT_PLACES)
             × HaveComeHome number_in records_in segment (contents list.old)
             self.old.heap.segments self.new.heap.segments count }
+        ensures own { self.new.seat ≡ self.old.seat }
         ensures lives { LeavesLives self.old self.new }
         ensures home { SendsHome (λ place. (segment_of place ≡ segment)
             × Contains (contents list.old) (place % SEGMENT_PLACES)) self.old self.new }
@@ -99,6 +100,7 @@ impl<N: ServiceName> Worker<N> {
         ensures others { (other : ℕ) → other ≢ segment
             → segment_in number_in self.new.heap.segments other
             ≡ segment_in number_in self.old.heap.segments other }
+        ensures own { self.new.seat ≡ self.old.seat }
         ensures lives { LeavesLives self.old self.new }
         ensures home { SendsNoneHome self.old self.new }
         ensures rest { Keeps self.old self.new }
