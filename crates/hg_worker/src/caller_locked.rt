@@ -25,8 +25,10 @@ use hg_segment::Segment;
 use hg_table::{SegmentSeat, WorkerSeat};
 
 impl<N: ServiceName> Worker<N> {
-    /// Sends the place in hand to this list, which is to be that of its segment. `Busy` where the
-    /// list has it already, and then it stays in the hand.
+    /// Sends the place in hand to this list, which is to be that of its segment: only its page and
+    /// index stand there, so that the list of another segment would bring home a place of that.
+    /// `Busy` where the list has it already, and then it stays in the hand; `NothingInHand` where
+    /// that is empty.
     pub fn deliver_to(&mut self, list: &mut RemoteList) -> Answer
         ensures delivered { IsDelivered self.old.hand result list.old list.new self.new.hand }
         ensures heap { self.new.heap ≡ self.old.heap }
@@ -45,7 +47,8 @@ impl<N: ServiceName> Worker<N> {
         Answer::Done
     }
 
-    /// Takes in what was sent to a segment that the worker holds.
+    /// Takes in what was sent to a segment that the worker holds, by the list of that segment; else
+    /// `NotHeld`.
     pub fn take_from(&mut self, segment: u8, list: &mut RemoteList) -> Answer
         ensures taken { IsTakenFrom number_in records_in seat_shows seat_steps
             (is_held number_in self.old.heap.segments segment) segment result list.old list.new
@@ -65,7 +68,7 @@ impl<N: ServiceName> Worker<N> {
         Answer::Taken(self.heap.take(segment, list))
     }
 
-    /// Takes the next segment of the arena from this pool. Where the place in hand is one of its
+    /// Takes the next segment of the arena from this pool, or answers `NoSegment`. Where the place in hand is one of its
     /// places, its seat and the worker's meet there, so that the worker knows by either that the
     /// life in hand is over.
     pub fn refill_from(&mut self, arena: u8, pool: &mut KeptPool<N>) -> Answer
@@ -91,7 +94,8 @@ impl<N: ServiceName> Worker<N> {
         Answer::Refilled(segment)
     }
 
-    /// Gives a segment that the worker holds to this pool, of which it is the last orphan.
+    /// Gives a segment that the worker holds to this pool, of which it is the last orphan; else
+    /// `NotHeld`.
     pub fn abandon_to(&mut self, segment: u8, pool: &mut KeptPool<N>) -> Answer
         ensures abandoned { IsAbandoned number_in segment
             (segment_in number_in self.old.heap.segments segment) result
