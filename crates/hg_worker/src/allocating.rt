@@ -15,7 +15,7 @@ ghost use Rattle.hg_heap.specs.Held.{lists_on, has_place};
 ghost use Rattle.hg_heap.specs.Idle.{idle_pages, Collected, IdleAreOut};
 ghost use Rattle.hg_heap.specs.Lists.{GivenOut};
 ghost use Rattle.hg_heap.specs.Requeued.{requeued};
-ghost use Rattle.hg_heap.specs.Ties.{shown_at};
+ghost use Rattle.hg_heap.specs.Ties.{shown_at, HeapTies};
 ghost use Rattle.hg_worker.specs.Answers.{block_in};
 ghost use Rattle.hg_worker.specs.Seats.{number_in, records_in, seat_shows, seat_steps};
 ghost use Rattle.hg_worker.specs.Workers.{Decides, StaysUnseen, IsMachines, Keeps};
@@ -56,6 +56,10 @@ impl<N: ServiceName> Worker<N> {
         ensures unchanged { IfNone (block_in result) (self.new.heap ≡ self.old.heap) }
         ensures any { IfNone (block_in result) ((shown : Option Shown) → Finds shown self.old
             → IsMachines shown (Event.Alloc actor arena bytes) result shown self.old self.new) }
+        ensures any_hand { IfNone (block_in result) ((shown : Option Shown)
+            → HeapTies number_in records_in self.old.policy shown shown
+            (Event.Alloc actor arena bytes) result self.old.heap.segments
+            self.new.heap.segments) }
         ensures home { SendsNoneHome self.old self.new }
         ensures rest { Keeps self.old self.new }
     {
@@ -77,6 +81,9 @@ impl<N: ServiceName> Worker<N> {
         ensures collected { Collected number_in records_in self.old.heap self.new.heap }
         ensures out { IdleAreOut number_in records_in self.old.heap self.new.heap }
         ensures seats { StaysUnseen self.old self.new }
+        ensures any_hand { (shown : Option Shown)
+            → HeapTies number_in records_in self.old.policy shown shown Event.Collect result
+            self.old.heap.segments self.new.heap.segments }
         ensures home { SendsNoneHome self.old self.new }
         ensures rest { Keeps self.old self.new }
     {

@@ -25,8 +25,10 @@ use hg_segment::Segment;
 use hg_table::{SegmentSeat, WorkerSeat};
 
 impl<N: ServiceName> Worker<N> {
-    /// Sends the place in hand to this list, which is to be that of its segment. `Busy` where the
-    /// list has it already, and then it stays in the hand.
+    /// Sends the place in hand to this list, which is to be that of its segment: only its page and
+    /// index stand there, so that the list of another segment would bring home a place of that.
+    /// `Busy` where the list has it already, and then it stays in the hand; `NothingInHand` where
+    /// that is empty.
     pub fn deliver_to(&mut self, list: &mut RemoteList) -> Answer
         ensures delivered { IsDelivered self.old.hand result list.old list.new self.new.hand }
         ensures heap { self.new.heap ≡ self.old.heap }
@@ -45,7 +47,8 @@ impl<N: ServiceName> Worker<N> {
         Answer::Done
     }
 
-    /// Takes in what was sent to a segment that the worker holds.
+    /// Takes in what was sent to a segment that the worker holds, by the list of that segment; else
+    /// `NotHeld`.
     pub fn take_from(&mut self, segment: u8, list: &mut RemoteList) -> Answer
         ensures taken { IsTakenFrom number_in records_in seat_shows seat_steps
             (is_held number_in self.old.heap.segments segment) segment result list.old list.new
@@ -53,6 +56,7 @@ impl<N: ServiceName> Worker<N> {
         ensures whole { (count : ℕ) → result ≡ Answer.Taken count → (count ≤ SEGMENT_PLACES)
             × HaveComeHome number_in records_in segment (contents list.old)
             self.old.heap.segments self.new.heap.segments count }
+        ensures own { self.new.seat ≡ self.old.seat }
         ensures lives { LeavesLives self.old self.new }
         ensures home { SendsHome (λ place. (segment_of place ≡ segment)
             × Contains (contents list.old) (place % SEGMENT_PLACES)) self.old self.new }
@@ -64,7 +68,7 @@ impl<N: ServiceName> Worker<N> {
         Answer::Taken(self.heap.take(segment, list))
     }
 
-    /// Takes the next segment of the arena from this pool. Where the place in hand is one of its
+    /// Takes the next segment of the arena from this pool, or answers `NoSegment`. Where the place in hand is one of its
     /// places, its seat and the worker's meet there, so that the worker knows by either that the
     /// life in hand is over.
     pub fn refill_from(&mut self, arena: u8, pool: &mut KeptPool<N>) -> Answer
@@ -90,7 +94,8 @@ impl<N: ServiceName> Worker<N> {
         Answer::Refilled(segment)
     }
 
-    /// Gives a segment that the worker holds to this pool, of which it is the last orphan.
+    /// Gives a segment that the worker holds to this pool, of which it is the last orphan; else
+    /// `NotHeld`.
     pub fn abandon_to(&mut self, segment: u8, pool: &mut KeptPool<N>) -> Answer
         ensures abandoned { IsAbandoned number_in segment
             (segment_in number_in self.old.heap.segments segment) result
@@ -99,6 +104,7 @@ impl<N: ServiceName> Worker<N> {
         ensures others { (other : ℕ) → other ≢ segment
             → segment_in number_in self.new.heap.segments other
             ≡ segment_in number_in self.old.heap.segments other }
+        ensures own { self.new.seat ≡ self.old.seat }
         ensures lives { LeavesLives self.old self.new }
         ensures home { SendsNoneHome self.old self.new }
         ensures rest { Keeps self.old self.new }

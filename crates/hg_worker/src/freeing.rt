@@ -1,9 +1,10 @@
 //! Blocks are freed.
 
-ghost use Rattle.std.specs.Prelude.{◌≡◌, ◌==◌, ℕ, ◌-◌, true, false, Option, Some, None, IsTrue};
+ghost use Rattle.std.specs.Prelude.{◌≡◌, ◌≢◌, ◌==◌, ℕ, ◌-◌, true, false, Option, Some, None, IsTrue};
 ghost use Rattle.std.specs.Prelude.{IsFalse};
 ghost use Rattle.hg_place.specs.declared.Right.TheVariants as Right;
 ghost use Rattle.hg_place.specs.Places.{number_of, page_number};
+ghost use Rattle.hg_machine.specs.declared.Answer.TheVariants as Answer;
 ghost use Rattle.hg_machine.specs.declared.Event.TheVariants as Event;
 ghost use Rattle.hg_agreement.specs.Views.{Shown};
 ghost use Rattle.hg_heap.specs.Held.{is_held, lists_on, has_place, greatest_in};
@@ -11,7 +12,7 @@ ghost use Rattle.hg_heap.specs.Judged.{IsJudged};
 ghost use Rattle.hg_heap.specs.Lists.{CameHome};
 ghost use Rattle.hg_heap.specs.Queues.{key_on};
 ghost use Rattle.hg_heap.specs.Requeued.{requeued};
-ghost use Rattle.hg_heap.specs.Ties.{shown_at};
+ghost use Rattle.hg_heap.specs.Ties.{shown_at, HeapTies};
 ghost use Rattle.hg_worker.specs.Answers.{is_done, is_freed, hand_after};
 ghost use Rattle.hg_worker.specs.Judged.{found_word, rule_of};
 ghost use Rattle.hg_worker.specs.Records.{IsHomeAlone};
@@ -59,6 +60,17 @@ impl<N: ServiceName> Worker<N> {
         ensures home { SendsHome
             (λ place. IsTrue (is_done result) × (place ≡ number_of handle.place))
             self.old self.new }
+        ensures any_hand { IsTrue (is_done result) → (word : ℕ)
+            × Ends handle.place word self.old self.new
+            × HeapTies number_in records_in self.old.policy (shown_at handle.place word)
+            (shown_at handle.place (word - 1)) (Event.Free actor handle) result
+            self.old.heap.segments self.new.heap.segments }
+        ensures held { IsTrue (is_freed result) → is_done result
+            ≡ is_held number_in self.old.heap.segments handle.place.segment }
+        ensures parted { result ≡ Answer.Parted → self.old.hand ≡ None }
+        ensures busy { IsFalse (is_freed result) → rule_of result ≡ None
+            → (result ≡ Answer.Busy) × (self.old.hand ≢ None)
+            × (is_held number_in self.old.heap.segments handle.place.segment ≡ false) }
         ensures hand { self.new.hand ≡ hand_after result handle self.old.hand }
         ensures rest { (self.new.policy ≡ self.old.policy)
             × (self.new.number ≡ self.old.number) }
@@ -102,6 +114,13 @@ impl<N: ServiceName> Worker<N> {
         ensures home { SendsHome
             (λ place. IsTrue (is_done result) × (place ≡ number_of handle.place))
             self.old self.new }
+        ensures any_hand { IsTrue (is_done result) → (word : ℕ)
+            × Ends handle.place word self.old self.new
+            × HeapTies number_in records_in self.old.policy (shown_at handle.place word)
+            (shown_at handle.place (word - 1)) (Event.Free actor handle) result
+            self.old.heap.segments self.new.heap.segments }
+        ensures here { IsTrue (is_freed result) → IsTrue (is_done result) }
+        ensures denied { IsFalse (is_freed result) → rule_of result ≢ None }
         ensures hand { self.new.hand ≡ hand_after result handle self.old.hand }
         ensures rest { (self.new.policy ≡ self.old.policy)
             × (self.new.number ≡ self.old.number) }
@@ -131,6 +150,9 @@ impl<N: ServiceName> Worker<N> {
             × IsJudged self.old.policy actor.0 Right.Free handle (found_word shown)
             (rule_of result) }
         ensures away { IsFalse (is_done result) }
+        ensures busy { IsFalse (is_freed result) → rule_of result ≡ None
+            → (result ≡ Answer.Busy) × (self.old.hand ≢ None) }
+        ensures parted { result ≡ Answer.Parted → self.old.hand ≡ None }
         ensures heap { self.new.heap ≡ self.old.heap }
         ensures hand { self.new.hand ≡ hand_after result handle self.old.hand }
         ensures rest { (self.new.policy ≡ self.old.policy)

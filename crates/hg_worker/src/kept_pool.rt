@@ -3,6 +3,7 @@
 ghost use Rattle.std.specs.Prelude.{◌≡◌, ◌++◌, [], IfOk};
 ghost use Rattle.hg_heap.specs.Policies.{AreOf, IsOf};
 ghost use Rattle.hg_lists.specs.Inserts.{Inserts};
+ghost use Rattle.hg_pool.specs.Pooled.{IsRight};
 ghost use Rattle.hg_worker.specs.Seats.{number_in};
 
 use crate::ServiceName;
@@ -34,6 +35,7 @@ impl<N: ServiceName> KeptPool<N> {
         requires { IsOf number_in N.policy one }
         ensures fresh { Inserts one self.old.pool.fresh self.new.pool.fresh }
         ensures orphans { self.new.pool.orphans ≡ self.old.pool.orphans }
+        ensures right { IsRight number_in self.new.pool }
     {
         if let Some(other) = self.pool.pick(one.number()) {
             never_twice(one, other);

@@ -1,10 +1,11 @@
 //! A worker: what it has.
 
-ghost use Rattle.std.specs.Prelude.{◌≡◌, ◌<◌, ◌+◌, ◌*◌, [], None, length, option_map, IfOk};
+ghost use Rattle.std.specs.Prelude.{◌≡◌, ℕ, ◌<◌, ◌+◌, ◌*◌, [], None, length, option_map, IfOk};
 ghost use Rattle.hg_place.specs.declared.geometry.TheConstants.{SEGMENT_PLACES};
 ghost use Rattle.hg_machine.specs.SoundPolicy.{IsSoundPolicy};
 ghost use Rattle.hg_heap.specs.Held.{is_held};
 ghost use Rattle.hg_heap.specs.Policies.{AreOf};
+ghost use Rattle.hg_queue.specs.Queues.{queue_of};
 ghost use Rattle.hg_table.specs.Seats.{part_on};
 ghost use Rattle.hg_worker.specs.Hands.{KnowsHand};
 ghost use Rattle.hg_worker.specs.Seats.{number_in, part_of_seat, IsInReach};
@@ -48,7 +49,9 @@ impl<N: ServiceName> Worker<N> {
         requires below { number < policy.workers }
         requires words { N.table.words ≡ length policy.segments * SEGMENT_PLACES + 1 }
         ensures number { IfOk result (λ worker. worker.number ≡ number) }
+        ensures policy { IfOk result (λ worker. worker.policy ≡ policy) }
         ensures heap { IfOk result (λ worker. worker.heap.segments ≡ []) }
+        ensures queues { IfOk result (λ worker. (key : ℕ) → queue_of worker.heap.queues key ≡ []) }
         ensures seat { IfOk result (λ worker. worker.seat ≡ seat) }
         ensures hand { IfOk result (λ worker. worker.hand ≡ None) }
     {

@@ -165,3 +165,9 @@ returns-in-Ok-clause-no_room g c = λ is. absurd (cc)
 pub returns-in-Ok-clause-home : goal.returns-in-Ok-clause-home
 returns-in-Ok-clause-home g c =
     given_goes number_in records_in part_of_seat c.settled.ensures.once c.in-Ok.ensures.given.0
+
+pub returns-in-Err-clause-any_hand : goal.returns-in-Err-clause-any_hand
+returns-in-Err-clause-any_hand g c =
+    where_none (block_in c.refused_answer.result) _
+    (λ shown. rw (c.refused_answer.ensures, c.in-Err.ensures.refused.0)
+    (c.in-Err.ensures.refused.1 shown))

@@ -54,3 +54,7 @@ returns-clause-any g c = λ shown may.
 
 pub returns-clause-home : goal.returns-clause-home
 returns-clause-home g c = bare_goes number_in records_in _ _ c.collect.ensures.collected.rest
+
+pub returns-clause-any_hand : goal.returns-clause-any_hand
+returns-clause-any_hand g c = λ shown.
+    c.collect.ensures.ties c.args.self.now.policy shown c.args.self.now.of

@@ -154,3 +154,22 @@ returns-clause-home g c =
     (freed_alone s.policy s.number c.args.actor c.args.handle s.heap.segments
     c.free_here.new.self.segments s.sound s.below s.of c.settled.ensures.each
     c.settled.ensures.once e.0 f.0 (e.2.live refl) (e.2.generation refl) e.1 f.2 f.3)
+
+pub returns-clause-any_hand : goal.returns-clause-any_hand
+returns-clause-any_hand g c = λ _.
+    let old = had c.args.self.now in
+    let place = c.args.handle.place in
+    let e = c.in_default.ensures.freed in
+    let new = record old { heap = c.free_here.new.self } in
+    let decided : Decided number_in part_of_seat place e.0 (e.0 - 1)
+    ((word_of place, word_generation e.0) ∷ []) old new =
+    held_decides number_in part_of_seat place e.0 (e.0 - 1)
+    ((word_of place, word_generation e.0) ∷ []) old new c.settled.ensures.once e.2 refl
+    (freed_word_after e.0 e.1).0 (λ es. is_ended (word_of place) e.0 es e.1) in
+    (e.0, (e.1, decided), e.3)
+
+pub returns-in-Err-clause-any_hand : goal.returns-in-Err-clause-any_hand
+returns-in-Err-clause-any_hand g c = λ is.
+    absurd
+    (true≢false
+    (sym is ∙ ap is_done c.refused_answer.ensures ∙ not_refused c.in-Err.refused))

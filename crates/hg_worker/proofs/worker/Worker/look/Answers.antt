@@ -1,3 +1,4 @@
+use Rattle.std.proofs.lemmas.Bool.{true≢false}
 use Rattle.std.proofs.Common.{◌≡◌, Some, None, refl, sym, ap, ◌∙◌, subst, map, max}
 use Rattle.std.specs.Prelude.{Option}
 use Rattle.hg_heap.specs.Answers.{list_denial, look_answer}
@@ -142,3 +143,28 @@ returns-in-None-clause-row g c = λ row is.
 
 pub returns-in-None-clause-home : goal.returns-in-None-clause-home
 returns-in-None-clause-home g c = all_goes number_in records_in _ _ c.look.ensures.kept
+
+pub returns-then-not-holds-clause-any_hand : goal.returns-then-not-holds-clause-any_hand
+returns-then-not-holds-clause-any_hand g c = λ held.
+    absurd (true≢false (sym held ∙ (sym c.holds.ensures ∙ c.if-not-holds.true)))
+
+pub returns-in-Some-clause-any_hand : goal.returns-in-Some-clause-any_hand
+returns-in-Some-clause-any_hand g c = λ held. (
+  c.look.new.shown,
+  held_looks c.args.self.now c.look.new.self c.args.place c.settled.ensures.each
+      c.settled.ensures.once held c.look.new.shown c.look.ensures.step,
+  c.in-Some.ensures.ties,
+)
+
+pub returns-in-None-clause-any_hand : goal.returns-in-None-clause-any_hand
+returns-in-None-clause-any_hand g c = λ held.
+    let s = c.args.self.now in
+    let shown = shown_at c.args.place c.look.new.shown in (
+      c.look.new.shown,
+      held_looks s c.look.new.self c.args.place c.settled.ensures.each c.settled.ensures.once held
+          c.look.new.shown c.look.ensures.step,
+      subst (λ (a : Answer). HeapTies number_in records_in s.policy shown shown
+          (event.Look c.args.actor c.args.place) a s.heap.segments c.look.new.self.segments)
+          (no_row (list_denial s.policy c.args.actor c.args.place c.look.new.shown)
+          ∙ sym c.unlisted_answer.ensures) c.in-None.ensures.ties,
+    )

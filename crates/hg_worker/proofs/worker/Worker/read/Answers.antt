@@ -1,3 +1,4 @@
+use Rattle.std.proofs.lemmas.Bool.{true≢false}
 use Rattle.std.proofs.Common.{sym, ap, ◌∙◌}
 use Rattle.hg_heap.specs.Ties.{shown_at}
 use Rattle.hg_machine.specs.declared.Event.TheVariants as event
@@ -81,3 +82,16 @@ returns-clause-judged g c =
 
 pub returns-clause-home : goal.returns-clause-home
 returns-clause-home g c = all_goes number_in records_in _ _ c.read.ensures.kept
+
+pub returns-then-not-holds-clause-any_hand : goal.returns-then-not-holds-clause-any_hand
+returns-then-not-holds-clause-any_hand g c = λ held.
+    absurd (true≢false (sym held ∙ (sym c.holds.ensures ∙ c.if-not-holds.true)))
+
+pub returns-clause-any_hand : goal.returns-clause-any_hand
+returns-clause-any_hand g c = λ held.
+    let e = c.read.ensures.held held in (
+      e.0,
+      held_looks c.args.self.now c.read.new.self c.args.handle.place c.settled.ensures.each
+          c.settled.ensures.once held e.0 e.1,
+      rw c.read_answer.ensures e.2,
+    )

@@ -116,3 +116,16 @@ pub returns-clause-home : goal.returns-clause-home
 returns-clause-home g c =
     either c.write.result c.write.ensures.wrote c.write.ensures.kept
     (wrote_goes number_in records_in) (all_goes number_in records_in _ _)
+
+pub returns-then-not-holds-clause-any_hand : goal.returns-then-not-holds-clause-any_hand
+returns-then-not-holds-clause-any_hand g c = λ held.
+    absurd (true≢false (sym held ∙ (sym c.holds.ensures ∙ c.if-not-holds.true)))
+
+pub returns-clause-any_hand : goal.returns-clause-any_hand
+returns-clause-any_hand g c = λ held.
+    let e = c.write.ensures.held held in (
+      e.0,
+      held_looks c.args.self.now c.write.new.self c.args.handle.place c.settled.ensures.each
+          c.settled.ensures.once held e.0 e.1,
+      rw c.done_answer.ensures e.2,
+    )

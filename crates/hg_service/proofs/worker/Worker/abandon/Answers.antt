@@ -1,0 +1,8 @@
+use Rattle.std.proofs.Common.{sym}
+use Rattle.hg_worker.specs.Seats.{number_in}
+use Rattle.hg_service.proofs.Behind.{abandons_nothing}
+use Rattle.hg_service.proofs.worker.Worker.abandon.Goals as goal
+
+pub returns-then-not-holds-clause-abandoned : goal.returns-then-not-holds-clause-abandoned
+returns-then-not-holds-clause-abandoned g c =
+    abandons_nothing number_in c.args.segment c.args.self.now.own.heap (sym c.if-not-holds.ensures)

@@ -1,0 +1,5 @@
+pub mod New
+pub mod Sent
+pub mod Places
+pub mod Behind
+pub mod Ready

@@ -1,0 +1,10 @@
+-- Workers in the places of their numbers.
+use Rattle.std.specs.Prelude.{◌≡◌, ◌≢◌, ◌<◌, ℕ, Bool, true, false, List, Option, None, Some, slice_get, length}
+use Rattle.hg_worker.specs.declared.worker.Worker.{Worker as Own}
+
+module _ {N : _} {own : _} {table : _} where
+  -- each stands at its number
+  abbrev pub AreTheirs : List (Option (Own N own table)) → Type 0
+  AreTheirs workers =
+      (k : ℕ) (worker : Own N own table) → slice_get workers k ≡ Some (Some worker)
+      → worker.number ≡ k

@@ -1,0 +1,89 @@
+ghost use Rattle.std.specs.Prelude.{◌≡◌, ◌≤◌, ℕ, IfOk, Contains};
+ghost use Rattle.std.specs.Prelude.{◌%◌};
+ghost use Rattle.hg_place.specs.declared.geometry.TheConstants.{SEGMENT_PLACES};
+ghost use Rattle.hg_place.specs.Places.{segment_of};
+ghost use Rattle.hg_machine.specs.declared.Answer.TheVariants as Answer;
+ghost use Rattle.hg_heap.specs.Held.{is_held};
+ghost use Rattle.hg_heap.specs.Homecoming.{HaveComeHome};
+ghost use Rattle.hg_remote.specs.Remote.{contents, nothing_sent};
+ghost use Rattle.hg_worker.specs.CallerLocked.{IsTakenFrom};
+ghost use Rattle.hg_worker.specs.Seats.{number_in, records_in, seat_shows, seat_steps};
+ghost use Rattle.hg_worker.specs.Workers.{Keeps, LeavesLives, SendsHome, SendsNoneHome};
+ghost use Rattle.hg_worker.specs.Workers.{StaysUnseen};
+ghost use Rattle.hg_service.specs.Sent.{IsSentTo};
+
+use hg_machine::Answer;
+use hg_remote::RemoteList;
+use hg_worker::{ServiceName, Worker};
+use std::alloc::{AllocError, Global};
+use std::marker::PhantomData;
+
+/// The remote list of one segment of the service N, for a caller that has locked it: what was sent
+/// there and not taken in yet.
+#[derive(Drop)]
+pub struct KeptList<N: ServiceName> {
+    pub(crate) segment: u8,
+    pub(crate) list: RemoteList,
+    pub(crate) of: PhantomData<N>,
+}
+
+impl<N: ServiceName> KeptList<N> {
+    /// The list of a segment, to which nothing was sent.
+    pub fn new(alloc: Global, segment: u8) -> Result<KeptList<N>, AllocError>
+        ensures segment { IfOk result (λ kept. kept.segment ≡ segment) }
+        ensures list { IfOk result (λ kept. kept.list ≡ nothing_sent) }
+    {
+        let list = RemoteList::new(alloc)?;
+        Ok(KeptList {
+            segment,
+            list,
+            of: PhantomData,
+        })
+    }
+
+    /// The number of its segment.
+    pub fn segment(&self) -> u8
+        ensures { result ≡ self.now.segment }
+    {
+        self.segment
+    }
+
+    /// Sends what the worker has in hand to this list. `NothingInHand` where that is nothing;
+    /// `Busy` where the block is of another segment, or the list has it already, and then it stays
+    /// in the hand and the list as it was.
+    pub fn deliver(&mut self, worker: &mut Worker<N>) -> Answer
+        ensures sent { IsSentTo self.old.segment worker.old.hand result self.old.list
+            self.new.list worker.new.hand }
+        ensures segment { self.new.segment ≡ self.old.segment }
+        ensures heap { worker.new.heap ≡ worker.old.heap }
+        ensures seats { StaysUnseen worker.old worker.new }
+        ensures home { SendsNoneHome worker.old worker.new }
+        ensures rest { (worker.new.policy ≡ worker.old.policy)
+            × (worker.new.number ≡ worker.old.number) }
+    {
+        if let Some(place) = worker.hand() {
+            if place.segment != self.segment {
+                return Answer::Busy;
+            }
+        }
+        worker.deliver_to(&mut self.list)
+    }
+
+    /// The worker takes in what was sent to the list's segment. `NotHeld` where it doesn't hold
+    /// that, and then nothing changes.
+    pub fn take(&mut self, worker: &mut Worker<N>) -> Answer
+        ensures taken { IsTakenFrom number_in records_in seat_shows seat_steps
+            (is_held number_in worker.old.heap.segments self.old.segment) self.old.segment result
+            self.old.list self.new.list worker.old.heap worker.new.heap }
+        ensures whole { (count : ℕ) → result ≡ Answer.Taken count → (count ≤ SEGMENT_PLACES)
+            × HaveComeHome number_in records_in self.old.segment (contents self.old.list)
+            worker.old.heap.segments worker.new.heap.segments count }
+        ensures segment { self.new.segment ≡ self.old.segment }
+        ensures lives { LeavesLives worker.old worker.new }
+        ensures home { SendsHome (λ place. (segment_of place ≡ self.old.segment)
+            × Contains (contents self.old.list) (place % SEGMENT_PLACES)) worker.old worker.new }
+        ensures rest { Keeps worker.old worker.new }
+    {
+        worker.take_from(self.segment, &mut self.list)
+    }
+}

@@ -1,0 +1,124 @@
+ghost use Rattle.std.specs.Prelude.{◌≡◌, ◌≢◌, ◌↔◌, ℕ, true, false, Some, None};
+ghost use Rattle.hg_machine.specs.Policy.{arena_of};
+ghost use Rattle.hg_machine.specs.declared.Answer.TheVariants as Answer;
+ghost use Rattle.hg_heap.specs.Held.{is_held, segment_in};
+ghost use Rattle.hg_worker.specs.Seats.{number_in, records_in, part_of_seat};
+ghost use Rattle.hg_worker.specs.Seats.{seat_shows, seat_steps};
+ghost use Rattle.hg_worker.specs.Workers.{had, Keeps, LeavesLives, SendsNoneHome, StaysUnseen};
+ghost use Rattle.hg_service.specs.Behind.{Abandons, Delivers, Refills, Takes};
+
+use crate::shared::Shared;
+use hg_machine::Answer;
+use hg_place::MAX_SEGMENTS;
+use hg_worker::ServiceName;
+use std::alloc::Global;
+use std::sync::{Arc, Wait};
+
+/// A worker of a running service, for one thread of its caller. The calls that take no lock are
+/// those of `own`; the calls here wait for one lock each, and make the call of hg_worker that is
+/// given what is behind it, and no other call under it.
+///
+/// Whoever drops a worker that hasn't left drops what it holds and has in hand.
+#[derive(Drop)]
+pub struct Worker<N: ServiceName> {
+    pub own: hg_worker::Worker<N>,
+    pub(crate) shared: Arc<Shared<N>, Global>,
+}
+
+impl<N: ServiceName> Worker<N> {
+    /// Sends what is in hand to the list of its segment. `NothingInHand`, without a lock, where
+    /// that is nothing. `Busy` where the list has it already, and then it stays in the hand: that
+    /// never comes while workers share a service's lists alone (tested).
+    pub fn deliver<R: Wait>(&mut self, rt: &R) -> Answer
+        ensures sent { Delivers self.old.own.hand result self.new.own.hand }
+        ensures empty { result ≡ Answer.NothingInHand ↔ self.old.own.hand ≡ None }
+        ensures heap { self.new.own.heap ≡ self.old.own.heap }
+        ensures seats { StaysUnseen self.old.own self.new.own }
+        ensures home { SendsNoneHome self.old.own self.new.own }
+        ensures rest { (self.new.own.policy ≡ self.old.own.policy)
+            × (self.new.own.number ≡ self.old.own.number) }
+    {
+        let Some(place) = self.own.hand() else {
+            return Answer::NothingInHand;
+        };
+        let shared = &self.shared;
+        let mut kept = shared.lists[usize::from(place.segment)].lock(rt);
+        let kept = &mut *kept;
+        self.own.deliver_to(&mut kept.list)
+    }
+
+    /// Takes in what was sent to a segment that the worker holds. `NotHeld`, without a lock, where
+    /// it doesn't hold that.
+    pub fn take<R: Wait>(&mut self, rt: &R, segment: u8) -> Answer
+        ensures taken { Takes number_in records_in seat_shows seat_steps segment result
+            self.old.own.heap self.new.own.heap }
+        ensures unheld { result ≡ Answer.NotHeld
+            ↔ is_held number_in self.old.own.heap.segments segment ≡ false }
+        ensures lives { LeavesLives self.old.own self.new.own }
+        ensures rest { Keeps self.old.own self.new.own }
+    {
+        if !self.own.holds(segment) {
+            return Answer::NotHeld;
+        }
+        let shared = &self.shared;
+        let mut kept = shared.lists[usize::from(segment)].lock(rt);
+        let kept = &mut *kept;
+        self.own.take_from(segment, &mut kept.list)
+    }
+
+    /// Takes the oldest orphan of an arena, or else its lowest fresh segment. `NoSegment` where the
+    /// pool has neither.
+    pub fn refill<R: Wait>(&mut self, rt: &R, arena: u8) -> Answer
+        ensures refilled { Refills number_in records_in part_of_seat self.old.own.policy arena
+            result (had self.old.own) (had self.new.own) }
+        ensures came { (segment : ℕ) → result ≡ Answer.Refilled segment
+            → (arena_of self.old.own.policy segment ≡ Some arena)
+            × (is_held number_in self.old.own.heap.segments segment ≡ false)
+            × (is_held number_in self.new.own.heap.segments segment ≡ true) }
+        ensures lives { LeavesLives self.old.own self.new.own }
+        ensures home { SendsNoneHome self.old.own self.new.own }
+        ensures rest { Keeps self.old.own self.new.own }
+    {
+        let shared = &self.shared;
+        let mut pool = shared.pool.lock(rt);
+        let pool = &mut *pool;
+        self.own.refill_from(arena, pool)
+    }
+
+    /// Gives up a segment that the worker holds, with the blocks that live there: it is the last
+    /// orphan. `NotHeld`, without a lock, where it doesn't hold that.
+    pub fn abandon<R: Wait>(&mut self, rt: &R, segment: u8) -> Answer
+        ensures abandoned { Abandons number_in segment result self.old.own.heap
+            self.new.own.heap }
+        ensures unheld { result ≡ Answer.NotHeld
+            ↔ is_held number_in self.old.own.heap.segments segment ≡ false }
+        ensures gone { is_held number_in self.new.own.heap.segments segment ≡ false }
+        ensures others { (other : ℕ) → other ≢ segment
+            → segment_in number_in self.new.own.heap.segments other
+            ≡ segment_in number_in self.old.own.heap.segments other }
+        ensures lives { LeavesLives self.old.own self.new.own }
+        ensures home { SendsNoneHome self.old.own self.new.own }
+        ensures rest { Keeps self.old.own self.new.own }
+    {
+        if !self.own.holds(segment) {
+            return Answer::NotHeld;
+        }
+        let shared = &self.shared;
+        let mut pool = shared.pool.lock(rt);
+        let pool = &mut *pool;
+        self.own.abandon_to(segment, pool)
+    }
+
+    /// Delivers what is in hand, abandons each segment that the worker holds, rising, and gives the
+    /// worker back. Where the list of its segment has the block in hand already, that is given up
+    /// with the hand.
+    pub fn leave<R: Wait>(self, rt: &R) {
+        let mut worker = self;
+        let _ = worker.deliver(rt);
+        for segment in 0..MAX_SEGMENTS as u8 {
+            let _ = worker.abandon(rt, segment);
+        }
+        let Worker { own, shared } = worker;
+        shared.left.lock(rt).put(own);
+    }
+}

@@ -1,0 +1,15 @@
+//! A service of workers in threads: what its calls answer.
+#![tactic(auto)]
+
+#[cfg(test)]
+mod kept_lists;
+#[cfg(test)]
+mod leaving;
+#[cfg(test)]
+mod rows;
+#[cfg(test)]
+mod services;
+#[cfg(test)]
+mod stress;
+#[cfg(test)]
+mod threads;

@@ -1,0 +1,112 @@
+//! A host in Rattle with two threads: a worker of one service serves each. One thread gives a block
+//! to the other, which frees it, while the first goes on with blocks of its own.
+#![tactic(auto)]
+
+ghost use Rattle.std.specs.Prelude.{◌≡◌, length};
+ghost use Rattle.hg_table.specs.Named.{table_of};
+
+use hg_machine::Answer;
+use hg_place::{Actor, Handle};
+use hg_policy::{Policy, read_policy};
+use hg_service::{Service, Worker};
+use hg_table::LifeTable;
+use hg_worker::ServiceName;
+use std::alloc::Global;
+use std::io;
+use std::marker::Brand;
+use std::sync::Wait;
+use std::thread::{Threads, join};
+
+const POLICY: &str = "version = 1\nworkers = 2\narena = [ {name = \"main\", segments = 2} ]\n\
+    tenant = [ {name = \"alice\", limit = 8192}, {name = \"bob\", limit = 8192} ]\n\
+    grant = [ {owner = \"alice\", to = \"bob\", rights = [\"free\"]} ]\n";
+
+const ALICE: Actor = Actor(0);
+
+const BOB: Actor = Actor(1);
+
+const MAIN: u8 = 0;
+
+/// A block of 24 bytes of alice's with a number in its first word.
+fn kept<N: ServiceName>(worker: &mut Worker<N>, number: u64) -> Option<Handle> {
+    let Answer::Block(block) = worker.own.alloc(ALICE, MAIN, 24) else {
+        return None;
+    };
+    match worker.own.write(ALICE, block, 0, number) {
+        Answer::Done => Some(block),
+        _ => None,
+    }
+}
+
+/// Gives out and frees a thousand blocks; how many of them.
+fn busy<N: ServiceName>(worker: &mut Worker<N>) -> u32 {
+    let mut count = 0u32;
+    for number in 0..1000 {
+        if let Some(block) = kept(worker, number) {
+            if let Answer::Done = worker.own.free(ALICE, block) {
+                count = count.saturating_add(1);
+            }
+        }
+    }
+    count
+}
+
+/// Frees another's block, and sends it to the worker that holds its segment.
+fn given_up<R: Wait, N: ServiceName>(
+    rt: &R,
+    worker: &mut Worker<N>,
+    block: Handle,
+) -> (Answer, Answer) {
+    let freed = worker.own.free(BOB, block);
+    (freed, worker.deliver(rt))
+}
+
+/// Two threads, and what each of them did.
+fn served<R: Print + Threads + Wait + Sync, N: ServiceName + Send + Sync>(
+    rt: &R,
+    one: &mut Worker<N>,
+    other: &mut Worker<N>,
+) -> io::Result<()> {
+    println!(rt; "refill: {:?}", one.refill(rt, MAIN))?;
+    let Some(block) = kept(one, 42) else {
+        return println!(rt; "no block");
+    };
+    println!(rt; "{block} holds {:?}", one.own.read(ALICE, block, 0))?;
+    let (count, (freed, sent)) = join(rt, || busy(one), || given_up(rt, other, block));
+    println!(rt; "meanwhile: {count} blocks")?;
+    println!(rt; "freed by the other: {freed:?}, sent: {sent:?}")?;
+    println!(rt; "then: {:?}", one.own.read(ALICE, block, 0))?;
+    println!(rt; "take: {:?}", one.take(rt, 0))
+}
+
+/// Opens the service that N names, and takes its two workers.
+fn host<R: Print + Threads + Wait + Sync, N: ServiceName + Send + Sync>(
+    rt: &R,
+    alloc: Global,
+    policy: Policy,
+    table: LifeTable,
+) -> io::Result<()>
+    requires policy { policy ≡ N.policy }
+    requires table { table_of table ≡ N.table }
+    requires segments { table.segments ≡ length policy.segments }
+    requires workers { table.workers ≡ policy.workers }
+{
+    let mut service = Service::<N>::open(alloc, policy, table)?;
+    let (Some(mut one), Some(mut other)) = (service.worker(0), service.worker(1)) else {
+        return println!(rt; "no such worker");
+    };
+    let ended = served(rt, &mut one, &mut other);
+    one.leave(rt);
+    other.leave(rt);
+    ended
+}
+
+fn main(rt: HostRuntime) -> io::Result<()> {
+    let alloc = rt.alloc();
+    let policy = match read_policy(alloc, POLICY.as_bytes()) {
+        Ok(policy) => policy,
+        Err(fault) => return println!(rt; "{fault}"),
+    };
+    let table = LifeTable::new(alloc, &policy)?;
+    host::<_, Brand>(&rt, alloc, policy, table)
+}
