@@ -87,51 +87,50 @@ module _ {S : Type 0} (number : S → ℕ) where
 
   module _ (records : S → List Standing) (part : S → Part) (policy : Policy) (arena segment : ℕ)
       (old : Pooled S) (had had' : Had S) (of : AreOf number policy (old.orphans ++ old.fresh))
-      where
-    abbrev Came : Type 0
-    Came =
-        (arena_of policy segment ≡ Some arena)
-        × (is_held number had.heap.segments segment ≡ false)
-        × (is_held number had'.heap.segments segment ≡ true)
+    where
+      abbrev Came : Type 0
+      Came =
+          (arena_of policy segment ≡ Some arena)
+          × (is_held number had.heap.segments segment ≡ false)
+          × (is_held number had'.heap.segments segment ≡ true)
 
-    came_of : (next : Option (Kept S)) (new : Pooled S) (result : Answer)
-        → next_in old arena ≡ next → IsRefilled number records part next result old new had had'
-        → IfSome next (λ one. is_held number had.heap.segments (number one.slots) ≡ false)
-        → result ≡ answer.Refilled segment → Came
-    came_of None new result is refilled unheld told =
-        let bad : answer.NoSegment ≡ answer.Refilled segment = sym refilled.0 ∙ told in absurd (cc)
-    came_of (Some one) new result is refilled unheld told =
-        let same : answer.Refilled (number one.slots) ≡ answer.Refilled segment =
-        sym refilled.0 ∙ told in
-        let at : number one.slots ≡ segment = cc in
-        let passes : one.arena ≡ arena =
-        eqb-true one.arena arena
-        (found_passes (is_of_arena arena) (old.orphans ++ old.fresh) one
-        (find-append (is_of_arena arena) old.orphans old.fresh ∙ is)) in
-        let away : is_held number had.heap.segments segment ≡ false =
-        subst (λ n. is_held number had.heap.segments n ≡ false) at unheld in
-        let come : Kept S = refilled.2 in
-        let there : number come.slots ≡ segment =
-        ap (λ rest. rest.number) refilled.3.rest ∙ at in
-        let found : segment_in number had'.heap.segments segment ≡ Some come =
-        ap (λ segments. segment_in number segments segment) refilled.4
-        ∙ find-append (is_of number segment) had.heap.segments (come ∷ [])
-        ∙ ap (λ o. option_or o (find (is_of number segment) (come ∷ [])))
-        (none_of (segment_in number had.heap.segments segment) away)
-        ∙ ap (λ b. cond b (Some come) None) (eq-eqb (number come.slots) segment there) in
-        (
-          ap (arena_of policy) (sym at)
-          ∙ of.arena one (next_contained number old arena one is) ∙ ap Some passes,
-          away,
-          ap is_some found,
-        )
+      came_of : (next : Option (Kept S)) (new : Pooled S) (result : Answer)
+          → next_in old arena ≡ next → IsRefilled number records part next result old new had had'
+          → IfSome next (λ one. is_held number had.heap.segments (number one.slots) ≡ false)
+          → result ≡ answer.Refilled segment → Came
+      came_of None new result is refilled unheld told =
+          let bad : answer.NoSegment ≡ answer.Refilled segment = sym refilled.0 ∙ told in absurd (cc)
+      came_of (Some one) new result is refilled unheld told =
+          let same : answer.Refilled (number one.slots) ≡ answer.Refilled segment =
+          sym refilled.0 ∙ told in
+          let at : number one.slots ≡ segment = cc in
+          let passes : one.arena ≡ arena =
+          eqb-true one.arena arena
+          (found_passes (is_of_arena arena) (old.orphans ++ old.fresh) one
+          (find-append (is_of_arena arena) old.orphans old.fresh ∙ is)) in
+          let away : is_held number had.heap.segments segment ≡ false =
+          subst (λ n. is_held number had.heap.segments n ≡ false) at unheld in
+          let come : Kept S = refilled.2 in
+          let there : number come.slots ≡ segment =
+          ap (λ rest. rest.number) refilled.3.rest ∙ at in
+          let found : segment_in number had'.heap.segments segment ≡ Some come =
+          ap (λ segments. segment_in number segments segment) refilled.4
+          ∙ find-append (is_of number segment) had.heap.segments (come ∷ [])
+          ∙ ap (λ o. option_or o (find (is_of number segment) (come ∷ [])))
+          (none_of (segment_in number had.heap.segments segment) away)
+          ∙ ap (λ b. cond b (Some come) None) (eq-eqb (number come.slots) segment there) in (
+            ap (arena_of policy) (sym at)
+                ∙ of.arena one (next_contained number old arena one is) ∙ ap Some passes,
+            away,
+            ap is_some found,
+          )
 
-    pub came : (new : Pooled S) (result : Answer)
-        → IsRefilled number records part (next_in old arena) result old new had had'
-        → IfSome (next_in old arena)
-        (λ one. is_held number had.heap.segments (number one.slots) ≡ false)
-        → result ≡ answer.Refilled segment → Came
-    came new result = came_of (next_in old arena) new result refl
+      pub came : (new : Pooled S) (result : Answer)
+          → IsRefilled number records part (next_in old arena) result old new had had'
+          → IfSome (next_in old arena)
+          (λ one. is_held number had.heap.segments (number one.slots) ≡ false)
+          → result ≡ answer.Refilled segment → Came
+      came new result = came_of (next_in old arena) new result refl
 
   -- a segment that isn't held is taken nothing in for, and goes nowhere
   pub takes_nothing : (records : S → List Standing) (shows : S → ℕ → ℕ → Type 0)
