@@ -6,16 +6,11 @@ use hg_service::Service;
 use hg_worker::ServiceName;
 use std::process::Abort;
 use std::sync::Wait;
-use std::thread::Threads;
 
 struct TakenOnce;
 
 impl Trial for TakenOnce {
-    fn go<N: ServiceName + Send + Sync, R: Threads + Wait + Abort + Sync>(
-        &self,
-        rt: &R,
-        service: &mut Service<N>,
-    ) {
+    fn go<N: ServiceName, R: Wait + Abort>(&self, rt: &R, service: &mut Service<N>) {
         assert!(rt; service.worker(2).is_none());
         assert!(rt; service.worker(255).is_none());
         let one = service.worker(0).expect(rt, "worker 0");
@@ -37,11 +32,7 @@ fn each_worker_once(rt: HostRuntime) {
 struct LeftSent;
 
 impl Trial for LeftSent {
-    fn go<N: ServiceName + Send + Sync, R: Threads + Wait + Abort + Sync>(
-        &self,
-        rt: &R,
-        service: &mut Service<N>,
-    ) {
+    fn go<N: ServiceName, R: Wait + Abort>(&self, rt: &R, service: &mut Service<N>) {
         let (mut one, mut other) = both(rt, service);
         let x = block(rt, &mut one);
         let y = block(rt, &mut one);
@@ -62,11 +53,7 @@ fn hand_is_sent_by_leaving(rt: HostRuntime) {
 struct LeftSegments;
 
 impl Trial for LeftSegments {
-    fn go<N: ServiceName + Send + Sync, R: Threads + Wait + Abort + Sync>(
-        &self,
-        rt: &R,
-        service: &mut Service<N>,
-    ) {
+    fn go<N: ServiceName, R: Wait + Abort>(&self, rt: &R, service: &mut Service<N>) {
         let (mut one, mut other) = both(rt, service);
         let x = block(rt, &mut one);
         assert_eq!(rt; one.own.write(ALICE, x, 0, 7), Answer::Done);

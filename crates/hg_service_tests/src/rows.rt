@@ -10,7 +10,6 @@ use hg_worker::ServiceName;
 use std::alloc::Global;
 use std::process::Abort;
 use std::sync::Wait;
-use std::thread::Threads;
 
 /// An event of a worker, and what it answers.
 type Row = (u8, Event, Answer);
@@ -76,23 +75,22 @@ struct Rows<'a> {
 }
 
 impl<'a> Trial for Rows<'a> {
-    fn go<N: ServiceName + Send + Sync, R: Threads + Wait + Abort + Sync>(
-        &self,
-        rt: &R,
-        service: &mut Service<N>,
-    ) {
+    fn go<N: ServiceName, R: Wait + Abort>(&self, rt: &R, service: &mut Service<N>) {
         let mut one = service.worker(0).expect(rt, "worker 0");
         let mut other = service.worker(1).expect(rt, "worker 1");
         for (number, event, wanted) in self.rows {
-            let worker = if *number == 0 { &mut one } else { &mut other };
-            assert_eq!(rt; answer(rt, worker, *event), *wanted);
+            let told = match *number {
+                0 => answer(rt, &mut one, *event),
+                _ => answer(rt, &mut other, *event),
+            };
+            assert_eq!(rt; told, *wanted);
         }
         drop(one);
         drop(other);
     }
 }
 
-fn answers_are<R: Threads + Wait + Abort + Sync>(rt: &R, alloc: Global, rows: &[Row]) {
+fn answers_are<R: Wait + Abort>(rt: &R, alloc: Global, rows: &[Row]) {
     tried(rt, alloc, &Rows { rows });
 }
 

@@ -13,7 +13,6 @@ use std::alloc::Global;
 use std::marker::Brand;
 use std::process::Abort;
 use std::sync::Wait;
-use std::thread::Threads;
 
 pub const ALICE: Actor = Actor(0);
 
@@ -32,35 +31,30 @@ arena = [ {name = "main", segments = 2}, {name = "vault", segments = 1, exclusiv
 grant = [ {owner = "alice", to = "bob", rights = ["read", "free"]} ]
 "#;
 
-/// What is tried on a new service.
-pub trait Trial {
-    fn go<N: ServiceName + Send + Sync, R: Threads + Wait + Abort + Sync>(
-        &self,
-        rt: &R,
-        service: &mut Service<N>,
-    );
-}
-
-/// Tries it on a new service of the policy above.
-pub fn tried<R: Threads + Wait + Abort + Sync, T: Trial>(rt: &R, alloc: Global, trial: &T) {
-    tried_by(rt, alloc, DOCUMENT, trial);
-}
-
-/// Tries it on a new service of a document's policy.
-pub fn tried_by<R: Threads + Wait + Abort + Sync, T: Trial>(
-    rt: &R,
-    alloc: Global,
-    document: &str,
-    trial: &T,
-) {
+/// The policy of a document, and a table for it.
+pub fn made<R: Abort>(rt: &R, alloc: Global, document: &str) -> (Policy, LifeTable)
+    ensures segments { result.1.segments ≡ length result.0.segments }
+    ensures workers { result.1.workers ≡ result.0.workers }
+{
     let policy = read_policy(alloc, document.as_bytes())
         .ok()
         .expect(rt, "a policy");
     let table = LifeTable::new(alloc, &policy).expect(rt, "a table");
+    (policy, table)
+}
+
+/// What is tried on a new service by one thread.
+pub trait Trial {
+    fn go<N: ServiceName, R: Wait + Abort>(&self, rt: &R, service: &mut Service<N>);
+}
+
+/// Tries it on a new service of the policy above.
+pub fn tried<R: Wait + Abort, T: Trial>(rt: &R, alloc: Global, trial: &T) {
+    let (policy, table) = made(rt, alloc, DOCUMENT);
     tried_on::<Brand, R, T>(rt, alloc, policy, table, trial);
 }
 
-fn tried_on<N: ServiceName + Send + Sync, R: Threads + Wait + Abort + Sync, T: Trial>(
+fn tried_on<N: ServiceName, R: Wait + Abort, T: Trial>(
     rt: &R,
     alloc: Global,
     policy: Policy,

@@ -1,13 +1,17 @@
 //! Four workers in threads, each with a stream of events of its own on blocks that all hand on.
 
-ghost use Rattle.std.specs.Prelude.{◌<◌};
+ghost use Rattle.std.specs.Prelude.{◌≡◌, ◌<◌, length};
+ghost use Rattle.hg_table.specs.Named.{table_of};
 
-use crate::services::{Trial, tried_by};
+use crate::services::{answer, made};
 use hg_machine::{Answer, Event};
-use hg_place::{Actor, Handle, Place};
+use hg_place::{Actor, Handle};
+use hg_policy::Policy;
 use hg_service::{Service, Worker};
+use hg_table::LifeTable;
 use hg_worker::ServiceName;
 use std::alloc::{AllocError, Global};
+use std::marker::Brand;
 use std::process::Abort;
 use std::sync::Wait;
 use std::sync::atomic::{AtomicU64, Ordering};
@@ -19,8 +23,6 @@ workers = 4
 tenant = [ {name = "a", limit = 65536}, {name = "b", limit = 65536}, {name = "c", limit = 65536} ]
 arena = [ {name = "main", segments = 6} ]
 "#;
-
-const WORKERS: u8 = 4;
 
 const TENANTS: u8 = 3;
 
@@ -152,19 +154,18 @@ fn once<N: ServiceName, R: Wait>(
     };
     let actor = Actor((at % usize::from(TENANTS)) as u8);
     let found = Handle::from_u64(place.load(Ordering::SeqCst));
-    match (kind, found) {
-        (0..=7, None) => begin(rt, worker, place, actor, bytes, done),
-        (0..=3, Some(_)) => begin(rt, worker, place, actor, bytes, done),
-        (4..=15, Some(handle)) => end(worker, handle, actor, done),
-        (_, Some(handle)) => {
-            let _ = crate::services::answer(rt, worker, event(kind % 8, actor, handle, segment));
-            Ok(())
-        }
-        (_, None) => {
-            let _ = worker.deliver(rt);
-            Ok(())
-        }
+    if kind < 4 || (kind < 8 && found.is_none()) {
+        return begin(rt, worker, place, actor, bytes, done);
     }
+    let Some(handle) = found else {
+        let _ = worker.deliver(rt);
+        return Ok(());
+    };
+    if kind < 16 {
+        return end(worker, handle, actor, done);
+    }
+    let _ = answer(rt, worker, event(kind % 8, actor, handle, segment));
+    Ok(())
 }
 
 /// A worker's stream of events.
@@ -265,55 +266,68 @@ fn lives_are_ended_once<R: Abort>(rt: &R, all: &mut Done) {
     assert!(rt; all.ended.len() > 1000);
 }
 
-#[derive(Drop)]
-struct Crowd {
+/// Four streams, in four threads, and what came of all of them.
+fn four<N: ServiceName + Send + Sync, R: Threads + Wait + Abort + Sync>(
+    rt: &R,
     alloc: Global,
-    seed: u64,
+    w0: &mut Worker<N>,
+    w1: &mut Worker<N>,
+    w2: &mut Worker<N>,
+    w3: &mut Worker<N>,
+) -> Done {
+    let shelf = shelf(alloc).expect(rt, "memory");
+    let (front, back) = join(
+        rt,
+        || two(rt, alloc, w0, w1, &shelf, 1),
+        || two(rt, alloc, w2, w3, &shelf, 4096),
+    );
+    let mut all = Done {
+        began: Vec::new(alloc),
+        ended: Vec::new(alloc),
+    };
+    add(rt, &mut all, front.0);
+    add(rt, &mut all, front.1);
+    add(rt, &mut all, back.0);
+    add(rt, &mut all, back.1);
+    drop(shelf);
+    all
 }
 
-impl Trial for Crowd {
-    fn go<N: ServiceName + Send + Sync, R: Threads + Wait + Abort + Sync>(
-        &self,
-        rt: &R,
-        service: &mut Service<N>,
-    ) {
-        let (alloc, seed) = (self.alloc, self.seed);
-        let mut w0 = service.worker(0).expect(rt, "worker 0");
-        let mut w1 = service.worker(1).expect(rt, "worker 1");
-        let mut w2 = service.worker(2).expect(rt, "worker 2");
-        let mut w3 = service.worker(3).expect(rt, "worker 3");
-        let shelf = shelf(alloc).expect(rt, "memory");
-        let (front, back) = join(
-            rt,
-            || two(rt, alloc, &mut w0, &mut w1, &shelf, seed),
-            || two(rt, alloc, &mut w2, &mut w3, &shelf, seed ^ 2),
-        );
-        let mut all = Done {
-            began: Vec::new(alloc),
-            ended: Vec::new(alloc),
-        };
-        add(rt, &mut all, front.0);
-        add(rt, &mut all, front.1);
-        add(rt, &mut all, back.0);
-        add(rt, &mut all, back.1);
-        lives_are_ended_once(rt, &mut all);
-        lists_what_lives(rt, alloc, &mut w0, &all);
-        lists_what_lives(rt, alloc, &mut w1, &all);
-        lists_what_lives(rt, alloc, &mut w2, &all);
-        lists_what_lives(rt, alloc, &mut w3, &all);
-        w0.leave(rt);
-        w1.leave(rt);
-        w2.leave(rt);
-        w3.leave(rt);
-        drop(all);
-        drop(shelf);
-    }
+/// Four workers of a new service at once.
+fn crowd<N: ServiceName + Send + Sync, R: Threads + Wait + Abort + Sync>(
+    rt: &R,
+    alloc: Global,
+    policy: Policy,
+    table: LifeTable,
+)
+    requires table { table_of table ≡ N.table }
+    requires policy { policy ≡ N.policy }
+    requires segments { table.segments ≡ length policy.segments }
+    requires workers { table.workers ≡ policy.workers }
+{
+    let mut service = Service::<N>::open(alloc, policy, table).expect(rt, "a service");
+    let mut w0 = service.worker(0).expect(rt, "worker 0");
+    let mut w1 = service.worker(1).expect(rt, "worker 1");
+    let mut w2 = service.worker(2).expect(rt, "worker 2");
+    let mut w3 = service.worker(3).expect(rt, "worker 3");
+    let mut all = four(rt, alloc, &mut w0, &mut w1, &mut w2, &mut w3);
+    lives_are_ended_once(rt, &mut all);
+    lists_what_lives(rt, alloc, &mut w0, &all);
+    lists_what_lives(rt, alloc, &mut w1, &all);
+    lists_what_lives(rt, alloc, &mut w2, &all);
+    lists_what_lives(rt, alloc, &mut w3, &all);
+    w0.leave(rt);
+    w1.leave(rt);
+    w2.leave(rt);
+    w3.leave(rt);
+    drop(all);
+    drop(service);
 }
 
 /// Four workers at once: each life is ended once, and before they leave, each lists what lives.
 #[test]
 fn four_workers_at_once(rt: HostRuntime) {
     let alloc = rt.alloc();
-    tried_by(&rt, alloc, CROWD, &Crowd { alloc, seed: 1 });
-    tried_by(&rt, alloc, CROWD, &Crowd { alloc, seed: 4096 });
+    let (policy, table) = made(&rt, alloc, CROWD);
+    crowd::<Brand, _>(&rt, alloc, policy, table);
 }

@@ -1,10 +1,17 @@
 //! Two workers of a service, each in a thread of its own.
 
-use crate::services::{ALICE, Trial, block, both, tried};
+ghost use Rattle.std.specs.Prelude.{◌≡◌, length};
+ghost use Rattle.hg_table.specs.Named.{table_of};
+
+use crate::services::{ALICE, DOCUMENT, Trial, block, both, made, tried};
 use hg_machine::{Answer, Rule};
 use hg_place::Handle;
+use hg_policy::Policy;
 use hg_service::{Service, Worker};
+use hg_table::LifeTable;
 use hg_worker::ServiceName;
+use std::alloc::Global;
+use std::marker::Brand;
 use std::process::Abort;
 use std::sync::Wait;
 use std::sync::atomic::{AtomicU64, Ordering};
@@ -30,72 +37,105 @@ fn freed_and_seen<N: ServiceName>(
     (answer, false)
 }
 
-struct BothAtOnce;
-
-impl Trial for BothAtOnce {
-    fn go<N: ServiceName + Send + Sync, R: Threads + Wait + Abort + Sync>(
-        &self,
-        rt: &R,
-        service: &mut Service<N>,
-    ) {
-        let (mut one, mut other) = both(rt, service);
-        let a = block(rt, &mut one);
-        let b = block(rt, &mut one);
-        let first = AtomicU64::new(0);
-        let second = AtomicU64::new(0);
-        let (own, away) = join(
-            rt,
-            || freed_and_seen(&mut one, a, &first, &second),
-            || freed_and_seen(&mut other, b, &second, &first),
-        );
-        assert_eq!(rt; own, (Answer::Done, true));
-        assert_eq!(rt; away, (Answer::Parted, true));
-        drop(one);
-        drop(other);
-    }
+/// Two blocks are freed in two threads, each of which waits for the other.
+fn both_free<N: ServiceName + Send + Sync, R: Threads + Sync>(
+    rt: &R,
+    one: &mut Worker<N>,
+    other: &mut Worker<N>,
+    a: Handle,
+    b: Handle,
+) -> ((Answer, bool), (Answer, bool)) {
+    let first = AtomicU64::new(0);
+    let second = AtomicU64::new(0);
+    join(
+        rt,
+        || freed_and_seen(one, a, &first, &second),
+        || freed_and_seen(other, b, &second, &first),
+    )
 }
 
-/// Neither of two workers waits for the other: both free while the other has freed and goes on.
+fn at_once<N: ServiceName + Send + Sync, R: Threads + Wait + Abort + Sync>(
+    rt: &R,
+    alloc: Global,
+    policy: Policy,
+    table: LifeTable,
+)
+    requires table { table_of table ≡ N.table }
+    requires policy { policy ≡ N.policy }
+    requires segments { table.segments ≡ length policy.segments }
+    requires workers { table.workers ≡ policy.workers }
+{
+    let mut service = Service::<N>::open(alloc, policy, table).expect(rt, "a service");
+    let (mut one, mut other) = both(rt, &mut service);
+    let a = block(rt, &mut one);
+    let b = block(rt, &mut one);
+    let (own, away) = both_free(rt, &mut one, &mut other, a, b);
+    assert_eq!(rt; own, (Answer::Done, true));
+    assert_eq!(rt; away, (Answer::Parted, true));
+    assert_eq!(rt;
+        one.own.read(ALICE, b, 0),
+        Answer::Denied(Rule::AlreadyFreed)
+    );
+    drop(one);
+    drop(other);
+    drop(service);
+}
+
+/// Neither of two workers waits for the other: both free while the other has freed and goes on. And
+/// what a thread has freed is freed for the holder, once that thread is joined.
 #[test]
 fn both_workers_at_once(rt: HostRuntime) {
-    tried(&rt, rt.alloc(), &BothAtOnce);
+    let alloc = rt.alloc();
+    let (policy, table) = made(&rt, alloc, DOCUMENT);
+    at_once::<Brand, _>(&rt, alloc, policy, table);
 }
 
-struct FreedElsewhere;
+/// A block is freed in another thread.
+fn freed_there<N: ServiceName + Send + Sync, R: Threads + Sync>(
+    rt: &R,
+    other: &mut Worker<N>,
+    x: Handle,
+) -> Answer {
+    let (answer, ()) = join(rt, || other.own.free(ALICE, x), || ());
+    answer
+}
 
-impl Trial for FreedElsewhere {
-    fn go<N: ServiceName + Send + Sync, R: Threads + Wait + Abort + Sync>(
-        &self,
-        rt: &R,
-        service: &mut Service<N>,
-    ) {
-        let (mut one, mut other) = both(rt, service);
-        let x = block(rt, &mut one);
-        let (answer, ()) = join(rt, || other.own.free(ALICE, x), || ());
-        assert_eq!(rt; answer, Answer::Parted);
-        assert_eq!(rt;
-            one.own.read(ALICE, x, 0),
-            Answer::Denied(Rule::AlreadyFreed)
-        );
-        drop(one);
-        drop(other);
-    }
+fn after_join<N: ServiceName + Send + Sync, R: Threads + Wait + Abort + Sync>(
+    rt: &R,
+    alloc: Global,
+    policy: Policy,
+    table: LifeTable,
+)
+    requires table { table_of table ≡ N.table }
+    requires policy { policy ≡ N.policy }
+    requires segments { table.segments ≡ length policy.segments }
+    requires workers { table.workers ≡ policy.workers }
+{
+    let mut service = Service::<N>::open(alloc, policy, table).expect(rt, "a service");
+    let (mut one, mut other) = both(rt, &mut service);
+    let x = block(rt, &mut one);
+    assert_eq!(rt; freed_there(rt, &mut other, x), Answer::Parted);
+    assert_eq!(rt;
+        one.own.read(ALICE, x, 0),
+        Answer::Denied(Rule::AlreadyFreed)
+    );
+    drop(one);
+    drop(other);
+    drop(service);
 }
 
 /// What a thread has freed is freed for the holder, once that thread is joined.
 #[test]
 fn parted_is_freed_after_join(rt: HostRuntime) {
-    tried(&rt, rt.alloc(), &FreedElsewhere);
+    let alloc = rt.alloc();
+    let (policy, table) = made(&rt, alloc, DOCUMENT);
+    after_join::<Brand, _>(&rt, alloc, policy, table);
 }
 
 struct FreedLive;
 
 impl Trial for FreedLive {
-    fn go<N: ServiceName + Send + Sync, R: Threads + Wait + Abort + Sync>(
-        &self,
-        rt: &R,
-        service: &mut Service<N>,
-    ) {
+    fn go<N: ServiceName, R: Wait + Abort>(&self, rt: &R, service: &mut Service<N>) {
         let (mut one, mut other) = both(rt, service);
         let x = block(rt, &mut one);
         assert_eq!(rt; other.own.free(ALICE, x), Answer::Parted);

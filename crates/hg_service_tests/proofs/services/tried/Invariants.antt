@@ -1,5 +1,5 @@
 use Rattle.hg_table.specs.Named.{table_of}
-use Rattle.hg_service_tests.proofs.services.tried_by.Given as goal
+use Rattle.hg_service_tests.proofs.services.tried.Given as goal
 
 -- the table that was just made, and its policy
 abbrev pub ghosts-tried_on-N-TableName : goal.ghosts-tried_on-N-TableName
