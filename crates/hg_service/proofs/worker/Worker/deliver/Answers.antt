@@ -15,3 +15,10 @@ index-requires g c =
     let counted = c.deref.result.now.lists.ok.0 in
     let at = c.from.ensures in
     omega (arith, below, same, all, counted, at)
+
+pub returns-clause-sent : goal.returns-clause-sent
+returns-clause-sent g c = record {
+  old = c.deref_mut-kept.result.now.list;
+  new = c.deliver_to.new.list;
+  delivered = c.deliver_to.ensures.delivered;
+}

@@ -14,3 +14,14 @@ returns-clause-came g c segment =
     (sym c.args.self.now.own.serves) c.deref_mut-pool.result.now.of)
     c.refill_from.new.pool.pool c.refill_from.result c.refill_from.ensures.refilled
     c.refill_from.ensures.unheld
+
+pub returns-clause-refilled : goal.returns-clause-refilled
+returns-clause-refilled g c = record {
+  old = c.deref_mut-pool.result.now.pool;
+  new = c.refill_from.new.pool.pool;
+  of =
+      subst (λ policy. AreOf number_in policy
+      (c.deref_mut-pool.result.now.pool.orphans ++ c.deref_mut-pool.result.now.pool.fresh))
+      (sym c.args.self.now.own.serves) c.deref_mut-pool.result.now.of;
+  refilled = c.refill_from.ensures.refilled;
+}

@@ -19,3 +19,12 @@ index-requires g c =
     let counted = c.deref.result.now.lists.ok.0 in
     let at = c.from.ensures in
     omega (arith, below, same, all, counted, at)
+
+pub returns-clause-taken : goal.returns-clause-taken
+returns-clause-taken g c = record {
+  old = c.deref_mut-kept.result.now.list;
+  new = c.take_from.new.list;
+  taken = c.take_from.ensures.taken;
+  whole = c.take_from.ensures.whole;
+  home = c.take_from.ensures.home;
+}
