@@ -1,22 +1,31 @@
 -- What the words of some command lines are answered.
-use Rattle.std.proofs.Common.{◌≡◌, ◌≢◌, ◌⊎◌, [], ◌∷◌, refl, inl, inr, subst, codes}
+use Rattle.std.proofs.Common.{◌≡◌, ◌≢◌, ◌⊎◌, [], ◌∷◌, refl, inl, inr, subst, codes, arith, Some}
 use Rattle.clap.specs.Faults.{walk_fault}
 use Rattle.clap.specs.Walk.{walked}
 use Rattle.clap.specs.Words.{fault_of}
 use Rattle.clap.specs.declared.error.kind.ErrorKind.{ErrorKind}
 use Rattle.clap.specs.declared.error.kind.ErrorKind.TheVariants as kind
 use Rattle.hg_job.specs.CommandLine.{heapguard}
-use Rattle.hg_job.specs.Jobs.{RefusedBy}
+use Rattle.hg_job.specs.Jobs.{IsDecimal, IsNumber, RefusedBy}
 use Rattle.hg_job.specs.JobLaws.{WordsAreJobs, RequestsArePrinted, IsPrinted, IsTold}
-use Rattle.hg_job.specs.declared.job.Job.TheVariants.{Joined, Check, Replay}
+use Rattle.hg_job.specs.declared.job.Job.TheVariants.{Joined, Check, Replay, Race}
 use Rattle.hg_job.specs.declared.job.JobFault.{JobFault}
 use Rattle.hg_job.specs.declared.job.JobFault.TheVariants.{Print, Line, Memory}
 
+is_1000 : IsDecimal (codes "1000")
+is_1000 = ((omega arith, (omega arith, (omega arith, (omega arith, (omega arith, tt))))), omega arith)
+
 pub words_are_jobs : WordsAreJobs
 unfolding walked
-words_are_jobs Joined = ((λ e. e), (λ h. h), (λ h. h))
-words_are_jobs (Check policy) = ((λ e. e), (λ h. h.1), (λ h. let e = h.0 in absurd (cc)))
-words_are_jobs (Replay policy trace) = ((λ e. e), (λ h. let e = h.0 in absurd (cc)), (λ h. (h.1, h.2)))
+words_are_jobs Joined = ((λ e. e), (λ h. h), (λ h. h), (λ h. h))
+words_are_jobs (Check policy) = ((λ e. e), (λ h. h.1), (λ h. let e = h.0 in absurd (cc)), (λ h. let e = h.0 in absurd (cc)))
+words_are_jobs (Replay policy trace) = ((λ e. e), (λ h. let e = h.0 in absurd (cc)), (λ h. (h.1, h.2)), (λ h. let e = h.0 in absurd (cc)))
+words_are_jobs (Race policy rounds) = (
+  (λ e. e),
+  (λ h. let e = h.0 in absurd (cc)),
+  (λ h. let e = h.0 in absurd (cc)),
+  (λ h. let read : IsNumber (Some (codes "1000")) rounds = h.2 in (h.1, read.0 is_1000)),
+)
 
 -- where a request is all that the words may be refused for
 only_printed : (k : ErrorKind) → (k ≡ kind.DisplayHelp) ⊎ (k ≡ kind.DisplayVersion) → (fault : JobFault) → RefusedBy (k ∷ []) fault → IsPrinted fault
@@ -51,9 +60,23 @@ fault_of-jump : fault_of heapguard (codes "jump" ∷ []) ≡ kind.UnknownArgumen
 unfolding walk_fault
 fault_of-jump = refl
 
+-- where they are refused for one kind, which is no request
+only_one_told : (k : ErrorKind) → k ≢ kind.DisplayHelp → k ≢ kind.DisplayVersion → (fault : JobFault) → RefusedBy (k ∷ []) fault → IsTold fault
+only_one_told k a b Memory refused = tt
+only_one_told k a b (Line text) refused = tt
+only_one_told k a b (Print text) (inl e) = absurd (cc)
+only_one_told k a b (Print text) (inr (one, inl e, inl help)) = absurd (a (cc))
+only_one_told k a b (Print text) (inr (one, inl e, inr version)) = absurd (b (cc))
+only_one_told k a b (Print text) (inr (one, inr none, tells)) = absurd none
+
+fault_of-no_rounds : fault_of heapguard (codes "race" ∷ codes "p" ∷ codes "0" ∷ []) ≡ kind.ValueValidation ∷ []
+unfolding walk_fault walked
+fault_of-no_rounds = refl
+
 pub requests_are_printed : RequestsArePrinted
 requests_are_printed fault = (
   (λ h. only_printed kind.DisplayHelp (inl refl) fault (subst (λ ks. RefusedBy ks fault) fault_of-help h)),
   (λ h. only_printed kind.DisplayVersion (inr refl) fault (subst (λ ks. RefusedBy ks fault) fault_of-version h)),
   (λ h. only_told kind.UnknownArgument kind.InvalidSubcommand (λ e. cc) (λ e. cc) (λ e. cc) (λ e. cc) fault (subst (λ ks. RefusedBy ks fault) fault_of-jump h)),
+  (λ h. only_one_told kind.ValueValidation (λ e. cc) (λ e. cc) fault (subst (λ ks. RefusedBy ks fault) fault_of-no_rounds h)),
 )

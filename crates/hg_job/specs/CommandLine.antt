@@ -1,10 +1,15 @@
 -- The command line of the program, as what its parser reads of it.
-use Rattle.std.specs.Prelude.{true, List, map, codes}
+use Rattle.std.specs.Prelude.{true, List, Some, map, codes, pos}
 use Rattle.clap.specs.Words.{App, Rule, Text, new_app, new_rule, with_rule, with_subcommand}
+use Rattle.clap.specs.declared.builder.value_parser.ValueParser.TheVariants as parser
 
 -- an operand that has to be there
 abbrev pub required : Text → Rule
 required name = record (new_rule name) { required = true }
+
+-- one that has to be a whole number from 1 to 1,000,000
+abbrev pub counted : Text → Rule
+counted name = record (required name) { parser = Some (parser.Signed (pos 1) (pos 1000000)) }
 
 abbrev pub check : App
 check = with_rule (new_app (codes "check")) (required (codes "POLICY"))
@@ -13,6 +18,11 @@ abbrev pub replay : App
 replay =
     with_rule (with_rule (new_app (codes "replay")) (required (codes "POLICY")))
     (required (codes "TRACE"))
+
+abbrev pub race : App
+race =
+    with_rule (with_rule (new_app (codes "race")) (required (codes "POLICY")))
+    (counted (codes "ROUNDS"))
 
 -- the program alone: its words come without its own name, and help and the version are asked for by
 -- flags
@@ -27,7 +37,7 @@ alone = record (new_app (codes "heapguard")) {
 
 -- the program with its commands
 abbrev pub heapguard : App
-heapguard = with_subcommand (with_subcommand alone check.top) replay.top
+heapguard = with_subcommand (with_subcommand (with_subcommand alone check.top) replay.top) race.top
 
 -- the names of the commands
 abbrev pub command_names : List Text

@@ -1,10 +1,10 @@
 -- Laws of what words are answered.
-use Rattle.std.specs.Prelude.{⊤, ◌≡◌, [], ◌∷◌, codes}
+use Rattle.std.specs.Prelude.{⊤, ◌≡◌, ℕ, [], ◌∷◌, codes}
 use Rattle.clap.specs.Words.{Text, subcommand_of, fault_of}
 use Rattle.hg_job.specs.CommandLine.{heapguard}
 use Rattle.hg_job.specs.Jobs.{IsJobAt, RefusedBy}
 use Rattle.hg_job.specs.declared.job.Job.{Job}
-use Rattle.hg_job.specs.declared.job.Job.TheVariants.{Joined, Check, Replay}
+use Rattle.hg_job.specs.declared.job.Job.TheVariants.{Joined, Check, Replay, Race}
 use Rattle.hg_job.specs.declared.job.JobFault.{JobFault}
 use Rattle.hg_job.specs.declared.job.JobFault.TheVariants.{Print, Line}
 
@@ -18,6 +18,11 @@ abbrev pub IsReplayOf : Text → Text → Job → Type 0
 IsReplayOf first second (Replay policy trace) = (policy.now ≡ first) × (trace.now ≡ second)
 IsReplayOf first second _ = ⊥
 
+-- a race of so many rounds under the policy of this file
+abbrev pub IsRaceOf : Text → ℕ → Job → Type 0
+IsRaceOf file count (Race policy rounds) = (policy.now ≡ file) × (rounds ≡ count)
+IsRaceOf file count _ = ⊥
+
 -- where there are no words, and where these words are given, this and no other job is asked for
 abbrev pub WordsAreJobs : Type 0
 WordsAreJobs =
@@ -27,6 +32,8 @@ WordsAreJobs =
     → IsCheckOf (codes "p") job)
     × (IsJobAt (subcommand_of heapguard (codes "replay" ∷ codes "p" ∷ codes "t" ∷ [])) job
     → IsReplayOf (codes "p") (codes "t") job)
+    × (IsJobAt (subcommand_of heapguard (codes "race" ∷ codes "p" ∷ codes "1000" ∷ [])) job
+    → IsRaceOf (codes "p") 1000 job)
 
 -- a text to print, or want of memory
 abbrev pub IsPrinted : JobFault → Type 0
@@ -38,10 +45,12 @@ abbrev pub IsTold : JobFault → Type 0
 IsTold (Print text) = ⊥
 IsTold _ = ⊤
 
--- help and the version are printed, and a word that is no command is told
+-- help and the version are printed, and a word that is no command, and a race of no rounds, are told
 abbrev pub RequestsArePrinted : Type 0
 RequestsArePrinted =
     (fault : JobFault)
     → (RefusedBy (fault_of heapguard (codes "--help" ∷ [])) fault → IsPrinted fault)
     × (RefusedBy (fault_of heapguard (codes "--version" ∷ [])) fault → IsPrinted fault)
     × (RefusedBy (fault_of heapguard (codes "jump" ∷ [])) fault → IsTold fault)
+    × (RefusedBy (fault_of heapguard (codes "race" ∷ codes "p" ∷ codes "0" ∷ [])) fault
+    → IsTold fault)

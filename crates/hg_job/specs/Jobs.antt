@@ -1,19 +1,33 @@
 -- The job that a command with its operands asks for.
-use Rattle.std.specs.Prelude.{⊤, ◌⊎◌, ◌≡◌, ◌≢◌, List, [], Option, Some, None, Result, Ok, Err, true}
-use Rattle.std.specs.Prelude.{Contains, unwrap_or, codes}
-use Rattle.clap.specs.Words.{Row, Text, first_of, subcommand_of, takes, fault_of}
+use Rattle.std.specs.Prelude.{⊤, ◌⊎◌, ◌≡◌, ◌≢◌, ◌<◌, ◌^◌, ℕ, List, [], Option, Some, None, Result, Ok}
+use Rattle.std.specs.Prelude.{Err, true, Contains, unwrap_or, codes}
+use Rattle.std.specs.Str.Parse.{IsNumeral, digits_value, without_leading_plus}
+use Rattle.clap.specs.Words.{Row, Text, first_of, one_of, subcommand_of, takes, fault_of}
 use Rattle.clap.specs.Kinds.{Kinds, IsAmong}
 use Rattle.clap.specs.declared.error.kind.ErrorKind.{ErrorKind}
 use Rattle.clap.specs.declared.error.kind.ErrorKind.TheVariants as kind
 use Rattle.hg_job.specs.CommandLine.{heapguard, command_names}
 use Rattle.hg_job.specs.declared.job.Job.{Job}
-use Rattle.hg_job.specs.declared.job.Job.TheVariants.{Joined, Check, Replay}
+use Rattle.hg_job.specs.declared.job.Job.TheVariants.{Joined, Check, Replay, Race}
 use Rattle.hg_job.specs.declared.job.JobFault.{JobFault}
 use Rattle.hg_job.specs.declared.job.JobFault.TheVariants.{Print, Line, Memory}
 
 -- the first value of an operand, and no text where it has none
 abbrev pub operand : Text → List Row → Text
 operand name rows = unwrap_or (first_of name rows) []
+
+-- the text is a number below 2 ^ 32 in decimal digits, of which the first may be a plus
+abbrev pub IsDecimal : Text → Type 0
+IsDecimal text =
+    IsNumeral 10 (without_leading_plus text)
+    × (digits_value 10 (without_leading_plus text) < 2 ^ 32)
+
+-- the number that an operand's text is, and 0 where that is none, or there is no text
+abbrev pub IsNumber : Option Text → ℕ → Type 0
+IsNumber None number = number ≡ 0
+IsNumber (Some text) number =
+    (IsDecimal text → number ≡ digits_value 10 (without_leading_plus text))
+    × ((IsDecimal text → ⊥) → number ≡ 0)
 
 -- the job of the command of this name, with its operands
 abbrev pub IsJobOf : Text → List Row → Job → Type 0
@@ -23,6 +37,9 @@ IsJobOf name rows (Check policy) =
 IsJobOf name rows (Replay policy trace) =
     (name ≡ codes "replay") × (policy.now ≡ operand (codes "POLICY") rows)
     × (trace.now ≡ operand (codes "TRACE") rows)
+IsJobOf name rows (Race policy rounds) =
+    (name ≡ codes "race") × (policy.now ≡ operand (codes "POLICY") rows)
+    × IsNumber (one_of (codes "ROUNDS") rows) rounds
 
 -- the job of the command that was entered, if any was
 abbrev pub IsJobAt : Option (Text × List Row) → Job → Type 0

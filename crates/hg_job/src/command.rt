@@ -2,9 +2,10 @@
 ghost use Rattle.std.specs.Prelude.{◌≡◌, codes, false, IfOk};
 ghost use Rattle.clap.specs.Words.{app_of, rule_of};
 ghost use Rattle.clap.specs.declared.builder.command.Command.TheViews.{out-Command};
-ghost use Rattle.hg_job.specs.CommandLine.{alone, check, heapguard, replay, required};
+ghost use Rattle.hg_job.specs.CommandLine.{alone, check, counted, heapguard, race};
+ghost use Rattle.hg_job.specs.CommandLine.{replay, required};
 
-use clap::{Arg, Command};
+use clap::{Arg, Command, value_parser};
 use std::alloc::{AllocError, Global};
 
 const VERSION: &str = "0.1.0";
@@ -48,6 +49,20 @@ Exit status:
   3  reading or writing failed, or memory was refused
   4  the command line is wrong";
 
+const RACE_ABOUT: &str = "Frees blocks twice at once and counts the answers";
+
+const RACE_MORE: &str = "\
+In each round worker 0 allocates 8 bytes for the first tenant in the first arena, and both
+that worker and worker 1 free the block, each in a thread of its own. Prints one line,
+`rounds R ended E freed F`: the rounds that were run, how many frees were served, and how
+many were denied since the other was. It ends early where the arena has no more room.
+
+Exit status:
+  0  the race was run
+  1  the policy has a fault, or no race can be run under it, told in one line
+  3  reading or writing failed, memory was refused, or a thread couldn't be started
+  4  the command line is wrong";
+
 /// An operand that has to be there.
 fn operand<'a>(alloc: Global, name: &'a str, help: &'a str) -> Arg<'a>
     ensures rule { rule_of result ≡ required name.entry.now }
@@ -68,6 +83,14 @@ fn trace<'a>(alloc: Global) -> Arg<'a>
     ensures local { result.global ≡ false }
 {
     operand(alloc, "TRACE", "File with the trace, one event a line")
+}
+
+fn rounds<'a>(alloc: Global) -> Arg<'a>
+    ensures rule { rule_of result ≡ counted (codes "ROUNDS") }
+    ensures local { result.global ≡ false }
+{
+    let number = value_parser!(u32).range(1..=1_000_000);
+    operand(alloc, "ROUNDS", "How many rounds, 1 to 1000000").value_parser(number)
 }
 
 fn check_command<'a>(alloc: Global) -> Result<Command<'a>, AllocError>
@@ -91,6 +114,17 @@ fn replay_command<'a>(alloc: Global) -> Result<Command<'a>, AllocError>
         .arg(trace(alloc))
 }
 
+fn race_command<'a>(alloc: Global) -> Result<Command<'a>, AllocError>
+    ensures app { IfOk result (λ c. app_of c ≡ race) }
+    ensures local { IfOk result (λ c. (out-Command c).has_globals ≡ false) }
+{
+    Command::new(alloc, "race")
+        .about(RACE_ABOUT)
+        .after_help(RACE_MORE)
+        .arg(policy(alloc))?
+        .arg(rounds(alloc))
+}
+
 /// The program with no command yet.
 fn program<'a>(alloc: Global) -> Result<Command<'a>, AllocError>
     ensures { IfOk result (λ c. app_of c ≡ alone) }
@@ -110,5 +144,9 @@ pub(crate) fn command<'a>(alloc: Global) -> Result<Command<'a>, AllocError>
 {
     let check = check_command(alloc)?;
     let replay = replay_command(alloc)?;
-    program(alloc)?.subcommand(check)?.subcommand(replay)
+    let race = race_command(alloc)?;
+    program(alloc)?
+        .subcommand(check)?
+        .subcommand(replay)?
+        .subcommand(race)
 }

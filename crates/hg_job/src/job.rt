@@ -21,6 +21,8 @@ pub enum Job<'a> {
     Check(&'a str),
     /// Read the policy of the first file, and replay the trace of the second.
     Replay(&'a str, &'a str),
+    /// Race so many rounds, 1 to 1,000,000, under the policy of this file.
+    Race(&'a str, u32),
 }
 
 /// Why there is nothing to do.

@@ -1,7 +1,7 @@
 //! The job that a parse found.
 ghost use Rattle.std.specs.Prelude.{◌≡◌, codes};
-ghost use Rattle.clap.specs.Words.{found_of, rows_of, subcommand_rows_of};
-ghost use Rattle.hg_job.specs.Jobs.{operand, IsJobAt, IsKnown};
+ghost use Rattle.clap.specs.Words.{found_of, one_of, rows_of, subcommand_rows_of};
+ghost use Rattle.hg_job.specs.Jobs.{operand, IsJobAt, IsKnown, IsNumber};
 
 use crate::Job;
 use clap::ArgMatches;
@@ -11,6 +11,13 @@ fn operand_in<'a>(matches: &ArgMatches<'a>, name: &str) -> &'a str
     ensures { result.now ≡ operand name.now (rows_of (found_of matches.now)) }
 {
     matches.get_str(name).unwrap_or("")
+}
+
+/// The number of an operand, and 0 where it has none.
+fn number_in(matches: &ArgMatches<'_>, name: &str) -> u32
+    ensures { IsNumber (one_of name.now (rows_of (found_of matches.now))) result }
+{
+    matches.get_one::<u32>(name).unwrap_or(0)
 }
 
 /// The job of the command that was entered.
@@ -23,6 +30,9 @@ pub(crate) fn job_in<'a>(matches: &ArgMatches<'a>) -> Job<'a>
         Some(("check", inner)) => Job::Check(operand_in(inner, "POLICY")),
         Some(("replay", inner)) => {
             Job::Replay(operand_in(inner, "POLICY"), operand_in(inner, "TRACE"))
+        }
+        Some(("race", inner)) => {
+            Job::Race(operand_in(inner, "POLICY"), number_in(inner, "ROUNDS"))
         }
         Some(_) => unreachable!(),
     }
