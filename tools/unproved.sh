@@ -29,6 +29,10 @@ unproved() {
             lend trace "$3"
             set -- replay policy trace
             ;;
+        race/3)
+            lend policy "$2"
+            set -- race policy "$3"
+            ;;
     esac
     set -- -- "$@"
     for it in policy trace; do

@@ -19,6 +19,7 @@ fn arguments(rt: &HostRuntime) -> io::Result<Vec<String>> {
 
 fn main(rt: HostRuntime) -> ExitCode {
     start(
+        &rt,
         rt.alloc(),
         arguments(&rt),
         &Disk { rt: &rt },

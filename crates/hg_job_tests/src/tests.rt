@@ -2,12 +2,15 @@ use hg_job::{Job, JobFault, job_of};
 use std::alloc::{AllocError, Global};
 use std::process::Abort;
 
-/// A job by the name of its command, with its operands.
-fn job_told<'a>(job: Job<'a>) -> (&'a str, &'a str, &'a str) {
+/// A job by the name of its command, with its operands; of what it lacks, no text and 0.
+type Told<'a> = (&'a str, &'a str, &'a str, u32);
+
+fn job_told<'a>(job: Job<'a>) -> Told<'a> {
     match job {
-        Job::Joined => ("joined", "", ""),
-        Job::Check(policy) => ("check", policy, ""),
-        Job::Replay(policy, trace) => ("replay", policy, trace),
+        Job::Joined => ("joined", "", "", 0),
+        Job::Check(policy) => ("check", policy, "", 0),
+        Job::Replay(policy, trace) => ("replay", policy, trace, 0),
+        Job::Race(policy, rounds) => ("race", policy, "", rounds),
     }
 }
 
@@ -21,18 +24,19 @@ fn fault_told(fault: &JobFault) -> &'static str {
 }
 
 /// A job is this one, with these operands.
-fn is_job(rt: &impl Abort, job: Job<'_>, name: &str, policy: &str, trace: &str) {
-    let (told_name, told_policy, told_trace) = job_told(job);
-    assert_eq!(rt; told_name, name);
-    assert_eq!(rt; told_policy, policy);
-    assert_eq!(rt; told_trace, trace);
+fn is_job(rt: &impl Abort, job: Job<'_>, want: Told<'_>) {
+    let told = job_told(job);
+    assert_eq!(rt; told.0, want.0);
+    assert_eq!(rt; told.1, want.1);
+    assert_eq!(rt; told.2, want.2);
+    assert_eq!(rt; told.3, want.3);
 }
 
 /// A command line must come to this job with these operands, or to the refusal of this name.
-fn comes_to(rt: &impl Abort, alloc: Global, words: &[&str], name: &str, policy: &str, trace: &str) {
+fn comes_to(rt: &impl Abort, alloc: Global, words: &[&str], want: Told<'_>) {
     match job_of(alloc, words) {
-        Ok(job) => is_job(rt, job, name, policy, trace),
-        Err(fault) => assert_eq!(rt; fault_told(&fault), name),
+        Ok(job) => is_job(rt, job, want),
+        Err(fault) => assert_eq!(rt; fault_told(&fault), want.0),
     }
 }
 
@@ -40,7 +44,7 @@ fn comes_to(rt: &impl Abort, alloc: Global, words: &[&str], name: &str, policy: 
 fn is_refused(rt: &impl Abort, alloc: Global, line: &str, name: &str) {
     let words: Result<Vec<&str>, AllocError> = line.split_whitespace().collect(alloc);
     let words = words.expect(rt, "memory");
-    comes_to(rt, alloc, words.as_slice(), name, "", "");
+    comes_to(rt, alloc, words.as_slice(), (name, "", "", 0));
     drop(words);
 }
 
@@ -68,12 +72,18 @@ fn tells(rt: &impl Abort, alloc: Global, words: &[&str], parts: &[&str]) {
 }
 
 /// Command lines that are refused by a line.
-static NO_JOBS: [&str; 11] = [
+static NO_JOBS: [&str; 17] = [
     "check",
     "check p q",
     "check -p",
     "replay p",
     "replay p t u",
+    "race p",
+    "race p 0",
+    "race p 1000001",
+    "race p 10x",
+    "race p -1",
+    "race p 1 2",
     "jump",
     "Check p",
     "--jump",
@@ -83,23 +93,30 @@ static NO_JOBS: [&str; 11] = [
 ];
 
 /// Command lines that ask for help.
-static HELPS: [&str; 4] = ["-h", "--help", "check --help", "replay p --help"];
+static HELPS: [&str; 5] = ["-h", "--help", "check --help", "replay p --help", "race -h"];
 
-/// Command lines that come to a job, with its name and its operands.
-static JOBS: [(&[&str], &str, &str, &str); 5] = [
-    (&[], "joined", "", ""),
-    (&["check", "p"], "check", "p", ""),
-    (&["check", "--", "-p"], "check", "-p", ""),
-    (&["replay", "p", "t"], "replay", "p", "t"),
-    (&["replay", "check", "replay"], "replay", "check", "replay"),
+/// Command lines that come to a job.
+static JOBS: [(&[&str], Told<'static>); 9] = [
+    (&[], ("joined", "", "", 0)),
+    (&["check", "p"], ("check", "p", "", 0)),
+    (&["check", "--", "-p"], ("check", "-p", "", 0)),
+    (&["replay", "p", "t"], ("replay", "p", "t", 0)),
+    (
+        &["replay", "check", "replay"],
+        ("replay", "check", "replay", 0),
+    ),
+    (&["race", "p", "1000"], ("race", "p", "", 1000)),
+    (&["race", "p", "1"], ("race", "p", "", 1)),
+    (&["race", "p", "1000000"], ("race", "p", "", 1_000_000)),
+    (&["race", "--", "-p", "+07"], ("race", "-p", "", 7)),
 ];
 
 #[test]
 fn job_words(rt: HostRuntime) {
-    for (words, name, policy, trace) in JOBS {
-        comes_to(&rt, rt.alloc(), words, name, policy, trace);
+    for (words, want) in JOBS {
+        comes_to(&rt, rt.alloc(), words, want);
     }
-    comes_to(&rt, rt.alloc(), &[""], "line", "", "");
+    comes_to(&rt, rt.alloc(), &[""], ("line", "", "", 0));
     for line in NO_JOBS {
         is_refused(&rt, rt.alloc(), line, "line");
     }
@@ -109,11 +126,12 @@ fn job_words(rt: HostRuntime) {
 }
 
 /// Parts of the program's help.
-static HELP: [&str; 13] = [
+static HELP: [&str; 14] = [
     "out\nReplays traces",
     "\nUsage: heapguard [COMMAND]\n",
     "\n  check   ",
     "\n  replay  ",
+    "\n  race    ",
     "standard input",
     "`---`",
     "16777216 bytes",
@@ -159,10 +177,24 @@ static HELP_OF_REPLAY: [&str; 10] = [
     "\n  4  ",
 ];
 
+static HELP_OF_RACE: [&str; 10] = [
+    "out\nFrees blocks twice",
+    "\nUsage: heapguard race <POLICY> <ROUNDS>\n",
+    "\n  <POLICY>  ",
+    "\n  <ROUNDS>  How many rounds, 1 to 1000000\n",
+    "`rounds R ended E freed F`",
+    "\nExit status:\n",
+    "\n  0  ",
+    "\n  1  ",
+    "\n  3  ",
+    "\n  4  ",
+];
+
 #[test]
 fn help_of_each_command(rt: HostRuntime) {
     tells(&rt, rt.alloc(), &["check", "--help"], &HELP_OF_CHECK);
     tells(&rt, rt.alloc(), &["replay", "--help"], &HELP_OF_REPLAY);
+    tells(&rt, rt.alloc(), &["race", "--help"], &HELP_OF_RACE);
 }
 
 #[test]
@@ -174,7 +206,8 @@ fn version_of_the_program(rt: HostRuntime) {
     }
 }
 
-/// Parts of the lines that refuse a command that there isn't, and one that lacks an operand.
+/// Parts of the lines that refuse a command that there isn't, one that lacks an operand, and a
+/// number of rounds that is out of its range.
 static NO_COMMAND: [&str; 4] = [
     "err\n",
     "'jump'",
@@ -189,23 +222,19 @@ static NO_OPERAND: [&str; 4] = [
     "'--help'",
 ];
 
+static NO_ROUNDS: [&str; 3] = ["err\n", "'0'", "<ROUNDS>"];
+
 #[test]
 fn lines_name_the_program(rt: HostRuntime) {
     tells(&rt, rt.alloc(), &["jump"], &NO_COMMAND);
     tells(&rt, rt.alloc(), &["check"], &NO_OPERAND);
+    tells(&rt, rt.alloc(), &["race", "p", "0"], &NO_ROUNDS);
 }
 
 /// A command line must come to this job with these operands, or meet want of memory.
-fn may_come_to(
-    rt: &impl Abort,
-    alloc: Global,
-    words: &[&str],
-    name: &str,
-    policy: &str,
-    trace: &str,
-) {
+fn may_come_to(rt: &impl Abort, alloc: Global, words: &[&str], want: Told<'_>) {
     match job_of(alloc, words) {
-        Ok(job) => is_job(rt, job, name, policy, trace),
+        Ok(job) => is_job(rt, job, want),
         Err(fault) => assert_eq!(rt; fault_told(&fault), "memory"),
     }
 }
@@ -258,8 +287,9 @@ fn are_refused_alike(
 #[test]
 fn refused_in_turn(rt: HostRuntime) {
     let alloc = rt.alloc();
-    may_come_to(&rt, alloc, &[], "joined", "", "");
-    may_come_to(&rt, alloc, &["replay", "p", "t"], "replay", "p", "t");
+    may_come_to(&rt, alloc, &[], ("joined", "", "", 0));
+    may_come_to(&rt, alloc, &["replay", "p", "t"], ("replay", "p", "t", 0));
+    may_come_to(&rt, alloc, &["race", "p", "9"], ("race", "p", "", 9));
     are_refused_alike(&rt, alloc, &["check", "-h"], &["check", "--help"], true);
     are_refused_alike(&rt, alloc, &["jump"], &["jump"], false);
 }

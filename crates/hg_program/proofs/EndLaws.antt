@@ -3,7 +3,7 @@ use Rattle.std.proofs.Common.{◌≡◌, ◌<◌, ℕ, List, Option, Some, lengt
 use Rattle.hg_replay.specs.Sinks.{Seen}
 use Rattle.hg_replay.specs.declared.run.input.TheConstants.{LIMIT}
 use Rattle.hg_replay.specs.declared.run.status.Status.{Status}
-use Rattle.hg_program.specs.Ends.{IsOf, ReadsNone, EndsOnFile, EndsOnFiles}
+use Rattle.hg_program.specs.Ends.{IsOf, ReadsNone, EndsOnFile, EndsOnFiles, EndsOnRace}
 use Rattle.hg_program.specs.EndLaws.{LongFilesFail}
 
 -- what was read of such a file
@@ -12,10 +12,14 @@ long_is_of bytes read long (is, fits) =
     let same : length read ≡ length bytes = ap (λ l. length l) is in
     omega (arith, long, fits, same)
 
-module _ (bytes : List ℕ) (other : Option (List ℕ)) (ended : Status) (old new : Seen) (long : LIMIT < length bytes) where
+module _ (bytes : List ℕ) (other : Option (List ℕ)) (rounds : ℕ) (ended : Status) (old new : Seen) (long : LIMIT < length bytes) where
   long_checked : EndsOnFile (Some bytes) ended old new → ReadsNone ended old new
   long_checked (inl none) = none
   long_checked (inr (read, is, ends)) = absurd (long_is_of bytes read long is)
+
+  long_raced : EndsOnRace (Some bytes) rounds ended old new → ReadsNone ended old new
+  long_raced (inl none) = none
+  long_raced (inr (read, is, ends)) = absurd (long_is_of bytes read long is)
 
   long_policy : EndsOnFiles (Some bytes) other ended old new → ReadsNone ended old new
   long_policy (inl none) = none
@@ -26,8 +30,9 @@ module _ (bytes : List ℕ) (other : Option (List ℕ)) (ended : Status) (old ne
   long_trace (inr ends) = absurd (long_is_of bytes ends.1 long ends.3)
 
 pub long_files_fail : LongFilesFail
-long_files_fail bytes other ended old new long = (
-  long_checked bytes other ended old new long,
-  long_policy bytes other ended old new long,
-  long_trace bytes other ended old new long,
+long_files_fail bytes other rounds ended old new long = (
+  long_checked bytes other rounds ended old new long,
+  long_raced bytes other rounds ended old new long,
+  long_policy bytes other rounds ended old new long,
+  long_trace bytes other rounds ended old new long,
 )

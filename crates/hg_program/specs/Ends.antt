@@ -10,6 +10,7 @@ use Rattle.hg_replay.specs.Writes.{Wrote, StopsIn}
 use Rattle.hg_replay.specs.declared.run.input.TheConstants.{LIMIT}
 use Rattle.hg_replay.specs.declared.run.status.Status.{Status}
 use Rattle.hg_replay.specs.declared.run.status.Status.TheVariants as status
+use Rattle.hg_race.specs.Races.{EndsRace}
 use Rattle.hg_job.specs.Jobs.{IsAnswerTo}
 use Rattle.hg_job.specs.declared.job.Job.{Job}
 use Rattle.hg_job.specs.declared.job.Job.TheVariants as job
@@ -36,6 +37,12 @@ EndsOnFiles first second ended old new =
     ⊎ ((policy : List ℕ) × (trace : List ℕ) × IsOf first policy × IsOf second trace
     × EndsAs ended policy trace old new)
 
+-- the file is not read, or a race of so many rounds under the policy of its bytes ends so
+abbrev pub EndsOnRace : Option (List ℕ) → ℕ → Status → Seen → Seen → Type 0
+EndsOnRace held rounds ended old new =
+    ReadsNone ended old new
+    ⊎ ((bytes : List ℕ) × IsOf held bytes × EndsRace ended bytes rounds old new)
+
 -- a job ends so, where these are what the file of a path holds and what the input has left
 abbrev pub EndsJob
     : (List ℕ → Option (List ℕ)) → Option (List ℕ) → Job → Status → Seen → Seen → Type 0
@@ -43,6 +50,8 @@ EndsJob holds input job.Joined ended old new = EndsJoined ended input old new
 EndsJob holds input (job.Check policy) ended old new = EndsOnFile (holds policy.now) ended old new
 EndsJob holds input (job.Replay policy trace) ended old new =
     EndsOnFiles (holds policy.now) (holds trace.now) ended old new
+EndsJob holds input (job.Race policy rounds) ended old new =
+    EndsOnRace (holds policy.now) rounds ended old new
 
 -- the text is written, or its writing stopped
 abbrev pub Tries : Seen → Seen → List ℕ → Type 0

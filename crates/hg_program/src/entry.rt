@@ -8,7 +8,7 @@ ghost use Rattle.hg_replay.specs.Statuses.{EndsJoined};
 ghost use Rattle.hg_replay.specs.declared.run.status.Status.{Status};
 ghost use Rattle.hg_program.specs.Ends.{EndsJob, EndsProgram, EndsWordless};
 
-use crate::files::{check_file, replay_files};
+use crate::files::{check_file, race_file, replay_files};
 use crate::host::Host;
 use crate::refusal::{fails, refuse};
 use hg_job::{Job, job_of};
@@ -17,6 +17,8 @@ use std::alloc::{AllocError, Global};
 use std::io;
 use std::io::{Read, Write};
 use std::process::ExitCode;
+use std::sync::Wait;
+use std::thread::Threads;
 
 /// What a job on standard input waits for, told where that is a terminal.
 const READS: &str = "heapguard reads a policy, a line ---, and a trace; see heapguard --help";
@@ -39,7 +41,8 @@ fn replay_input<H: Host, R: Read, W: Sink, E: Write>(
 }
 
 /// Does a job.
-fn do_job<H: Host, R: Read, W: Sink, E: Write>(
+fn do_job<T: Threads + Wait, H: Host, R: Read, W: Sink, E: Write>(
+    rt: &T,
     alloc: Global,
     job: &Job,
     host: &H,
@@ -55,13 +58,15 @@ fn do_job<H: Host, R: Read, W: Sink, E: Write>(
         Job::Joined => replay_input(alloc, host, input, out, err),
         Job::Check(policy) => check_file(alloc, host, policy, out, err),
         Job::Replay(policy, trace) => replay_files(alloc, host, policy, trace, out, err),
+        Job::Race(policy, rounds) => race_file(rt, alloc, host, policy, *rounds, out, err),
     }
 }
 
 /// Does what the words after the program's name ask for: a job, with its output on `out` and what
 /// goes wrong in one line on `err`; help or the version, on `out`; or it tells on `err` what is
 /// wrong with the words. Faults of `err` are ignored.
-pub fn program<H: Host, R: Read, W: Sink, E: Sink + Write>(
+pub fn program<T: Threads + Wait, H: Host, R: Read, W: Sink, E: Sink + Write>(
+    rt: &T,
     alloc: Global,
     words: &[&str],
     host: &H,
@@ -75,7 +80,7 @@ pub fn program<H: Host, R: Read, W: Sink, E: Sink + Write>(
     ensures quiet { H.may_be_terminal host.now ≡ false → result ≡ Status.Done → err.new ≡ err.old }
 {
     match job_of(alloc, words) {
-        Ok(job) => do_job(alloc, &job, host, input, out, err),
+        Ok(job) => do_job(rt, alloc, &job, host, input, out, err),
         Err(fault) => refuse(&fault, out, err),
     }
 }
@@ -92,7 +97,8 @@ fn texts<'a>(alloc: Global, words: &'a [String]) -> Result<Vec<&'a str>, AllocEr
 }
 
 /// The same, on words that the system gave.
-fn program_of<H: Host, R: Read, W: Sink, E: Sink + Write>(
+fn program_of<T: Threads + Wait, H: Host, R: Read, W: Sink, E: Sink + Write>(
+    rt: &T,
     alloc: Global,
     words: &[String],
     host: &H,
@@ -105,13 +111,14 @@ fn program_of<H: Host, R: Read, W: Sink, E: Sink + Write>(
         (W.seen out.old) (W.seen out.new) (E.seen err.old) (E.seen err.new) }
 {
     match texts(alloc, words) {
-        Ok(texts) => program(alloc, texts.as_slice(), host, input, out, err),
+        Ok(texts) => program(rt, alloc, texts.as_slice(), host, input, out, err),
         Err(_) => fails(ReadFault::Memory, err),
     }
 }
 
 /// The same, where the system may have given no words.
-fn program_on<H: Host, R: Read, W: Sink, E: Sink + Write>(
+fn program_on<T: Threads + Wait, H: Host, R: Read, W: Sink, E: Sink + Write>(
+    rt: &T,
     alloc: Global,
     words: io::Result<Vec<String>>,
     host: &H,
@@ -126,7 +133,7 @@ fn program_on<H: Host, R: Read, W: Sink, E: Sink + Write>(
         (λ error. EndsWordless (error_kind error) result (W.seen out.old) (W.seen out.new)) }
 {
     match words {
-        Ok(words) => program_of(alloc, words.as_slice(), host, input, out, err),
+        Ok(words) => program_of(rt, alloc, words.as_slice(), host, input, out, err),
         Err(fault) if fault.kind() == io::ErrorKind::OutOfMemory => fails(ReadFault::Memory, err),
         Err(_) => {
             let _ = writeln!(err, "the arguments are no text: see heapguard --help");
@@ -137,7 +144,8 @@ fn program_on<H: Host, R: Read, W: Sink, E: Sink + Write>(
 
 /// The whole program, from what the system gives as its words to its exit status. Words that are no
 /// text are a fault of the command line.
-pub fn start<H: Host, R: Read, W: Sink, E: Sink + Write>(
+pub fn start<T: Threads + Wait, H: Host, R: Read, W: Sink, E: Sink + Write>(
+    rt: &T,
     alloc: Global,
     words: io::Result<Vec<String>>,
     host: &H,
@@ -152,5 +160,5 @@ pub fn start<H: Host, R: Read, W: Sink, E: Sink + Write>(
         (W.seen out.old) (W.seen out.new) (E.seen err.old) (E.seen err.new))
         (λ error. EndsWordless (error_kind error) ended (W.seen out.old) (W.seen out.new)) }
 {
-    ExitCode::from(program_on(alloc, words, host, input, out, err))
+    ExitCode::from(program_on(rt, alloc, words, host, input, out, err))
 }

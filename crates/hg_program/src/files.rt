@@ -2,13 +2,16 @@
 
 ghost use Rattle.std.specs.Prelude.{◌≡◌, ◌≤◌, IfOk, IfSome, vec_len};
 ghost use Rattle.hg_replay.specs.declared.run.input.TheConstants.{LIMIT};
-ghost use Rattle.hg_program.specs.Ends.{EndsOnFile, EndsOnFiles, IsOf};
+ghost use Rattle.hg_program.specs.Ends.{EndsOnFile, EndsOnFiles, EndsOnRace, IsOf};
 
 use crate::host::Host;
 use crate::refusal::fails;
+use hg_race::run_race;
 use hg_replay::{ReadFault, Sink, Status, run_check, run_texts};
 use std::alloc::Global;
 use std::io::Write;
+use std::sync::Wait;
+use std::thread::Threads;
 
 /// Both files, the policy's first.
 fn read_files<H: Host>(
@@ -59,6 +62,26 @@ pub(crate) fn replay_files<H: Host, W: Sink, E: Write>(
 {
     match read_files(alloc, host, policy, trace) {
         Ok((policy, trace)) => run_texts(alloc, policy.as_slice(), trace.as_slice(), out, err),
+        Err(fault) => fails(fault, err),
+    }
+}
+
+/// Races two workers under the policy of a file.
+pub(crate) fn race_file<T: Threads + Wait, H: Host, W: Sink, E: Write>(
+    rt: &T,
+    alloc: Global,
+    host: &H,
+    policy: &str,
+    rounds: u32,
+    out: &mut W,
+    err: &mut E,
+) -> Status
+    ensures ends { EndsOnRace (H.holds host.now policy.now) rounds result
+        (W.seen out.old) (W.seen out.new) }
+    ensures quiet { result ≡ Status.Done → err.new ≡ err.old }
+{
+    match host.read_file(alloc, policy) {
+        Ok(policy) => run_race(rt, alloc, policy.as_slice(), rounds, out, err),
         Err(fault) => fails(fault, err),
     }
 }

@@ -8,10 +8,19 @@ use std::alloc::{AllocError, Global};
 use std::io;
 use std::io::Write;
 use std::process::{Abort, ExitCode};
+use std::sync::Wait;
+use std::thread::Threads;
 
 const POLICY: &str = "version = 1
 workers = 1
 tenant = [ {name = \"alice\", limit = 8192} ]
+arena = [ {name = \"main\", segments = 1} ]
+";
+
+/// A policy that a race can be run under.
+const TWO: &str = "version = 1
+workers = 2
+tenant = [ {name = \"alice\", limit = 8} ]
 arena = [ {name = \"main\", segments = 1} ]
 ";
 
@@ -29,7 +38,7 @@ w0 alloc alice main 24
 
 const ANSWERS: &str = "segment 0\nok @0.0.0.1\n";
 
-/// The files `p` and `t`, and an input that is no terminal.
+/// The files `p`, `t` and `two`, and an input that is no terminal.
 #[derive(Drop)]
 struct Shelf;
 
@@ -42,6 +51,7 @@ impl Host for Shelf {
         let text = match path {
             "p" => POLICY,
             "t" => TRACE,
+            "two" => TWO,
             _ => return Err(ReadFault::Failed),
         };
         read_limited(alloc, &mut text.as_bytes())
@@ -85,7 +95,8 @@ impl Write for Full {
 }
 
 /// How the program ends on a host and an input.
-fn ended<H: Host, W: Write, E: Write>(
+fn ended<T: Threads + Wait, H: Host, W: Write, E: Write>(
+    rt: &T,
     alloc: Global,
     words: &[&str],
     host: &H,
@@ -93,12 +104,12 @@ fn ended<H: Host, W: Write, E: Write>(
     out: &mut W,
     err: &mut E,
 ) -> Status {
-    program(alloc, words, host, &mut input.as_bytes(), out, err)
+    program(rt, alloc, words, host, &mut input.as_bytes(), out, err)
 }
 
 /// The program ends with this status, output and standard error.
-fn ends<H: Host>(
-    rt: &impl Abort,
+fn ends<T: Abort + Threads + Wait, H: Host>(
+    rt: &T,
     alloc: Global,
     words: &[&str],
     host: &H,
@@ -107,7 +118,7 @@ fn ends<H: Host>(
 ) {
     let mut out = Vec::new(alloc);
     let mut err = Vec::new(alloc);
-    let status = ended(alloc, words, host, input, &mut out, &mut err);
+    let status = ended(rt, alloc, words, host, input, &mut out, &mut err);
     assert!(rt; err.as_slice() == want.2.as_bytes(), "{words:?}");
     assert!(rt; out.as_slice() == want.1.as_bytes(), "{words:?}");
     assert!(rt; status == want.0, "{words:?}");
@@ -117,13 +128,13 @@ fn ends<H: Host>(
 type Row = (&'static [&'static str], Status, &'static str, &'static str);
 
 /// With nothing on the input the program ends as each row says.
-fn end_each(rt: &impl Abort, alloc: Global, rows: &[Row]) {
+fn end_each<T: Abort + Threads + Wait>(rt: &T, alloc: Global, rows: &[Row]) {
     for (words, status, out, err) in rows {
         ends(rt, alloc, words, &Shelf, "", (*status, out, err));
     }
 }
 
-static ON_FILES: [Row; 2] = [
+static ON_FILES: [Row; 3] = [
     (
         &["check", "p"],
         Status::Done,
@@ -131,6 +142,12 @@ static ON_FILES: [Row; 2] = [
         "",
     ),
     (&["replay", "p", "t"], Status::Done, ANSWERS, ""),
+    (
+        &["race", "two", "3"],
+        Status::Done,
+        "rounds 3 ended 3 freed 3\n",
+        "",
+    ),
 ];
 
 #[test]
@@ -140,7 +157,7 @@ fn jobs_are_done(rt: HostRuntime) {
     end_each(&rt, rt.alloc(), &ON_FILES);
 }
 
-static PLACES: [Row; 5] = [
+static PLACES: [Row; 8] = [
     (
         &["replay", "t", "p"],
         Status::BadPolicy,
@@ -156,6 +173,14 @@ static PLACES: [Row; 5] = [
     (&["check", "none"], Status::Failed, "", "read fault\n"),
     (&["replay", "none", "t"], Status::Failed, "", "read fault\n"),
     (&["replay", "p", "none"], Status::Failed, "", "read fault\n"),
+    (&["race", "none", "3"], Status::Failed, "", "read fault\n"),
+    (&["race", "p", "3"], Status::BadPolicy, "", "race unfit\n"),
+    (
+        &["race", "t", "3"],
+        Status::BadPolicy,
+        "",
+        "policy fault 1: not toml\n",
+    ),
 ];
 
 #[test]
@@ -164,9 +189,9 @@ fn files_keep_their_places(rt: HostRuntime) {
 }
 
 /// A write that stops in what was asked for is a fault.
-fn stops(rt: &impl Abort, alloc: Global, words: &[&str]) {
+fn stops<T: Abort + Threads + Wait>(rt: &T, alloc: Global, words: &[&str]) {
     let mut err = Vec::new(alloc);
-    let status = ended(alloc, words, &Shelf, "", &mut Full, &mut err);
+    let status = ended(rt, alloc, words, &Shelf, "", &mut Full, &mut err);
     assert!(rt; status == Status::Failed);
     assert!(rt; err.as_slice() == b"write fault\n".as_slice());
 }
@@ -183,15 +208,15 @@ fn requests_are_printed(rt: HostRuntime) {
 }
 
 /// Command lines that are refused.
-static BAD_LINES: [&[&str]; 3] = [&["jump"], &["check"], &NINE];
+static BAD_LINES: [&[&str]; 4] = [&["jump"], &["check"], &["race", "two", "0"], &NINE];
 
 const NINE: [&str; 9] = ["replay", "p", "t", "d", "e", "f", "g", "h", "i"];
 
 /// A line is refused on standard error alone.
-fn is_refused(rt: &impl Abort, alloc: Global, words: &[&str]) {
+fn is_refused<T: Abort + Threads + Wait>(rt: &T, alloc: Global, words: &[&str]) {
     let mut out = Vec::new(alloc);
     let mut err = Vec::new(alloc);
-    let status = ended(alloc, words, &Shelf, "", &mut out, &mut err);
+    let status = ended(rt, alloc, words, &Shelf, "", &mut out, &mut err);
     assert!(rt; status == Status::BadLine, "{words:?}");
     assert!(rt; out.len() == 0, "{words:?}");
     assert!(rt; err.as_slice().starts_with(b"error: "), "{words:?}");
@@ -203,16 +228,21 @@ fn bad_lines_are_told(rt: HostRuntime) {
         is_refused(&rt, rt.alloc(), words);
     }
     // Standard error that takes nothing changes no status.
-    let status = ended(rt.alloc(), &NINE, &Shelf, "", &mut Full, &mut Full);
+    let status = ended(&rt, rt.alloc(), &NINE, &Shelf, "", &mut Full, &mut Full);
     assert!(&rt; status == Status::BadLine);
 }
 
 /// The whole program ends so on what the system gave as its words.
-fn starts(rt: &impl Abort, alloc: Global, words: io::Result<Vec<String>>, want: (u8, &str, &str)) {
+fn starts<T: Abort + Threads + Wait>(
+    rt: &T,
+    alloc: Global,
+    words: io::Result<Vec<String>>,
+    want: (u8, &str, &str),
+) {
     let mut out = Vec::new(alloc);
     let mut err = Vec::new(alloc);
     let mut input = b"".as_slice();
-    let code = start(alloc, words, &Shelf, &mut input, &mut out, &mut err);
+    let code = start(rt, alloc, words, &Shelf, &mut input, &mut out, &mut err);
     assert!(rt; code == ExitCode::from(want.0));
     assert!(rt; out.as_slice() == want.1.as_bytes());
     assert!(rt; err.as_slice() == want.2.as_bytes());
@@ -265,7 +295,7 @@ fn program_refused_in_turn(rt: HostRuntime) {
     let mut out = Held::new();
     let mut err = Held::new();
     let words = ["replay", "p", "t"];
-    let status = ended(rt.alloc(), &words, &Shelf, "", &mut out, &mut err);
+    let status = ended(&rt, rt.alloc(), &words, &Shelf, "", &mut out, &mut err);
     if status == Status::Done {
         assert!(&rt; out.as_slice() == ANSWERS.as_bytes());
         assert!(&rt; err.len() == 0);

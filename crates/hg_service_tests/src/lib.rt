@@ -6,7 +6,11 @@ mod kept_lists;
 #[cfg(test)]
 mod leaving;
 #[cfg(test)]
+mod memory;
+#[cfg(test)]
 mod rows;
+#[cfg(test)]
+mod sending;
 #[cfg(test)]
 mod services;
 #[cfg(test)]

@@ -1,0 +1,4 @@
+pub mod Fit
+pub mod Counts
+pub mod Faults
+pub mod Races

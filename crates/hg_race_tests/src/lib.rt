@@ -1,0 +1,5 @@
+//! Races of two workers: what they write, and how they end.
+#![tactic(auto)]
+
+#[cfg(test)]
+mod tests;
