@@ -61,19 +61,19 @@ impl Counts {
         }
     }
 
-    /// These, and a round more, of which these are the answers.
-    pub(crate) fn with_round(self, one: &Answer, other: &Answer) -> Counts
+    /// These, and a round more, whose two frees were answered so.
+    pub(crate) fn with_round(self, answers: &(Answer, Answer)) -> Counts
         requires rounds { self.rounds + 1 < 2 ^ 32 }
         requires counts { AreCounts self.rounds self.rounds self.ended self.freed }
         ensures rounds { result.rounds ≡ self.rounds + 1 }
-        ensures ended { result.ended ≡ self.ended + ends one.now + ends other.now }
-        ensures freed { result.freed ≡ self.freed + finds_freed one.now + finds_freed other.now }
+        ensures ended { result.ended ≡ self.ended + ends answers.now.0 + ends answers.now.1 }
+        ensures freed { result.freed ≡ self.freed + finds_freed answers.now.0 + finds_freed answers.now.1 }
         ensures counts { AreCounts result.rounds result.rounds result.ended result.freed }
     {
         Counts {
             rounds: self.rounds + 1,
-            ended: self.ended + ends(one) + ends(other),
-            freed: self.freed + finds_freed(one) + finds_freed(other),
+            ended: self.ended + ends(&answers.0) + ends(&answers.1),
+            freed: self.freed + finds_freed(&answers.0) + finds_freed(&answers.1),
         }
     }
 

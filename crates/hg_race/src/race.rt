@@ -23,7 +23,7 @@ use std::sync::Wait;
 use std::thread::Threads;
 
 /// A race of two workers of the service N.
-fn raced<N: ServiceName + Send + Sync, R: Threads + Wait>(
+fn raced<N: ServiceName + Send + Sync + 'static, R: Threads + Wait>(
     rt: &R,
     alloc: Global,
     policy: Policy,
@@ -41,9 +41,7 @@ fn raced<N: ServiceName + Send + Sync, R: Threads + Wait>(
     let (Some(holder), Some(other)) = (service.worker(0), service.worker(1)) else {
         unreachable!()
     };
-    let mut racers = Racers { holder, other };
-    let counts = racers.race(rt, most);
-    drop(racers);
+    let counts = Racers { holder, other }.race(rt, most);
     drop(service);
     counts
 }

@@ -12,7 +12,7 @@ use hg_worker::ServiceName;
 use std::alloc::AllocError;
 use std::sync::Wait;
 use std::thread;
-use std::thread::Threads;
+use std::thread::{JoinHandle, Threads};
 
 /// The two workers of a race.
 #[derive(Drop)]
@@ -22,7 +22,24 @@ pub(crate) struct Racers<N: ServiceName> {
     pub(crate) other: Worker<N>,
 }
 
-impl<N: ServiceName + Send + Sync> Racers<N> {
+/// A worker that frees a block, and what it is answered.
+fn freed<N: ServiceName>(worker: Worker<N>, block: Handle) -> (Worker<N>, Answer) {
+    let mut worker = worker;
+    let answer = worker.own.free(TENANT, block);
+    (worker, answer)
+}
+
+/// A thread in which a worker frees a block. An error is that it couldn't be started.
+fn freeing<N: ServiceName + Send + Sync + 'static, R: Threads>(
+    rt: &R,
+    worker: Worker<N>,
+    block: Handle,
+) -> Result<JoinHandle<(Worker<N>, Answer)>, AllocError> {
+    let thread = thread::spawn(rt, move || freed(worker, block))?;
+    Ok(thread)
+}
+
+impl<N: ServiceName + Send + Sync + 'static> Racers<N> {
     /// A block of the holder's, which takes a segment where there is no room. `None` where there is
     /// no segment either.
     fn block<R: Wait>(&mut self, rt: &R) -> Option<Handle> {
@@ -44,52 +61,43 @@ impl<N: ServiceName + Send + Sync> Racers<N> {
         }
     }
 
-    /// Both free a block, each in a thread of its own, and both threads are joined. An error is that
-    /// one of them couldn't be started.
-    fn both_free<R: Threads + Wait>(
-        &mut self,
+    /// Both free a block, each in a thread of its own, and both threads are joined: the workers, and
+    /// what they were answered. An error is that a thread couldn't be started.
+    fn both_free<R: Threads>(
+        self,
         rt: &R,
         block: Handle,
-    ) -> Result<(Answer, Answer), AllocError> {
+    ) -> Result<(Racers<N>, (Answer, Answer)), AllocError> {
         let Racers { holder, other } = self;
-        thread::scope(
-            thread::scope_env(),
-            rt,
-            |scope| -> Result<(Answer, Answer), AllocError> {
-                let one = scope.spawn(|| holder.own.free(TENANT, block))?;
-                let other = scope.spawn(|| other.own.free(TENANT, block))?;
-                Ok((one.join(rt), other.join(rt)))
-            },
-        )
+        let one = freeing(rt, holder, block)?;
+        let another = freeing(rt, other, block);
+        let (holder, first) = one.join(rt);
+        let (other, second) = another?.join(rt);
+        Ok((Racers { holder, other }, (first, second)))
     }
 
-    /// A round: the answers to both frees of a block, which has come home then. `None` where there
-    /// is no block.
-    fn round<R: Threads + Wait>(&mut self, rt: &R) -> Result<Option<(Answer, Answer)>, AllocError> {
-        let Some(block) = self.block(rt) else {
-            return Ok(None);
-        };
-        let answers = self.both_free(rt, block)?;
+    /// What the other worker has in hand comes home.
+    fn settle<R: Wait>(&mut self, rt: &R, block: Handle) {
         let _ = self.other.deliver(rt);
         let _ = self.holder.take(rt, block.place.segment);
-        Ok(Some(answers))
     }
 
     /// So many rounds, or fewer where there is no segment any more.
-    pub(crate) fn race<R: Threads + Wait>(
-        &mut self,
-        rt: &R,
-        most: u32,
-    ) -> Result<Counts, AllocError>
+    pub(crate) fn race<R: Threads + Wait>(self, rt: &R, most: u32) -> Result<Counts, AllocError>
         ensures { IfOk result (λ counts. AreCounts most counts.rounds counts.ended counts.freed) }
     {
+        let mut racers = self;
         let mut counts = Counts::none();
         for _ in 0..most {
-            let Some((one, other)) = self.round(rt)? else {
-                return Ok(counts);
+            let Some(block) = racers.block(rt) else {
+                break;
             };
-            counts = counts.with_round(&one, &other);
+            let (back, answers) = racers.both_free(rt, block)?;
+            racers = back;
+            racers.settle(rt, block);
+            counts = counts.with_round(&answers);
         }
+        drop(racers);
         Ok(counts)
     }
 }
