@@ -1,25 +1,36 @@
-/* A library to preload that refuses the Nth request for memory, where REFUSE=N, and ends the
-   process with status 99 where there were fewer requests. Where COUNT=FILE, it writes into that
-   file how many there were, and of how many bytes together. */
+/* A library to preload that refuses the Nth request for memory, where REFUSE=N, or to start the Nth
+   thread, where THREAD=N, and ends the process with status 99 where there were fewer of them. Where
+   COUNT=FILE, it writes into that file how many requests there were, and of how many bytes
+   together. */
 #define _GNU_SOURCE
 #include <dlfcn.h>
+#include <errno.h>
+#include <pthread.h>
+#include <stdatomic.h>
 #include <stddef.h>
 #include <stdio.h>
 #include <stdlib.h>
 #include <sys/syscall.h>
 #include <unistd.h>
 
-static long requests, refused = -1;
-static size_t bytes;
+static atomic_long requests, threads, refused = -1, unstarted = -1;
+static atomic_size_t bytes;
+
+/* The number that a variable of the environment asks for, or 0; read once. */
+static long asked(const char *name, atomic_long *known)
+{
+    if (*known < 0) {
+        const char *text = getenv(name);
+        *known = text ? atol(text) : 0;
+    }
+    return *known;
+}
 
 static int is_refused(size_t size)
 {
-    if (refused < 0) {
-        const char *text = getenv("REFUSE");
-        refused = text ? atol(text) : 0;
-    }
+    const long refused_now = asked("REFUSE", &refused);
     bytes += size;
-    return ++requests == refused;
+    return ++requests == refused_now;
 }
 
 #define REAL(name) \
@@ -56,6 +67,12 @@ int posix_memalign(void **out, size_t align, size_t size)
     return is_refused(size) ? 12 : real(out, align, size);
 }
 
+int pthread_create(pthread_t *thread, const pthread_attr_t *how, void *(*run)(void *), void *with)
+{
+    REAL(pthread_create);
+    return ++threads == asked("THREAD", &unstarted) ? EAGAIN : real(thread, how, run, with);
+}
+
 static _Noreturn void end(int status)
 {
     for (;;) syscall(SYS_exit_group, status);
@@ -75,7 +92,7 @@ __attribute__((destructor)) static void at_the_end(void)
     const size_t sum = bytes;
     const char *path = getenv("COUNT");
     if (path) write_count(path, count, sum);
-    if (refused > 0 && count < refused) end(99);
+    if (count < asked("REFUSE", &refused) || threads < asked("THREAD", &unstarted)) end(99);
 }
 
 /* A program of several threads ends by this, and no destructor runs. */
