@@ -1,8 +1,7 @@
 //! What a race is run with, and under which policies.
 
 ghost use Rattle.std.specs.Prelude.{◌≡◌};
-ghost use Rattle.std.specs.List.{list_any};
-ghost use Rattle.hg_race.specs.Fit.{has_room, is_fit, is_of};
+ghost use Rattle.hg_race.specs.Fit.{has_room, has_segment, is_fit};
 
 use hg_place::Actor;
 use hg_policy::Policy;
@@ -16,16 +15,15 @@ pub(crate) const ARENA: u8 = 0;
 /// What is asked for, in bytes.
 pub(crate) const BYTES: u64 = 8;
 
-/// Whether an arena has a segment.
-fn has_segment(policy: &Policy, arena: u8) -> bool
-    ensures { result ≡ list_any (is_of arena) policy.now.segments }
+/// Whether the first arena has a segment, which is the first one then: segments are numbered arena
+/// by arena.
+fn has_segment(policy: &Policy) -> bool
+    ensures { result ≡ has_segment policy.now }
 {
-    for segment in 0..policy.segments() {
-        if policy.arena_of(segment) == Some(arena) {
-            return true;
-        }
+    match policy.arena_of(0) {
+        Some(arena) => arena == ARENA,
+        None => false,
     }
-    false
 }
 
 /// Whether there is such a tenant, whose limit allows a block.
@@ -42,8 +40,5 @@ fn has_room(policy: &Policy) -> bool
 pub(crate) fn is_fit(policy: &Policy) -> bool
     ensures { result ≡ is_fit policy.now }
 {
-    policy.workers() >= 2
-        && has_room(policy)
-        && has_segment(policy, ARENA)
-        && policy.admits(ARENA, TENANT)
+    policy.workers() >= 2 && has_room(policy) && has_segment(policy) && policy.admits(ARENA, TENANT)
 }

@@ -38,7 +38,10 @@ fn raced<N: ServiceName + Send + Sync + 'static, R: Threads + Wait>(
     ensures { IfOk result (λ counts. AreCounts most counts.rounds counts.ended counts.freed) }
 {
     let mut service = Service::<N>::open(alloc, policy, table)?;
-    let (Some(holder), Some(other)) = (service.worker(0), service.worker(1)) else {
+    let Some(holder) = service.worker(0) else {
+        unreachable!()
+    };
+    let Some(other) = service.worker(1) else {
         unreachable!()
     };
     let counts = Racers { holder, other }.race(rt, most);
