@@ -12,7 +12,6 @@ mod grants;
 mod groups;
 mod heads;
 mod key;
-pub mod laws;
 mod lines;
 mod name_form;
 mod one_line;

@@ -1,0 +1,4 @@
+pub mod VersionLaws
+pub mod DocumentLaws
+pub mod SaidLaws
+pub mod LineLaws
