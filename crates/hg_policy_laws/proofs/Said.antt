@@ -19,7 +19,7 @@ use Rattle.hg_policy.specs.NameForm.{name_at, is_among}
 use Rattle.hg_policy.specs.Tenants.{tenant_names, number_in}
 use Rattle.hg_policy.specs.TenantSets.{just, either}
 use Rattle.hg_policy.specs.Groups.{Group, group_names, and_member, group_members_in, with_group, group_at, groups_in, group_named, named_in, named_at}
-use Rattle.hg_policy_laws.specs.SaidLaws.{is_text, has_some, says, has_entry, is_member, stands_for}
+use Rattle.hg_policy.specs.SaidLaws.{is_text, has_some, says, has_entry, is_member, stands_for}
 use Rattle.hg_policy.proofs.Chains.{bind_at, in_turn-keeps}
 use Rattle.hg_policy.proofs.GrantTable.{ne-eqb}
 use Rattle.hg_policy.proofs.Names.{list_any-map}

@@ -16,7 +16,7 @@ use Rattle.hg_policy.specs.Rights.{all_rights}
 use Rattle.hg_policy.specs.Lines.{Line, lines_in, names_right, rights_by, table_by}
 use Rattle.hg_policy.specs.Heads.{Heads, workers_at, max_generation_at, group_entries_at, line_entries_at, heads_at}
 use Rattle.hg_policy.specs.Document.{top_at, policy_from, tables_of, policy_at}
-use Rattle.hg_policy_laws.specs.SaidLaws.{has_entry, says_right, LinesAreSaid, ArenasAreSaid}
+use Rattle.hg_policy.specs.SaidLaws.{has_entry, says_right, LinesAreSaid, ArenasAreSaid}
 use Rattle.hg_policy.proofs.Chains.{bind_at}
 use Rattle.hg_policy.proofs.LineTable.{other_here}
 use Rattle.hg_policy.proofs.SaidWords.{entries_at-says, line_entries_at-says, group_entries_at-says}

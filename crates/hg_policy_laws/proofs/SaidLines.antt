@@ -20,7 +20,7 @@ use Rattle.hg_policy.specs.TenantSets.{just, either}
 use Rattle.hg_policy.specs.Groups.{Group, groups_in, named_in, named_at}
 use Rattle.hg_policy.specs.Lines.{Line, names_right, rights_in, line_in, with_line, lines_in}
 use Rattle.hg_policy.specs.Arenas.{Arenas, no_arenas, with_arena, with_named, admitted_in, admitted_at, arena_at, arenas_in}
-use Rattle.hg_policy_laws.specs.SaidLaws.{is_text, has_some, says, has_entry, stands_for, right_text, says_right, is_open_to}
+use Rattle.hg_policy.specs.SaidLaws.{is_text, has_some, says, has_entry, stands_for, right_text, says_right, is_open_to}
 use Rattle.hg_policy.proofs.Chains.{bind_at}
 use Rattle.hg_policy.proofs.ArenaEntries.{with_arena-is}
 use Rattle.hg_policy.proofs.SaidWords.{in_turn-says, list_any-push, text_other, says-read, says-name, has_some-read, rights_in-says, position-push}

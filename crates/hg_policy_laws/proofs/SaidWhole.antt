@@ -28,8 +28,8 @@ use Rattle.hg_policy.specs.Rights.{and_right}
 use Rattle.hg_policy.specs.Lines.{Line, with_right, rights_in, line_in, with_line, lines_in}
 use Rattle.hg_policy.specs.Arenas.{Arenas, no_arenas, with_arena, with_named, admitted_in, admitted_at, arena_at, arenas_in}
 use Rattle.hg_policy.specs.Heads.{group_entries_at, line_entries_at}
-use Rattle.hg_policy_laws.specs.VersionLaws.{keys_in}
-use Rattle.hg_policy_laws.specs.SaidLaws.{is_text, is_table, says, has_entry, right_text, has_only, is_none_or, each_entry, has_keys, is_tenant, is_tenant_or_group, is_right, is_line, is_group, is_arena, has_at_most, NothingIsPassedOver}
+use Rattle.hg_policy.specs.VersionLaws.{keys_in}
+use Rattle.hg_policy.specs.SaidLaws.{is_text, is_table, says, has_entry, right_text, has_only, is_none_or, each_entry, has_keys, is_tenant, is_tenant_or_group, is_right, is_line, is_group, is_arena, has_at_most, NothingIsPassedOver}
 use Rattle.hg_policy.proofs.Chains.{bind_at, in_turn-counts}
 use Rattle.hg_policy_laws.proofs.Said.{among_tenants}
 use Rattle.hg_policy.proofs.SaidWords.{in_turn-says, list_any-push, says-read, says-name, some_read, right_in-is, entries_at-says, group_entries_at-says, at_most-is}

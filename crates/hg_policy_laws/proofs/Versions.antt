@@ -12,7 +12,7 @@ use Rattle.hg_policy.specs.Faults.{Fault, ◌>>=◌, or_fault, missing, kind, ve
 use Rattle.hg_policy.specs.Values.{field_at, value_at, whole_in, whole_at, knows, first_unknown, none_unknown, known_keys, entries_in, entries_at, at_most, or_else}
 use Rattle.hg_policy.specs.Heads.{workers_in, workers_at, max_generation_at, group_entries_at, line_entries_at, heads_at}
 use Rattle.hg_policy.specs.Document.{top_in, top_at, tables_of, policy_at}
-use Rattle.hg_policy_laws.specs.VersionLaws.{keys_in, IsSameButVersion, VersionsAgree, VersionTwoIsVersionOne, VersionsAreTwo}
+use Rattle.hg_policy.specs.VersionLaws.{keys_in, IsSameButVersion, VersionsAgree, VersionTwoIsVersionOne, VersionsAreTwo}
 use Rattle.hg_policy.proofs.Chains.{bind_at}
 use Rattle.hg_policy.proofs.GrantTable.{ne-eqb}
 

@@ -1,4 +1,1 @@
-pub mod VersionLaws
-pub mod DocumentLaws
-pub mod SaidLaws
 pub mod LineLaws

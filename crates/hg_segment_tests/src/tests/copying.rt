@@ -29,7 +29,7 @@ fn copied_and_gone_over(rt: HostRuntime) {
     assert_eq!(&rt; (new.number(), new.arena(), new.greatest()), (5, 1, 2));
     assert_eq!(&rt; charge(&rt, &new, 7), 8);
     assert_eq!(&rt; new.standing(3, 0), Standing::Open(1, 7));
-    assert!(&rt; is_opened(&rt, &mut new, 3, (1, 7)));
+    assert_eq!(&rt; new.open_in(3, 7).map(|next| next.place.index), Some(1));
     assert_eq!(&rt; charge(&rt, &new, 7), 16);
     drop(new);
 }

@@ -12,7 +12,7 @@ use Rattle.hg_policy.specs.declared.key.Key.TheVariants as key
 use Rattle.hg_policy.specs.Values.{field_at, elements}
 use Rattle.hg_policy.specs.Names.{tenant_number, arena_number}
 use Rattle.hg_policy.specs.NameForm.{is_among}
-use Rattle.hg_policy_laws.specs.VersionLaws.{keys_in}
+use Rattle.hg_policy.specs.VersionLaws.{keys_in}
 use Rattle.hg_policy.specs.Document.{policy_at}
 
 -- the value is this text
