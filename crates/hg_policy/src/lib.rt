@@ -24,6 +24,6 @@ mod values;
 pub use document::read_policy;
 pub use fault::PolicyFault;
 pub use granted::Refusal;
-pub use key::{Counted, Key};
+pub use key::{Counted, Key, Level};
 pub use name_form::{is_name, is_name_byte};
 pub use policy::Policy;

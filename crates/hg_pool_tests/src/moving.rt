@@ -1,7 +1,7 @@
 //! Which segment stands first, and one that is told by plain words.
 
 use crate::tests::{part, put, segment, with_block};
-use hg_place::{Place, PlainWords, SlotWords, Standing, pack};
+use hg_place::{MAX_SEGMENTS, Place, PlainWords, SlotWords, Standing, pack};
 use hg_pool::Pool;
 use std::alloc::Global;
 use std::process::Abort;
@@ -13,10 +13,11 @@ fn words_of(
     pool: &mut Pool<PlainWords>,
     segment: u8,
 ) -> PlainWords {
+    assert!(rt; (segment as usize) < MAX_SEGMENTS);
+    let mut words = PlainWords::new(alloc, segment).expect(rt, "memory");
     if !pool.has(segment) {
         panic!(rt; "no such segment");
     }
-    let mut words = PlainWords::new(alloc, segment).expect(rt, "memory");
     pool.copy_words(segment, &mut words);
     words
 }

@@ -5,6 +5,13 @@ use hg_place::{PlainWords, SlotWords, Standing};
 use hg_segment::Segment;
 use std::process::Abort;
 
+/// What they record of the first place of a page, and its word.
+fn told(rt: &impl Abort, words: &PlainWords, page: u8) -> (Standing, u64) {
+    let place = first(page);
+    assert!(rt; place.segment == words.segment());
+    (words.standing(place), words.word(place))
+}
+
 /// The segment over these words, once they were told of it.
 fn gone_over(
     rt: &impl Abort,
@@ -13,8 +20,7 @@ fn gone_over(
 ) -> Segment<PlainWords> {
     assert!(rt; words.segment() == old.number());
     old.copy_words(&mut words);
-    assert_eq!(rt; words.standing(first(3)), Standing::Open(1, 7));
-    assert_eq!(rt; words.word(first(3)), live(rt, 1, 7));
+    assert_eq!(rt; told(rt, &words, 3), (Standing::Open(1, 7), live(rt, 1, 7)));
     old.rewrap(words)
 }
 
