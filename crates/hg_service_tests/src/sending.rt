@@ -34,11 +34,7 @@ const BLOCKS: u32 = 16;
 const TAKES: u32 = 40;
 
 /// So many blocks of the holder's.
-fn blocks<N: ServiceName, R: Abort>(
-    rt: &R,
-    alloc: Global,
-    holder: &mut Worker<N>,
-) -> Vec<Handle> {
+fn blocks<N: ServiceName, R: Abort>(rt: &R, alloc: Global, holder: &mut Worker<N>) -> Vec<Handle> {
     let mut blocks = Vec::new(alloc);
     for _ in 0..BLOCKS {
         blocks.push(block(rt, holder)).expect(rt, "memory");
