@@ -157,8 +157,10 @@ impl PlainWords {
         Ok(())
     }
 
-    /// Sets the record and the word of a place.
-    fn put(&mut self, place: Place, standing: Standing, word: u64)
+    /// Sets the record of a place and its word, which has to be one that a place so recorded may
+    /// have, whatever stood there: for words that are copied from another segment's. Nothing else
+    /// changes.
+    pub fn put(&mut self, place: Place, standing: Standing, word: u64)
         requires word { IsSlotWord word }
         requires fits { Fits standing word }
         ensures number { self.new.segment ≡ self.old.segment }

@@ -14,14 +14,8 @@ pub mod GrantTable
 pub mod TenantBits
 pub mod RightBits
 pub mod Parts
-pub mod PlainLines
-pub mod Versions
 pub mod LineTable
 pub mod Sets
 pub mod OwnRows
 pub mod SaidWords
-pub mod Said
-pub mod SaidLines
-pub mod SaidLaws
 pub mod Copies
-pub mod SaidWhole

@@ -17,7 +17,6 @@ pub mod Groups
 pub mod Lines
 pub mod Heads
 pub mod Document
-pub mod VersionLaws
 pub mod DocumentLaws
+pub mod VersionLaws
 pub mod SaidLaws
-pub mod LineLaws

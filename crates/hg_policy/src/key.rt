@@ -96,7 +96,7 @@ impl fmt::Display for Counted {
 
 /// The tables of a document, by the keys that they may have.
 #[derive(Clone, Copy, Debug, PartialEq, Eq)]
-pub(crate) enum Level {
+pub enum Level {
     /// The document, in version 1.
     Top,
     /// The document, in version 2.

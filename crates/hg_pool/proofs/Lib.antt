@@ -7,5 +7,6 @@ mod Calls
 mod Puts
 mod Nexts
 mod Settling
+mod Firsts
 pub mod Placed
 pub mod Replacing

@@ -2,6 +2,7 @@
 #![tactic(auto)]
 
 pub mod laws;
+mod moving;
 mod numbers;
 mod parting;
 mod pool;

@@ -2,6 +2,8 @@
 #![tactic(auto)]
 
 #[cfg(test)]
+mod moving;
+#[cfg(test)]
 mod seeded;
 #[cfg(test)]
 mod tests;

@@ -135,14 +135,14 @@ fn made(alloc: Global) -> Option<Segment<PlainWords>> {
 }
 
 /// The word of a block of tenant 7's of the first generation.
-fn live() -> u64
+pub fn live() -> u64
     ensures { IsLiveWord result }
 {
     pack(1, 7, true)
 }
 
 /// A segment that has a block in its first page, of tenant 7's.
-fn with_block(rt: &impl Abort, alloc: Global, number: u8) -> (Segment<PlainWords>, Place) {
+pub fn with_block(rt: &impl Abort, alloc: Global, number: u8) -> (Segment<PlainWords>, Place) {
     let mut one = segment(rt, alloc, number, 0);
     let class = class_of(512).expect(rt, "a class");
     assert!(rt; one.may_begin(0, class));
@@ -160,7 +160,7 @@ fn word(rt: &impl Abort, pool: &Pool<PlainWords>, place: Place) -> u64 {
 }
 
 /// Parts a place of a segment that is there.
-fn part(
+pub fn part(
     rt: &impl Abort,
     pool: &mut Pool<PlainWords>,
     place: Place,

@@ -5,6 +5,7 @@ mod begins;
 mod blocks;
 mod charges;
 mod classes;
+mod copying;
 mod lists;
 mod lives;
 mod page_classes;

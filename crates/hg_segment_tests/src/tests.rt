@@ -1,3 +1,4 @@
+mod copying;
 mod handles;
 mod lists;
 mod page;

@@ -1,5 +1,0 @@
-use Rattle.hg_policy.proofs.Parts.{documents_are_sound as law}
-use Rattle.hg_policy.proofs.laws.documents_are_sound.Goals as goal
-
-pub returns : goal.returns
-returns c = law

@@ -1,5 +1,0 @@
-use Rattle.hg_policy.proofs.SaidLaws.{lines_are_said as law}
-use Rattle.hg_policy.proofs.laws.lines_are_said.Goals as goal
-
-pub returns : goal.returns
-returns c = law

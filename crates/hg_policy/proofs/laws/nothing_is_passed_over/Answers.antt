@@ -1,5 +1,0 @@
-use Rattle.hg_policy.proofs.SaidWhole.{nothing_is_passed_over as law}
-use Rattle.hg_policy.proofs.laws.nothing_is_passed_over.Goals as goal
-
-pub returns : goal.returns
-returns c = law

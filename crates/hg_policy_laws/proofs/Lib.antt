@@ -1,0 +1,6 @@
+mod PlainLines
+mod Versions
+mod Said
+mod SaidLines
+mod SaidLaws
+mod SaidWhole

@@ -1,0 +1,5 @@
+use Rattle.hg_policy.proofs.Parts.{documents_are_sound as law}
+use Rattle.hg_policy_laws.proofs.laws.documents_are_sound.Goals as goal
+
+pub returns : goal.returns
+returns c = law
