@@ -28,7 +28,8 @@ module _ {S : Type 0} (number : S → ℕ) where
       (words copy : PlainWords)
       (first : option_map (λ (one : Kept S). number one.slots) (first_in old) ≡ Some n)
       (ready : words.segment ≡ n)
-      (copied : CopiedIn number records shows steps n old mid words copy) where
+      (copied : CopiedIn number records shows steps n old mid words copy)
+      (same_number : number copied.after.slots ≡ number copied.before.slots) where
     abbrev before : Kept S
     before = copied.before
 
@@ -47,7 +48,7 @@ module _ {S : Type 0} (number : S → ℕ) where
     before_numbered = ap (λ (k : Kept S). number k.slots) (sym same_one) ∙ one_first.2
 
     after_numbered : number copied.after.slots ≡ n
-    after_numbered = copied.same_number ∙ before_numbered
+    after_numbered = same_number ∙ before_numbered
 
     after_first : first_in mid ≡ Some copied.after
     after_first =

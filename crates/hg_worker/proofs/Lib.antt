@@ -16,3 +16,4 @@ pub mod FreedRecords
 pub mod Judged
 pub mod WorkerLaws
 pub mod Replaced
+pub mod Copied

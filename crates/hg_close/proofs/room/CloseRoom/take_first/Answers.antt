@@ -2,6 +2,7 @@ use Rattle.std.proofs.Common.{◌≡◌, ◌∙◌, slice_index_or, subst, sym}
 use Rattle.hg_pool.specs.Pooled.{IsPooled}
 use Rattle.hg_segment.specs.Parted.{plain_number}
 use Rattle.hg_worker.specs.Seats.{number_in, records_in}
+use Rattle.hg_worker.proofs.Copied.{same_number}
 use Rattle.hg_close.proofs.Moving.{copy_numbered, first_pooled, for_first, has_moved}
 use Rattle.hg_close.proofs.Ready.{taken_ready}
 use Rattle.hg_close.proofs.room.CloseRoom.take_first.Goals as goal
@@ -18,7 +19,9 @@ rewrap_next-requires-clause-first g c =
     c.requires.words (subst (λ n. c.index_mut.result.now
     ≡ slice_index_or c.args.self.now.words.items n c.index_mut.result.now) c.from.ensures
     c.index_mut.ensures.value) (sym c.take.ensures.value ∙ c.in-Some.is))
-    c.copy_words.ensures.copied
+    c.copy_words.ensures.copied (same_number _ c.copy_words.ensures.copied.before.slots
+    c.copy_words.ensures.copied.after.slots c.in-Some.words c.copy_words.new.words
+    c.copy_words.ensures.copied.copied)
 
 pub rewrap_next-requires-clause-new : goal.rewrap_next-requires-clause-new
 rewrap_next-requires-clause-new g c there =
@@ -29,7 +32,9 @@ rewrap_next-requires-clause-new g c there =
     c.requires.words (subst (λ n. c.index_mut.result.now
     ≡ slice_index_or c.args.self.now.words.items n c.index_mut.result.now) c.from.ensures
     c.index_mut.ensures.value) (sym c.take.ensures.value ∙ c.in-Some.is))
-    c.copy_words.ensures.copied) there)
+    c.copy_words.ensures.copied (same_number _ c.copy_words.ensures.copied.before.slots
+    c.copy_words.ensures.copied.after.slots c.in-Some.words c.copy_words.new.words
+    c.copy_words.ensures.copied.copied)) there)
 
 pub returns-clause-moved : goal.returns-clause-moved
 returns-clause-moved g c =
@@ -39,5 +44,7 @@ returns-clause-moved g c =
     c.requires.words (subst (λ n. c.index_mut.result.now
     ≡ slice_index_or c.args.self.now.words.items n c.index_mut.result.now) c.from.ensures
     c.index_mut.ensures.value) (sym c.take.ensures.value ∙ c.in-Some.is))
-    c.copy_words.ensures.copied c.rewrap_next.new.self.pool c.args.self.now.parts.pool
+    c.copy_words.ensures.copied (same_number _ c.copy_words.ensures.copied.before.slots
+    c.copy_words.ensures.copied.after.slots c.in-Some.words c.copy_words.new.words
+    c.copy_words.ensures.copied.copied) c.rewrap_next.new.self.pool c.args.self.now.parts.pool
     c.rewrap_next.new.to c.settled.ensures.right c.rewrap_next.ensures.moved
