@@ -111,15 +111,15 @@ module _ {X : Type 0} where
     fewer [] = (0, refl)
     fewer (y ∷ ys) = elim (cases_Bool (p y))
         as (λ _. (n : ℕ) × (n + length (filter p (y ∷ ys)) ≡ length (y ∷ ys))) [
-      | inl hit ↦ (
-          let r = fewer ys in
-          let same = ap (λ b. length (cond b (y ∷ filter p ys) (filter p ys))) hit in
-          (r.0, omega (arith, r.1, same)))
-      | inr miss ↦ (
-          let r = fewer ys in
-          let same = ap (λ b. length (cond b (y ∷ filter p ys) (filter p ys))) miss in
-          (r.0 + 1, omega (arith, r.1, same)))
-    ]
+          | inl hit ↦ (
+              let r = fewer ys in
+              let same = ap (λ b. length (cond b (y ∷ filter p ys) (filter p ys))) hit in
+              (r.0, omega (arith, r.1, same)))
+          | inr miss ↦ (
+              let r = fewer ys in
+              let same = ap (λ b. length (cond b (y ∷ filter p ys) (filter p ys))) miss in
+              (r.0 + 1, omega (arith, r.1, same)))
+        ]
 
   -- one more stands among the others
   pub in_inserted : (x : X) (old new : List X) → Inserts x old new → Contains new x
@@ -175,9 +175,11 @@ module _ {S : Type 0} (number : S → ℕ) where
   was_there pool n one c =
       let p : Kept S → Bool = λ k. not (is_numbered number n k) in
       let d = subst (λ ks. Contains ks one) (all_without pool n) c in
-      let other : p one ≡ true = passes p (all_in pool) one d in
-      (unfiltered p (all_in pool) one d, λ e. true≢false
-      (sym other ∙ ap not (eq-eqb (number one.slots) n e)))
+      let other : p one ≡ true = passes p (all_in pool) one d in (
+        unfiltered p (all_in pool) one d,
+        λ e. true≢false
+            (sym other ∙ ap not (eq-eqb (number one.slots) n e)),
+      )
 
   pub stays_there : (pool : Pooled S) (n : ℕ) (one : Kept S) → Contains (all_in pool) one
       → number one.slots ≢ n → Contains (all_in (without_segment number pool n)) one

@@ -13,15 +13,13 @@ pub more_ready : (words : List (Option PlainWords)) (n : ℕ) (one : PlainWords)
     → (k : ℕ) → k < n + 1 → HasWords (words ++ Some one ∷ []) k
 more_ready words n one all is ready k lt = elim (cases_lt k n) [
   | inl less ↦ (
-      let r = ready k less in
-      (
+      let r = ready k less in (
         r.0,
         get_or_append_left words (Some one ∷ []) None k (omega (arith, less, all)) ∙ r.1,
         r.2,
       ))
   | inr ge ↦ (
-      let same : k ≡ length words = omega (arith, lt, ge, all) in
-      (
+      let same : k ≡ length words = omega (arith, lt, ge, all) in (
         one,
         get_or_push words (Some one) None k (sym same),
         is ∙ sym all ∙ sym same,

@@ -166,10 +166,14 @@ module _ {S : Type 0} (number : S → ℕ) (records : S → List Standing) (poli
         subst (λ os. Inserts moved.now (all_in plain_number to) (os ++ to'.fresh)) (sym f.1)
         (Inserts-behind moved.now to.orphans to.fresh to'.fresh f.0))
         (λ (some : pool.orphans ≢ []).
-        let o = moved.orphan some in
-        (to.orphans, to.fresh, refl, ap (λ os. os ++ to'.fresh) o.0
-        ∙ ap (λ fs. (to.orphans ++ moved.now ∷ []) ++ fs) o.1
-        ∙ append_assoc to.orphans (moved.now ∷ []) to.fresh))
+        let o = moved.orphan some in (
+          to.orphans,
+          to.fresh,
+          refl,
+          ap (λ os. os ++ to'.fresh) o.0
+              ∙ ap (λ fs. (to.orphans ++ moved.now ∷ []) ++ fs) o.1
+              ∙ append_assoc to.orphans (moved.now ∷ []) to.fresh,
+        ))
         (empty_or pool.orphans)
 
     still : (k : ℕ) → IsPooled plain_number to k → IsPooled plain_number to' k
@@ -191,8 +195,7 @@ module _ {S : Type 0} (number : S → ℕ) (records : S → List Standing) (poli
     -- as the policy has it
     now_of : IsOf plain_number policy moved.now
     now_of =
-        let c = under.from moved.one one_there in
-        (
+        let c = under.from moved.one one_there in (
           ap (arena_of policy) moved.plain.number_is ∙ given.arena moved.one c
               ∙ ap Some (sym moved.plain.rest.arena),
           moved.plain.rest.greatest ∙ given.greatest moved.one c,

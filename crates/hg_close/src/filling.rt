@@ -22,7 +22,8 @@ impl CloseRoom {
             ≡ slice_set self.old.parts.remotes.items segment list.old }
         ensures other { slice_get self.old.parts.remotes.items segment ≡ Some list.new }
         ensures rest { self.new ≡ record self.old {
-            parts = record self.old.parts { remotes = self.new.parts.remotes } } }
+          parts = record self.old.parts { remotes = self.new.parts.remotes };
+        } }
         ensures unfilled { IsUnfilled self.old → IsUnfilled self.new }
     {
         mem::swap(&mut self.parts.remotes[usize::from(segment)], list);
@@ -55,8 +56,9 @@ impl CloseRoom {
         ensures right { IsRight plain_number self.new.parts.pool }
         ensures words { self.new.words.items ≡ slice_set self.old.words.items number None }
         ensures rest { self.new ≡ record self.old {
-            words = self.new.words;
-            parts = record self.old.parts { pool = self.new.parts.pool } } }
+          words = self.new.words;
+          parts = record self.old.parts { pool = self.new.parts.pool };
+        } }
     {
         pool.settled();
         let Some(mut words) = self.words[usize::from(number)].take() else {

@@ -52,9 +52,9 @@ module _ {S : Type 0} (number : S → ℕ) where
       let both = sym (map-append (λ k. cond (is_numbered number n k) after k) pool.orphans
       pool.fresh) in
       let was : (k : Kept S)
-          → Contains ((with_segment number pool n after).orphans
-          ++ (with_segment number pool n after).fresh) k
-          → (after ≡ k) ⊎ Contains (pool.orphans ++ pool.fresh) k =
+      → Contains ((with_segment number pool n after).orphans
+      ++ (with_segment number pool n after).fresh) k
+      → (after ≡ k) ⊎ Contains (pool.orphans ++ pool.fresh) k =
       λ k c. replaced_cases (pool.orphans ++ pool.fresh) after k n
       (subst (λ ks. Contains ks k) both c) in
       record {
