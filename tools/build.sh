@@ -10,7 +10,7 @@ made=$(dirname -- "$program")
 record=$made/made_from # what the program was made from; its time is that before the build
 log=$made/log          # what the last build said
 job='' clock='' scratch='' copy='' began='' store=''
-takes='some 30 minutes on two quiet cores, and longer on busy ones'
+takes='25 to 30 minutes on quiet cores, and longer on busy ones'
 
 need_rt() {
     command -v rt >/dev/null 2>&1 || stop 127 "the command rt of the Rattle kit is not on the PATH"
