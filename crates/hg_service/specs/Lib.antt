@@ -3,3 +3,5 @@ pub mod Sent
 pub mod Places
 pub mod Behind
 pub mod Ready
+pub mod Back
+pub mod Unclosed

@@ -15,12 +15,15 @@ use std::alloc::{AllocError, Global};
 /// that is dropped takes along what stands in it.
 #[derive(Drop)]
 pub struct CallerLocked<N: ServiceName> {
+    /// That of the service.
+    pub policy: Policy,
     /// By number.
     pub workers: Vec<Worker<N>>,
     /// By segment.
     pub lists: Vec<KeptList<N>>,
     /// The segments that nobody holds: at first all of them.
     pub pool: KeptPool<N>,
+    ghost serves: { policy ≡ N.policy },
 }
 
 impl<N: ServiceName> CallerLocked<N> {
@@ -35,12 +38,13 @@ impl<N: ServiceName> CallerLocked<N> {
         requires table { table_of table ≡ N.table }
         requires segments { table.segments ≡ length policy.segments }
         requires workers { table.workers ≡ policy.workers }
+        ensures policy { IfOk result (λ parts. parts.policy ≡ policy) }
         ensures workers { IfOk result (λ parts. AreNew policy.workers parts.workers.items) }
         ensures lists { IfOk result (λ parts.
             AreUnsent (length policy.segments) parts.lists.items) }
         ensures pool { IfOk result (λ parts.
             AreFresh policy 0 (length policy.segments) parts.pool.pool) }
     {
-        opened(alloc, &policy, table)
+        opened(alloc, policy, table)
     }
 }

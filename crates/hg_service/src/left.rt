@@ -1,4 +1,4 @@
-ghost use Rattle.std.specs.Prelude.{◌≡◌, length, IfOk};
+ghost use Rattle.std.specs.Prelude.{◌≡◌, ◌<◌, None, length, is_some, slice_index_or, IfOk};
 ghost use Rattle.std.specs.Box.{boxed_slice_items};
 ghost use Rattle.hg_service.specs.Places.{AreTheirs};
 
@@ -30,6 +30,15 @@ impl<N: ServiceName> Left<N> {
     pub(crate) fn put(&mut self, worker: Worker<N>) {
         let number = usize::from(worker.number());
         self.workers[number] = Some(worker);
+    }
+
+    /// Whether the worker of a number has left.
+    pub(crate) fn has(&self, number: u8) -> bool
+        requires { number < N.policy.workers }
+        ensures { result
+            ≡ is_some (slice_index_or (boxed_slice_items self.now.workers) number None) }
+    {
+        self.workers[usize::from(number)].is_some()
     }
 }
 

@@ -3,14 +3,18 @@
 #![tactic(auto)]
 
 mod caller_locked;
+mod closing_parts;
+mod closing_service;
 mod kept_list;
 mod left;
 mod opening;
 mod service;
 mod shared;
+mod unclosed;
 mod worker;
 
 pub use caller_locked::CallerLocked;
 pub use kept_list::KeptList;
 pub use service::Service;
+pub use unclosed::{Unclosed, UnclosedParts};
 pub use worker::Worker;

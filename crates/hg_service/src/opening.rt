@@ -20,24 +20,26 @@ use std::alloc::{AllocError, Global};
 /// The parts of a new service.
 pub(crate) fn opened<N: ServiceName>(
     alloc: Global,
-    policy: &Policy,
+    policy: Policy,
     table: LifeTable,
 ) -> Result<CallerLocked<N>, AllocError>
-    requires policy { policy.now ≡ N.policy }
+    requires policy { policy ≡ N.policy }
     requires table { table_of table ≡ N.table }
-    requires segments { table.segments ≡ length policy.now.segments }
-    requires workers { table.workers ≡ policy.now.workers }
-    ensures workers { IfOk result (λ parts. AreNew policy.now.workers parts.workers.items) }
+    requires segments { table.segments ≡ length policy.segments }
+    requires workers { table.workers ≡ policy.workers }
+    ensures policy { IfOk result (λ parts. parts.policy ≡ policy) }
+    ensures workers { IfOk result (λ parts. AreNew policy.workers parts.workers.items) }
     ensures lists { IfOk result (λ parts.
-        AreUnsent (length policy.now.segments) parts.lists.items) }
+        AreUnsent (length policy.segments) parts.lists.items) }
     ensures pool { IfOk result (λ parts.
-        AreFresh policy.now 0 (length policy.now.segments) parts.pool.pool) }
+        AreFresh policy 0 (length policy.segments) parts.pool.pool) }
 {
     let Seats { segments, workers } = table.open::<N>(alloc)?;
-    let pool = fresh_pool(alloc, policy, segments)?;
-    let lists = unsent_lists(alloc, policy)?;
-    let workers = new_workers(alloc, policy, workers)?;
+    let pool = fresh_pool(alloc, &policy, segments)?;
+    let lists = unsent_lists(alloc, &policy)?;
+    let workers = new_workers(alloc, &policy, workers)?;
     Ok(CallerLocked {
+        policy,
         workers,
         lists,
         pool,

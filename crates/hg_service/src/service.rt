@@ -21,10 +21,10 @@ use std::sync::{Arc, Mutex};
 /// will ever have is taken when it opens.
 #[derive(Drop)]
 pub struct Service<N: ServiceName> {
-    policy: Policy,
+    pub(crate) policy: Policy,
     pub(crate) shared: Arc<Shared<N>, Global>,
     /// By number, those that weren't taken.
-    workers: BoxedSlice<Option<Worker<N>>>,
+    pub(crate) workers: BoxedSlice<Option<Worker<N>>>,
     ghost serves: { policy ≡ N.policy },
     ghost all: { length (boxed_slice_items workers) ≡ N.policy.workers },
     ghost ready: { AreReady (boxed_slice_items workers) },
@@ -42,8 +42,9 @@ impl<N: ServiceName> Service<N> {
         ensures ready { IfOk result (λ service. (number : ℕ) → number < policy.workers
             → is_ready (boxed_slice_items service.workers) number ≡ true) }
     {
-        let parts = opened(alloc, &policy, table)?;
+        let parts = opened(alloc, policy, table)?;
         let CallerLocked {
+            policy,
             workers,
             lists,
             pool,

@@ -5,8 +5,8 @@ use crate::left::Left;
 use hg_worker::{KeptPool, ServiceName};
 use std::sync::Mutex;
 
-/// What the workers of the service N share, each part behind a lock of its own. A call holds one of
-/// these at a time, and takes no other under it.
+/// What the workers of the service N share, each part behind a lock of its own. A worker's call holds
+/// one of these at a time, and takes no other under it; closing takes the others under the pool's.
 #[derive(Drop)]
 pub(crate) struct Shared<N: ServiceName> {
     /// By segment, what was sent to it.

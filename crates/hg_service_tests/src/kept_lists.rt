@@ -58,6 +58,7 @@ fn tried_on<N: ServiceName>(rt: &impl Abort, alloc: Global, policy: Policy, tabl
 {
     let parts = CallerLocked::<N>::open(alloc, policy, table).expect(rt, "parts");
     let CallerLocked {
+        policy: _,
         mut workers,
         mut lists,
         mut pool,

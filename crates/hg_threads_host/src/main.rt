@@ -1,14 +1,16 @@
 //! A host in Rattle with two threads: a worker of one service serves each. One thread gives a block
-//! to the other, which frees it, while the first goes on with blocks of its own.
+//! to the other, which frees it, while the first goes on with blocks of its own. Then both stop, the
+//! service closes, and one thread goes on in a core.
 #![tactic(auto)]
 
 ghost use Rattle.std.specs.Prelude.{◌≡◌, length};
 ghost use Rattle.hg_table.specs.Named.{table_of};
 
-use hg_machine::Answer;
+use hg_core::Core;
+use hg_machine::{Answer, Event};
 use hg_place::{Actor, Handle};
 use hg_policy::{Policy, read_policy};
-use hg_service::{Service, Worker};
+use hg_service::{Service, Unclosed, Worker};
 use hg_table::LifeTable;
 use hg_worker::ServiceName;
 use std::alloc::Global;
@@ -79,6 +81,43 @@ fn served<R: Print + Threads + Wait + Sync, N: ServiceName + Send + Sync>(
     println!(rt; "take: {:?}", one.take(rt, 0))
 }
 
+/// One thread goes on: the first worker of the core holds what the pool has, and reads a block that
+/// was given out before.
+fn went_on<R: Print>(rt: &R, core: Core, block: Handle) -> io::Result<()> {
+    let mut core = core;
+    if core.policy().workers() == 0 {
+        return println!(rt; "nobody is there");
+    }
+    let refill = Event::Refill { arena: MAIN };
+    println!(rt; "closed; refill: {:?}", core.step(0, refill))?;
+    let read = Event::Read {
+        actor: ALICE,
+        handle: block,
+        index: 0,
+    };
+    println!(rt; "{block} holds {:?}", core.step(0, read))
+}
+
+/// The service closes, and its core goes on.
+fn closed<R: Print + Wait, N: ServiceName>(
+    rt: &R,
+    alloc: Global,
+    service: Service<N>,
+    block: Handle,
+) -> io::Result<()> {
+    match service.close(rt, alloc) {
+        Ok(core) => went_on(rt, core, block),
+        Err(Unclosed::Running(service, fault)) => {
+            drop(service);
+            println!(rt; "it goes on: {fault:?}")
+        }
+        Err(Unclosed::Lost(place, parts)) => {
+            drop(parts);
+            println!(rt; "{place:?} is lost")
+        }
+    }
+}
+
 /// Opens the service that N names, and takes its two workers.
 fn host<R: Print + Threads + Wait + Sync, N: ServiceName + Send + Sync>(
     rt: &R,
@@ -96,9 +135,14 @@ fn host<R: Print + Threads + Wait + Sync, N: ServiceName + Send + Sync>(
         return println!(rt; "no such worker");
     };
     let ended = served(rt, &mut one, &mut other);
+    let last = kept(&mut one, 7);
     one.leave(rt);
     other.leave(rt);
-    ended
+    ended?;
+    let Some(block) = last else {
+        return println!(rt; "no block");
+    };
+    closed(rt, alloc, service, block)
 }
 
 fn main(rt: HostRuntime) -> io::Result<()> {

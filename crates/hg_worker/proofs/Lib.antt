@@ -15,3 +15,5 @@ pub mod Records
 pub mod FreedRecords
 pub mod Judged
 pub mod WorkerLaws
+pub mod Replaced
+pub mod Copied

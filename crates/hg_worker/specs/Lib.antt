@@ -12,3 +12,4 @@ pub mod Listing
 pub mod Names
 pub mod Workers
 pub mod WorkerLaws
+pub mod Missing

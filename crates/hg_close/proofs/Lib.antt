@@ -1,0 +1,7 @@
+mod Founds
+mod First
+mod Underway
+mod Quiet
+mod Ready
+mod Moving
+mod Filled

@@ -1,0 +1,3 @@
+pub mod Rooms
+pub mod Moved
+pub mod Closed

@@ -1,0 +1,153 @@
+//! The parts of a service in the hands of a host that locks by itself, which gives them back.
+
+use crate::services::{ALICE, MAIN, PartsTrial, block, refilled, told, tried_parts};
+use hg_close::CloseFault;
+use hg_core::Core;
+use hg_machine::{Answer, Event};
+use hg_place::Handle;
+use hg_service::{CallerLocked, KeptList, UnclosedParts};
+use hg_worker::ServiceName;
+use std::alloc::Global;
+use std::process::Abort;
+
+fn holds<R: Abort, T: PartsTrial>(rt: &R, alloc: Global, trial: &T) {
+    assert!(rt; tried_parts(rt, alloc, trial).is_some());
+}
+
+/// The core that the parts become.
+fn closed<N: ServiceName, R: Abort>(rt: &R, alloc: Global, parts: CallerLocked<N>) -> Core {
+    let Ok(core) = parts.close(alloc) else {
+        panic!(rt; "they don't close")
+    };
+    core
+}
+
+/// Parts that don't become one, for this reason.
+fn unclosed<N: ServiceName, R: Abort>(
+    rt: &R,
+    alloc: Global,
+    parts: CallerLocked<N>,
+    wanted: CloseFault,
+) -> CallerLocked<N> {
+    let Err(UnclosedParts::Running(parts, fault)) = parts.close(alloc) else {
+        panic!(rt; "they are given up")
+    };
+    assert_eq!(rt; fault, wanted);
+    parts
+}
+
+/// Worker 0 holds segment 0, and worker 1 has a block of it in hand.
+fn parted<N: ServiceName, R: Abort>(rt: &R, parts: &mut CallerLocked<N>) -> Handle {
+    assert_eq!(rt; (parts.workers.len(), parts.lists.len()), (2, 3));
+    let one = &mut parts.workers[0];
+    assert_eq!(rt; one.refill_from(MAIN, &mut parts.pool), Answer::Refilled(0));
+    let x = block(rt, one);
+    assert_eq!(rt; parts.workers[1].free(ALICE, x), Answer::Parted);
+    x
+}
+
+/// Worker 0 gives segment 0 up.
+fn abandoned<N: ServiceName, R: Abort>(rt: &R, parts: &mut CallerLocked<N>) {
+    assert!(rt; parts.workers.len() > 0);
+    let one = &mut parts.workers[0];
+    assert_eq!(rt; one.abandon_to(0, &mut parts.pool), Answer::Done);
+}
+
+/// Worker 1 sends its block to the list of segment 0.
+fn delivered<N: ServiceName, R: Abort>(rt: &R, parts: &mut CallerLocked<N>) {
+    assert!(rt; parts.workers.len() > 1 && parts.lists.len() > 0);
+    let other = &mut parts.workers[1];
+    assert_eq!(rt; parts.lists[0].deliver(other), Answer::Done);
+}
+
+struct GivenBack;
+
+impl PartsTrial for GivenBack {
+    fn go<N: ServiceName, R: Abort>(&self, rt: &R, alloc: Global, parts: CallerLocked<N>) {
+        let mut parts = parts;
+        let _ = parted(rt, &mut parts);
+        let mut parts = unclosed(rt, alloc, parts, CloseFault::StillHeld(0));
+        abandoned(rt, &mut parts);
+        let mut parts = unclosed(rt, alloc, parts, CloseFault::StillOut(1));
+        delivered(rt, &mut parts);
+        let mut core = closed(rt, alloc, parts);
+        refilled(rt, &mut core);
+        let event = Event::Take { segment: 0 };
+        assert_eq!(rt; told(rt, &mut core, 0, event), Answer::Taken(1));
+        drop(core);
+    }
+}
+
+/// A worker has left where it is given back, holds nothing and has nothing in hand; what was sent
+/// is there in the core.
+#[test]
+fn parts_close(rt: HostRuntime) {
+    holds(&rt, rt.alloc(), &GivenBack);
+}
+
+struct WorkerKept;
+
+impl PartsTrial for WorkerKept {
+    fn go<N: ServiceName, R: Abort>(&self, rt: &R, alloc: Global, parts: CallerLocked<N>) {
+        let mut parts = parts;
+        let kept = parts.workers.pop().expect(rt, "a worker");
+        assert_eq!(rt; kept.number(), 1);
+        let mut parts = unclosed(rt, alloc, parts, CloseFault::StillOut(1));
+        parts.workers.push(kept).expect(rt, "room");
+        drop(closed(rt, alloc, parts));
+    }
+}
+
+/// A worker that isn't given back is out.
+#[test]
+fn kept_worker_is_out(rt: HostRuntime) {
+    holds(&rt, rt.alloc(), &WorkerKept);
+}
+
+struct ListKept;
+
+impl PartsTrial for ListKept {
+    fn go<N: ServiceName, R: Abort>(&self, rt: &R, alloc: Global, parts: CallerLocked<N>) {
+        let mut parts = parts;
+        let x = parted(rt, &mut parts);
+        delivered(rt, &mut parts);
+        abandoned(rt, &mut parts);
+        let another = KeptList::new(alloc, 0).expect(rt, "a list");
+        assert!(rt; parts.lists.len() > 0);
+        parts.lists[0] = another;
+        let Err(UnclosedParts::Lost(place, lost)) = parts.close(alloc) else {
+            panic!(rt; "nothing is lost")
+        };
+        assert_eq!(rt; place, x.place);
+        drop(lost);
+    }
+}
+
+/// A block on a list that isn't given back is lost.
+#[test]
+fn block_on_a_kept_list_is_lost(rt: HostRuntime) {
+    holds(&rt, rt.alloc(), &ListKept);
+}
+
+struct ListsTurned;
+
+impl PartsTrial for ListsTurned {
+    fn go<N: ServiceName, R: Abort>(&self, rt: &R, alloc: Global, parts: CallerLocked<N>) {
+        let mut parts = parts;
+        let _ = parted(rt, &mut parts);
+        delivered(rt, &mut parts);
+        abandoned(rt, &mut parts);
+        parts.lists.reverse();
+        let mut core = closed(rt, alloc, parts);
+        refilled(rt, &mut core);
+        let event = Event::Take { segment: 0 };
+        assert_eq!(rt; told(rt, &mut core, 0, event), Answer::Taken(1));
+        drop(core);
+    }
+}
+
+/// A list counts for its own segment, wherever it stands.
+#[test]
+fn lists_come_in_any_order(rt: HostRuntime) {
+    holds(&rt, rt.alloc(), &ListsTurned);
+}
