@@ -1,18 +1,17 @@
 //! The calls of a block's life, on slot words of one thread and on those of a table.
 
-ghost use Rattle.std.specs.Prelude.{◌≡◌, IfSome, length};
+ghost use Rattle.std.specs.Prelude.{◌≡◌, length};
 ghost use Rattle.hg_place.specs.Lives.{IsLiveWord, word_generation};
 ghost use Rattle.hg_table.specs.Named.{table_of};
 
-use crate::policies::policy;
-use hg_place::{Place, PlainWords, SlotWords, Standing, pack};
+use crate::seats::{last_seats, table};
+use hg_place::{Handle, Place, PlainWords, SlotWords, Standing, pack};
 use hg_segment::Segment;
 use hg_size::{block_words, class_of};
-use hg_table::{LifeTable, Seats, TableName};
+use hg_table::{LifeTable, TableName};
 use std::alloc::Global;
 use std::marker::Brand;
 use std::process::Abort;
-use std::test::Fail;
 
 /// What each call of a block's life answered.
 #[derive(Debug, Drop, PartialEq, Eq)]
@@ -26,14 +25,12 @@ struct Answers {
     next_word: u64,
 }
 
-/// The word of a live block of tenant 7.
-pub fn live(generation: u32) -> Option<u64>
-    ensures { IfSome result IsLiveWord }
+/// The word of a live block.
+pub fn live(rt: &impl Abort, generation: u32, owner: u8) -> u64
+    ensures { IsLiveWord result }
 {
-    if generation == 0 {
-        return None;
-    }
-    Some(pack(generation, 7, true))
+    assert!(rt; generation > 0 && owner < 64);
+    pack(generation, owner, true)
 }
 
 /// Writes a word of a block, and reads it.
@@ -66,21 +63,38 @@ fn free<S: SlotWords>(
     Some(segment.close_here(place, expected))
 }
 
-/// The calls of one block's life, and the first of the next.
-fn life<S: SlotWords>(segment: &mut Segment<S>) -> Option<Answers> {
+/// Gives page 3 the class of blocks of two words, if it may get it.
+fn begin<S: SlotWords>(segment: &mut Segment<S>) -> Option<()> {
     let class = class_of(2)?;
     if !segment.may_begin(3, class) {
         return None;
     }
     segment.assign_page(3, class);
-    let first = segment.open_in(3, 7)?;
+    Some(())
+}
+
+/// Gives out a place of page 3 to tenant 7.
+fn open<S: SlotWords>(segment: &mut Segment<S>) -> Option<Handle> {
+    segment.open_in(3, 7)
+}
+
+/// The word of a place.
+fn look<S: SlotWords>(segment: &mut Segment<S>, place: Place) -> u64 {
+    segment.look(place.page, place.index)
+}
+
+/// The calls of one block's life, and the first of the next. What each does to a segment stands in
+/// no clause here, so that none of it is carried from call to call.
+fn life<S: SlotWords>(rt: &impl Abort, segment: &mut Segment<S>) -> Option<Answers> {
+    begin(segment)?;
+    let first = open(segment)?;
     let place = first.place;
-    let expected = live(first.generation)?;
-    let word = segment.look(place.page, place.index);
+    let expected = live(rt, first.generation, 7);
+    let word = look(segment, place);
     let read = write_read(segment, place, 88)?;
     let closed = free(segment, place, expected)?;
     let closed_again = free(segment, place, expected)?;
-    let next = segment.open_in(3, 7)?;
+    let next = open(segment)?;
     Some(Answers {
         generation: first.generation,
         word,
@@ -88,24 +102,21 @@ fn life<S: SlotWords>(segment: &mut Segment<S>) -> Option<Answers> {
         closed,
         closed_again,
         next_generation: next.generation,
-        next_word: segment.look(next.place.page, next.place.index),
+        next_word: look(segment, next.place),
     })
 }
 
 /// The same calls on the seat of a segment.
-fn on_seat<N: TableName, R: Abort>(rt: &R, alloc: Global, table: LifeTable) -> Result<(), Fail>
+fn on_seat<N: TableName>(rt: &impl Abort, alloc: Global, table: LifeTable)
     requires { table_of table ≡ N.table }
 {
-    let Seats {
-        mut segments,
-        workers: _,
-    } = table.open::<N>(alloc)?;
-    let seat = segments.pop().ok_or("a segment")?;
+    let (seat, worker) = last_seats::<N>(rt, alloc, table);
     let number = seat.segment();
     assert!(rt; number == 1);
-    let mut segment = Segment::new(alloc, number, 0, 9, seat)?;
-    assert_eq!(rt; life(&mut segment).ok_or("a life")?, expected());
-    Ok(())
+    let mut segment = Segment::new(alloc, number, 0, 9, seat).expect(rt, "memory");
+    assert_eq!(rt; life(rt, &mut segment), Some(expected()));
+    drop(segment);
+    drop(worker);
 }
 
 /// What each call answers.
@@ -124,10 +135,11 @@ fn expected() -> Answers {
 // A block is given out, looked at, written, read, freed, freed in vain, and the next one given out:
 // the answers are the same on words of one thread and on the words of a table.
 #[test]
-fn both_words(rt: HostRuntime) -> Result<(), Fail> {
+fn both_words(rt: HostRuntime) {
     let alloc = rt.alloc();
-    let plain = PlainWords::new(alloc, 1)?;
-    let mut segment = Segment::new(alloc, 1, 0, 9, plain)?;
-    assert_eq!(rt; life(&mut segment).ok_or("a life")?, expected());
-    on_seat::<Brand, _>(&rt, alloc, LifeTable::new(alloc, &policy(alloc)?)?)
+    let plain = PlainWords::new(alloc, 1).expect(&rt, "memory");
+    let mut segment = Segment::new(alloc, 1, 0, 9, plain).expect(&rt, "memory");
+    assert_eq!(rt; life(&rt, &mut segment), Some(expected()));
+    drop(segment);
+    on_seat::<Brand>(&rt, alloc, table(&rt, alloc));
 }

@@ -1,18 +1,20 @@
 //! A heap over the seat of a segment meets a worker that has parted one of its blocks.
 
-ghost use Rattle.std.specs.Prelude.{◌≡◌};
+ghost use Rattle.std.specs.Prelude.{◌≡◌, ◌+◌, ◌*◌};
+ghost use Rattle.hg_place.specs.declared.geometry.TheConstants.{SEGMENT_PLACES};
 ghost use Rattle.hg_table.specs.Named.{table_of};
 
+use crate::both_words::live;
 use crate::policies::policy;
+use crate::seats::{last_seats, table};
+use crate::seeded::adopt;
 use hg_heap::Heap;
-use hg_place::{Actor, Place, SlotWords, pack};
+use hg_place::{Actor, Handle, Place, SlotWords};
 use hg_policy::Policy;
-use hg_segment::Segment;
-use hg_table::{LifeTable, Seats, SegmentSeat, TableName, WorkerSeat};
+use hg_table::{LifeTable, SegmentSeat, TableName, WorkerSeat};
 use std::alloc::Global;
 use std::marker::Brand;
 use std::process::Abort;
-use std::test::Fail;
 
 /// The word of a place, as the heap and a worker see it together.
 fn meet<N: TableName>(
@@ -25,47 +27,60 @@ fn meet<N: TableName>(
     heap.meet(worker, place)
 }
 
+/// A block of segment 1.
+fn given<S: SlotWords>(rt: &impl Abort, heap: &mut Heap<S>, policy: &Policy) -> Handle
+    ensures { result.place.segment ≡ 1 }
+{
+    assert!(rt; heap.is_of(policy));
+    let handle = heap
+        .alloc(policy, Actor(0), 0, 24)
+        .ok()
+        .expect(rt, "a block");
+    assert!(rt; handle.place.segment == 1);
+    handle
+}
+
+/// Whether a word of a block can be read.
+fn is_read<S: SlotWords>(heap: &mut Heap<S>, policy: &Policy, handle: Handle) -> bool {
+    heap.read(policy, Actor(0), handle, 0).is_ok()
+}
+
 /// A heap gives out a block, and a worker parts it; the two meet before and after.
-fn met<N: TableName, R: Abort>(
-    rt: &R,
-    alloc: Global,
+fn parts<N: TableName>(
+    rt: &impl Abort,
+    heap: &mut Heap<SegmentSeat<N>>,
+    worker: &mut WorkerSeat<N>,
     policy: &Policy,
-    table: LifeTable,
-) -> Result<(), Fail>
+)
+    requires { N.table.words ≡ 2 * SEGMENT_PLACES + 1 }
+{
+    let handle = given(rt, heap, policy);
+    let place = handle.place;
+    let live = live(rt, handle.generation, 0);
+    assert_eq!(rt; meet(rt, heap, worker, place), live);
+    assert_eq!(rt; worker.part(place, live), Ok(()));
+    assert_eq!(rt; meet(rt, heap, worker, place), live & !1);
+    assert!(rt; !is_read(heap, policy, handle));
+}
+
+/// A heap over the seat of a segment, and the seat of a worker.
+fn met<N: TableName>(rt: &impl Abort, alloc: Global, policy: &Policy, table: LifeTable)
     requires { table_of table ≡ N.table }
 {
-    let Seats {
-        mut segments,
-        mut workers,
-    } = table.open::<N>(alloc)?;
-    assert_eq!(rt; segments.len(), 2);
-    let mut worker = workers.pop().ok_or("a worker")?;
-    let seat = segments.pop().ok_or("a segment")?;
-    let number = seat.segment();
-    assert!(rt; number == 1);
-    let segment = Segment::new(alloc, number, 0, policy.max_generation(), seat)?;
-    let mut heap = Heap::new(alloc)?;
-    assert!(rt; !heap.holds(number));
-    heap.adopt(segment);
-    assert!(rt; heap.is_of(policy));
-    let given = heap.alloc(policy, Actor(0), 0, 24);
-    let handle = given.ok().ok_or("a block")?;
-    let place = handle.place;
-    assert!(rt; place.segment == 1);
-    let live = pack(handle.generation, 0, true);
-    assert_eq!(rt; meet(rt, &mut heap, &mut worker, place), live);
-    assert_eq!(rt; worker.part(place, live), Ok(()));
-    assert_eq!(rt; meet(rt, &mut heap, &mut worker, place), live - 1);
-    assert!(rt; heap.read(policy, Actor(0), handle, 0).is_err());
-    Ok(())
+    let (seat, mut worker) = last_seats::<N>(rt, alloc, table);
+    let mut heap = Heap::new(alloc).expect(rt, "memory");
+    adopt(rt, alloc, &mut heap, policy, seat);
+    parts(rt, &mut heap, &mut worker, policy);
+    drop(heap);
+    drop(worker);
 }
 
 // A worker parts a block of a heap: both see its freed word where they meet, and the heap reads it
 // no more.
 #[test]
-fn heap_meets(rt: HostRuntime) -> Result<(), Fail> {
+fn heap_meets(rt: HostRuntime) {
     let alloc = rt.alloc();
-    let policy = policy(alloc)?;
-    let table = LifeTable::new(alloc, &policy)?;
-    met::<Brand, _>(&rt, alloc, &policy, table)
+    let policy = policy(alloc).ok().expect(&rt, "a policy");
+    met::<Brand>(&rt, alloc, &policy, table(&rt, alloc));
+    drop(policy);
 }

@@ -10,6 +10,8 @@ mod policies;
 #[cfg(test)]
 mod refused;
 #[cfg(test)]
+mod seats;
+#[cfg(test)]
 mod seeded;
 #[cfg(test)]
 mod two_parts;

@@ -197,7 +197,7 @@ fn calls<S: SlotWords>(rt: &impl Abort, alloc: Global, heap: &mut Heap<S>, polic
 }
 
 /// A heap gets the segment of slot words, of whose places none was ever given out.
-fn adopt<S: SlotWords + Drop>(
+pub fn adopt<S: SlotWords + Drop>(
     rt: &impl Abort,
     alloc: Global,
     heap: &mut Heap<S>,

@@ -74,7 +74,7 @@ fn parted<N: TableName + Send + Sync, R: Threads + Abort + Sync>(
     let mut two = workers.pop().ok_or("worker 0")?;
     let place = place();
     let generation = open(rt, &mut seat, place);
-    let expected = live(generation).ok_or("a generation")?;
+    let expected = live(rt, generation, 7);
     assert_eq!(rt; take(rt, &mut seat, place), Err(expected));
     let (first, second) = join(
         rt,

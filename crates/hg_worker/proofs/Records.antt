@@ -1,6 +1,6 @@
 -- Which records of places stay, and which places go home.
 use Rattle.std.proofs.Common.{◌≡◌, ◌≢◌, ℕ, ◌%◌, inl, inr, true, false, List, []}
-use Rattle.std.proofs.Common.{◌∷◌, ◌++◌, map, Some, None, find, refl, sym, ap, ◌∙◌}
+use Rattle.std.proofs.Common.{◌∷◌, ◌++◌, map, Some, None, is_some, find, refl, sym, ap, ◌∙◌}
 use Rattle.std.proofs.Common.{arith, ⊎_elim}
 use Rattle.std.specs.Prelude.{Option, option_map, Contains}
 use Rattle.std.specs.Option.{option_or}
@@ -26,6 +26,7 @@ use Rattle.hg_heap.proofs.Founds.{map_same, numbers}
 use Rattle.hg_table.specs.declared.view.Part.{Part}
 use Rattle.hg_worker.specs.Records.{record_in, GoHome, IsHomeAlone}
 use Rattle.hg_worker.proofs.Allocs.{slots_in}
+use Rattle.hg_worker.proofs.Away.{some_mapped}
 use Rattle.hg_worker.proofs.Steps.{none_in, seat_shows, seat_steps, before_in, after_in, others_in}
 use Rattle.hg_worker.proofs.Takings.{pair, told_in}
 
@@ -64,6 +65,20 @@ module _ {S : Type 0} (number : S → ℕ) (records : S → List Standing) where
       (sym (map-map pick (rest_of number records) new) ∙ ap (map pick) kept
       ∙ map-map pick (rest_of number records) old)
       (segment_of place))
+
+  -- and what is held
+  pub all_held : (old new : List (Kept S)) → KeepsAll number records old new → (segment : ℕ)
+      → is_held number new segment ≡ is_held number old segment
+  all_held old new kept segment =
+      let told : Kept S → ℕ = λ k. k.arena in
+      let pick : Rest → ℕ × ℕ = λ r. (r.number, r.arena) in
+      sym (some_mapped told (segment_in number new segment))
+      ∙ ap is_some
+      (told_in number told old new
+      (sym (map-map pick (rest_of number records) new) ∙ ap (map pick) kept
+      ∙ map-map pick (rest_of number records) old)
+      segment)
+      ∙ some_mapped told (segment_in number old segment)
 
   -- where classes and lists alone change
   pub bare_goes : (old new : List (Kept S)) → map bare new ≡ map bare old

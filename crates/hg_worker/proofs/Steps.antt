@@ -1,6 +1,6 @@
 -- What a step of one seat is to the worker that has it.
-use Rattle.std.proofs.Common.{◌≡◌, ◌≢◌, ℕ, false, List, [], ◌∷◌, ◌++◌, map, Some, None}
-use Rattle.std.proofs.Common.{is_some, slice_set, refl, sym, ap, subst, ◌∙◌, ⊎_elim}
+use Rattle.std.proofs.Common.{◌≡◌, ◌≢◌, ◌≤◌, ℕ, false, List, [], ◌∷◌, ◌++◌, map, length, Some, None}
+use Rattle.std.proofs.Common.{is_some, slice_set, refl, sym, ap, subst, ◌∙◌, ⊎_elim, arith}
 use Rattle.std.specs.Prelude.{Option, option_map, Result, Ok, Err, OnOk, IfOk, IfErr}
 use Rattle.std.proofs.lemmas.List.{append-nil}
 use Rattle.std.proofs.lemmas.Bool.{true≢false}
@@ -24,6 +24,7 @@ use Rattle.hg_table.proofs.Knowing.{itself, between}
 use Rattle.hg_table.proofs.Told.{not_ended}
 use Rattle.hg_worker.specs.Had.{Had}
 use Rattle.hg_worker.specs.Seen.{word_of, part_by, part_for, part_of_segment, Decided, KeepsSeats}
+use Rattle.hg_worker.specs.Seen.{StepsWithin}
 
 -- where the last word that was seen is at or after the one found, it is at or after all
 pub newest_of : (at found left : ℕ) (a b : Part) → IsShown at found a → IsAtOrBefore found left
@@ -98,6 +99,41 @@ module _ {S : Type 0} (number : S → ℕ) (part : S → Part) where
         ∙ other_found number old st.found segment st.before st.after st.at kept_number
         (λ e. ne (e ∙ st.segment))
 
+  module _ (place : Place) (found left : ℕ) (old new : Had S)
+      (once : HasNoRepeats (numbers number old.heap.segments))
+      (st : Stepped number seat_shows seat_steps place found left old.heap.segments
+      new.heap.segments) where
+    -- the seat for the place is that of its segment, before a step of it and after
+    seat_before : part_for number part old place ≡ part st.before.slots
+    seat_before =
+        ap (λ (o : Option (Kept S)). part_by number part o old.own)
+        (before_in place found left old.heap.segments new.heap.segments once st)
+
+    seat_after : part_for number part new place ≡ part st.after.slots
+    seat_after =
+        ap (λ (o : Option (Kept S)). part_by number part o new.own)
+        (after_in place found left old.heap.segments new.heap.segments once st)
+
+    at_place : word_at (number st.before.slots) (slot_of place) ≡ word_of place
+    at_place = ap (λ n. word_at n (slot_of place)) st.segment
+
+    seat_stepped
+        : HasStepped (part st.before.slots) (word_of place) found left (part st.after.slots)
+    seat_stepped =
+        subst (λ n. HasStepped (part st.before.slots) n found left (part st.after.slots)) at_place
+        st.stepped
+
+    one_more
+        : (part_for number part new place).seen
+        ≡ (part_for number part old place).seen ++ (word_of place, left) ∷ []
+    one_more =
+        ap (λ (p : Part). p.seen) seat_after ∙ seat_stepped.1
+        ∙ ap (λ (p : Part). p.seen ++ (word_of place, left) ∷ []) (sym seat_before)
+
+    -- it is one step
+    pub held_once : StepsWithin number part 1 place old new
+    held_once = (left ∷ [], omega arith, one_more)
+
   -- a step of the seat of a held segment
   pub held_decides : (place : Place) (found left : ℕ) (lives : List (ℕ × ℕ)) (old new : Had S)
       → HasNoRepeats (numbers number old.heap.segments)
@@ -107,25 +143,16 @@ module _ {S : Type 0} (number : S → ℕ) (part : S → Part) where
       → ended_after (word_of place) found left ended ≡ ended ++ lives)
       → Decided number part place found left lives old new
   held_decides place found left lives old new once st own goes ends =
-      let a : part_for number part old place ≡ part st.before.slots =
-      ap (λ (o : Option (Kept S)). part_by number part o old.own)
-      (before_in place found left old.heap.segments new.heap.segments once st) in
-      let b : part_for number part new place ≡ part st.after.slots =
-      ap (λ (o : Option (Kept S)). part_by number part o new.own)
-      (after_in place found left old.heap.segments new.heap.segments once st) in
-      let at : word_at (number st.before.slots) (slot_of place) ≡ word_of place =
-      ap (λ n. word_at n (slot_of place)) st.segment in
+      let a = seat_before place found left old new once st in
+      let b = seat_after place found left old new once st in
       let shown : IsShown (word_of place) found (part st.before.slots) =
-      subst (λ n. IsShown n found (part st.before.slots)) at st.shown in
-      let stepped : HasStepped (part st.before.slots) (word_of place) found left
-      (part st.after.slots) =
-      subst (λ n. HasStepped (part st.before.slots) n found left (part st.after.slots)) at
-      st.stepped in
+      subst (λ n. IsShown n found (part st.before.slots))
+      (at_place place found left old new once st) st.shown in
+      let stepped = seat_stepped place found left old new once st in
       record {
         shown = subst (IsShown (word_of place) found) (sym a) shown;
         looked_at = [];
-        seen = ap (λ (p : Part). p.seen) b ∙ stepped.1
-            ∙ ap (λ (p : Part). p.seen ++ (word_of place, left) ∷ []) (sym a);
+        seen = one_more place found left old new once st;
         newest = λ k word e.
             newest_of (word_of place) found left (part st.before.slots) (part st.after.slots) shown
             goes stepped.1 k word
@@ -138,6 +165,44 @@ module _ {S : Type 0} (number : S → ℕ) (part : S → Part) where
             (others_in place found left old.heap.segments new.heap.segments once st segment ne);
       }
 
+  -- the seat for a place of a segment that isn't held is the worker's own
+  own_before : (place : Place) (old : Had S)
+      → is_held number old.heap.segments place.segment ≡ false
+      → part_for number part old place ≡ old.own
+  own_before place old away =
+      ap (λ (o : Option (Kept S)). part_by number part o old.own)
+      (none_in (segment_in number old.heap.segments place.segment) away)
+
+  own_after : (place : Place) (old new : Had S)
+      → is_held number old.heap.segments place.segment ≡ false → new.heap ≡ old.heap
+      → part_for number part new place ≡ new.own
+  own_after place old new away same =
+      ap (λ h. part_by number part (segment_in number h.segments place.segment) new.own) same
+      ∙ ap (λ (o : Option (Kept S)). part_by number part o new.own)
+      (none_in (segment_in number old.heap.segments place.segment) away)
+
+  -- a seat that makes no step, and the worker's own, for a place of a segment that isn't held
+  pub no_step : (most : ℕ) (place : Place) (had : Had S)
+      → StepsWithin number part most place had had
+  no_step most place had = ([], omega arith, sym (append-nil (part_for number part had place).seen))
+
+  pub own_steps : (most : ℕ) (place : Place) (words : List ℕ) (old new : Had S)
+      → is_held number old.heap.segments place.segment ≡ false → new.heap ≡ old.heap
+      → length words ≤ most
+      → new.own.seen ≡ old.own.seen ++ map (λ word. (word_of place, word)) words
+      → StepsWithin number part most place old new
+  own_steps most place words old new away same few seen = (
+    words,
+    few,
+    ap (λ (p : Part). p.seen) (own_after place old new away same) ∙ seen
+        ∙ ap (λ (p : Part). p.seen ++ map (λ word. (word_of place, word)) words)
+        (sym (own_before place old away)),
+  )
+
+  pub more_steps : (few most : ℕ) (place : Place) (old new : Had S) → few ≤ most
+      → StepsWithin number part few place old new → StepsWithin number part most place old new
+  more_steps few most place old new le s = (s.0, omega (arith, le, s.1), s.2)
+
   -- what the worker's own seat does for a place of a segment that isn't held
   pub own_decides : (place : Place) (found left : ℕ) (lives : List (ℕ × ℕ)) (words : List ℕ)
       (old new : Had S) → is_held number old.heap.segments place.segment ≡ false
@@ -149,13 +214,8 @@ module _ {S : Type 0} (number : S → ℕ) (part : S → Part) where
       → new.own.ended ≡ old.own.ended ++ lives
       → Decided number part place found left lives old new
   own_decides place found left lives words old new away same shown seen newest ended =
-      let none : segment_in number old.heap.segments place.segment ≡ None =
-      none_in (segment_in number old.heap.segments place.segment) away in
-      let a : part_for number part old place ≡ old.own =
-      ap (λ (o : Option (Kept S)). part_by number part o old.own) none in
-      let b : part_for number part new place ≡ new.own =
-      ap (λ h. part_by number part (segment_in number h.segments place.segment) new.own) same
-      ∙ ap (λ (o : Option (Kept S)). part_by number part o new.own) none in
+      let a = own_before place old away in
+      let b = own_after place old new away same in
       record {
         shown = subst (IsShown (word_of place) found) (sym a) shown;
         looked_at = words;

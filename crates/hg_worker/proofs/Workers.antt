@@ -22,13 +22,13 @@ use Rattle.hg_worker.specs.declared.worker.Worker.{Worker}
 use Rattle.hg_worker.specs.Had.{Had, view_in, hand_place, hand_generation}
 use Rattle.hg_worker.specs.Hands.{KnowsHand}
 use Rattle.hg_worker.specs.Seats.{number_in, records_in, part_of_seat}
-use Rattle.hg_worker.specs.Seen.{Looked}
+use Rattle.hg_worker.specs.Seen.{Looked, StepsWithin}
 use Rattle.hg_worker.specs.Tied.{IsTied, KeepsRest}
 use Rattle.hg_worker.specs.Workers.{had}
 use Rattle.hg_worker.proofs.Away.{shown_where}
 use Rattle.hg_worker.proofs.Hands.{knows_still, stepped_grown, the_same}
 use Rattle.hg_worker.proofs.Seats.{Whole, looked_held, machines_held, machines_away}
-use Rattle.hg_worker.proofs.Steps.{seat_shows, seat_steps}
+use Rattle.hg_worker.proofs.Steps.{seat_shows, seat_steps, held_once}
 
 module _ {N : Type 0} {table : Ghosts N} where
   -- what a look answers is the machine's
@@ -84,6 +84,12 @@ module _ {N : Type 0} {own : OwnGhosts N} {table : Ghosts N} where
     held_looks =
         looked_held (had w) (record (had w) { heap = new }) place word (whole_of w settled) once
         held st refl
+
+    pub held_tries
+        : StepsWithin number_in part_of_seat 1 place (had w) (record (had w) { heap = new })
+    held_tries =
+        held_once number_in part_of_seat place word word (had w) (record (had w) { heap = new })
+        once st
 
     pub held_call : (event : Event) (answer : Answer)
         → HeapTies number_in records_in w.policy (shown_at place word) (shown_at place word) event

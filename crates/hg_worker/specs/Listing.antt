@@ -15,10 +15,11 @@ use Rattle.hg_segment.specs.Kept.{Kept}
 use Rattle.hg_agreement.specs.Views.{Shown}
 use Rattle.hg_heap.specs.Held.{segment_in}
 use Rattle.hg_heap.specs.Keeping.{KeepsAll}
+use Rattle.hg_heap.specs.Ties.{HeapTies}
 use Rattle.hg_table.specs.declared.view.Part.{Part}
 use Rattle.hg_worker.specs.Answers.{rows_in}
 use Rattle.hg_worker.specs.Had.{Had}
-use Rattle.hg_worker.specs.Seen.{Looked}
+use Rattle.hg_worker.specs.Seen.{Looked, StepsWithin}
 use Rattle.hg_worker.specs.Tied.{IsTied}
 
 -- the places of the segments below a number, and those of one segment, by their numbers, rising
@@ -47,11 +48,14 @@ module _ {S : Type 0} (number : S → ℕ) (records : S → List Standing) where
 
   module _ (part : S → Part) where
     -- one look at the place is answered so, which is the machine's answer for the word that it
-    -- found; records, classes, words and lists stay
+    -- found, to a worker with anything in its hand; records, classes, words and lists stay
     abbrev pub IsLook : Actor → Place → Answer → Had S → Had S → Type 0
     IsLook actor place answer old new =
         (shown : Option Shown) × Looked number part place shown old new
+        × StepsWithin number part 1 place old new
         × IsTied number records shown (event.Look actor place) answer shown old new
+        × HeapTies number records old.policy shown shown (event.Look actor place) answer
+        old.heap.segments new.heap.segments
         × KeepsAll number records old.heap.segments new.heap.segments
 
     -- one look at each of these places, one after the other, and nothing else; the rows are those

@@ -11,14 +11,17 @@ use Rattle.hg_heap.specs.Keeping.{rest_of, KeepsAll}
 use Rattle.hg_table.specs.declared.view.Part.{Part}
 use Rattle.hg_table.specs.Seats.{HaveMet}
 use Rattle.hg_worker.specs.Had.{Had}
-use Rattle.hg_worker.specs.Seen.{word_of, part_for, Decided}
+use Rattle.hg_worker.specs.Seen.{word_of, part_for, Decided, StepsWithin}
 
 module _ {S : Type 0} (number : S → ℕ) (part : S → Part) where
   -- each has seen the word, by its seat for the place; it is at or after all that either has seen
-  -- there; neither has ended anything more, and no life of the place was ended by both
+  -- there; neither has ended anything more, nor looked twice, and no life of the place was ended by
+  -- both
   pub record HaveMetAt (place : Place) (word : ℕ) (one other one' other' : Had S) : Type 0 where
     pub step : Decided number part place word word [] one one'
     pub step_other : Decided number part place word word [] other other'
+    pub once : StepsWithin number part 1 place one one'
+    pub once_other : StepsWithin number part 1 place other other'
     pub apart :
         (k l generation : ℕ)
         → get_elem? (part_for number part one place).ended k ≡ some (word_of place, generation)

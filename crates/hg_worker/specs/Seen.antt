@@ -1,6 +1,6 @@
 -- What a call adds to what a worker's seats have seen and ended.
-use Rattle.std.specs.Prelude.{◌≡◌, ◌≢◌, ℕ, true, List, [], ◌∷◌, ◌++◌, map, Option, Some, None}
-use Rattle.std.specs.Prelude.{option_map, is_some}
+use Rattle.std.specs.Prelude.{◌≡◌, ◌≢◌, ◌≤◌, ℕ, true, List, [], ◌∷◌, ◌++◌, map, length, Option, Some}
+use Rattle.std.specs.Prelude.{None, option_map, is_some}
 use mathlib.Core.Option.{some}
 use lib.ListN.{get_elem?}
 use Rattle.hg_place.specs.declared.Place.{Place}
@@ -69,6 +69,14 @@ module _ {S : Type 0} (number : S → ℕ) (part : S → Part) where
   Looked place (Some shown) old new =
       (is_some (arena_of old.policy place.segment) ≡ true) × (shown.place ≡ number_of place)
       × Decided place shown.word shown.word [] old new
+
+  -- the call made no more steps than so many by the worker's seat for the place, each of them there:
+  -- these words that seat has seen more
+  abbrev pub StepsWithin : ℕ → Place → Had S → Had S → Type 0
+  StepsWithin most place old new =
+      (words : List ℕ) × (length words ≤ most)
+      × ((part_for new place).seen
+      ≡ (part_for old place).seen ++ map (λ word. (word_of place, word)) words)
 
   -- a step of the worker's seat for a place of the policy may find this word there
   abbrev pub MayShow : Had S → Option Shown → Type 0

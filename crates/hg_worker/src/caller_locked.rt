@@ -68,9 +68,9 @@ impl<N: ServiceName> Worker<N> {
         Answer::Taken(self.heap.take(segment, list))
     }
 
-    /// Takes the next segment of the arena from this pool, or answers `NoSegment`. Where the place in hand is one of its
-    /// places, its seat and the worker's meet there, so that the worker knows by either that the
-    /// life in hand is over.
+    /// Takes the next segment of the arena from this pool, or answers `NoSegment`. Where the place
+    /// in hand is one of its places, its seat and the worker's meet there, so that the worker knows
+    /// by either that the life in hand is over.
     pub fn refill_from(&mut self, arena: u8, pool: &mut KeptPool<N>) -> Answer
         ensures refilled { IsRefilled number_in records_in part_of_seat
             (next_in pool.old.pool arena) result pool.old.pool pool.new.pool

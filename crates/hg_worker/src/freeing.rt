@@ -17,7 +17,7 @@ ghost use Rattle.hg_worker.specs.Answers.{is_done, is_freed, hand_after};
 ghost use Rattle.hg_worker.specs.Judged.{found_word, rule_of};
 ghost use Rattle.hg_worker.specs.Records.{IsHomeAlone};
 ghost use Rattle.hg_worker.specs.Seats.{number_in, records_in};
-ghost use Rattle.hg_worker.specs.Workers.{Ends, Looks, IsMachines, KeepsSegments, SendsHome};
+ghost use Rattle.hg_worker.specs.Workers.{Ends, Looks, IsMachines, KeepsSegments, SendsHome, Tries};
 
 use crate::answers::{denied_answer, refused_answer};
 use crate::{ServiceName, Worker};
@@ -67,6 +67,9 @@ impl<N: ServiceName> Worker<N> {
             self.old.heap.segments self.new.heap.segments }
         ensures held { IsTrue (is_freed result) → is_done result
             ≡ is_held number_in self.old.heap.segments handle.place.segment }
+        ensures once { is_held number_in self.old.heap.segments handle.place.segment ≡ true
+            → Tries 1 handle.place self.old self.new }
+        ensures few { Tries 2 handle.place self.old self.new }
         ensures parted { result ≡ Answer.Parted → self.old.hand ≡ None }
         ensures busy { IsFalse (is_freed result) → rule_of result ≡ None
             → (result ≡ Answer.Busy) × (self.old.hand ≢ None)
@@ -120,6 +123,7 @@ impl<N: ServiceName> Worker<N> {
             (shown_at handle.place (word - 1)) (Event.Free actor handle) result
             self.old.heap.segments self.new.heap.segments }
         ensures here { IsTrue (is_freed result) → IsTrue (is_done result) }
+        ensures once { Tries 1 handle.place self.old self.new }
         ensures denied { IsFalse (is_freed result) → rule_of result ≢ None }
         ensures hand { self.new.hand ≡ hand_after result handle self.old.hand }
         ensures rest { (self.new.policy ≡ self.old.policy)
@@ -150,6 +154,7 @@ impl<N: ServiceName> Worker<N> {
             × IsJudged self.old.policy actor.0 Right.Free handle (found_word shown)
             (rule_of result) }
         ensures away { IsFalse (is_done result) }
+        ensures few { Tries 2 handle.place self.old self.new }
         ensures busy { IsFalse (is_freed result) → rule_of result ≡ None
             → (result ≡ Answer.Busy) × (self.old.hand ≢ None) }
         ensures parted { result ≡ Answer.Parted → self.old.hand ≡ None }

@@ -30,7 +30,8 @@ impl<N: ServiceName> KeptPool<N> {
         Ok(KeptPool { pool })
     }
 
-    /// Puts a segment with the fresh ones.
+    /// Puts a segment that no worker has held with the fresh ones, by its number, as it is: blocks
+    /// that were given out there are those of the worker that it comes to.
     pub fn put_fresh(&mut self, one: Segment<SegmentSeat<N>>)
         requires { IsOf number_in N.policy one }
         ensures fresh { Inserts one self.old.pool.fresh self.new.pool.fresh }

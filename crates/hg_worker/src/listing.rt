@@ -42,7 +42,8 @@ impl<N: ServiceName> Worker<N> {
 
     /// Looks at a place, and puts the row that it shows behind the others.
     fn look_into(&mut self, actor: Actor, place: Place, rows: &mut Vec<Row>)
-        requires { vec_len rows.old < vec_capacity rows.old }
+        requires room { vec_len rows.old < vec_capacity rows.old }
+        requires held { is_held number_in self.old.heap.segments place.segment ≡ true }
         ensures look { (answer : Answer) × LooksAt actor place answer self.old self.new
             × (rows.new.items ≡ rows.old.items ++ rows_in answer) }
         ensures room { vec_capacity rows.new ≡ vec_capacity rows.old }

@@ -10,6 +10,8 @@ mod listings;
 #[cfg(test)]
 mod meets;
 #[cfg(test)]
+mod pools;
+#[cfg(test)]
 mod rows;
 #[cfg(test)]
 mod seeded;

@@ -1,5 +1,6 @@
 use Rattle.hg_worker.proofs.worker.Worker.free_away.Goals as goal
 use Rattle.std.proofs.Common.{◌≡◌, ◌-◌, [], ◌∷◌, true, not, is_some, Some, None, refl, sym, ap, ◌∙◌}
+use Rattle.std.proofs.Common.{arith}
 use Rattle.hg_place.specs.declared.Right.TheVariants as right
 use Rattle.hg_place.specs.Lives.{word_generation, IsLiveWord}
 use Rattle.hg_heap.specs.Ties.{shown_at}
@@ -16,12 +17,12 @@ use Rattle.hg_worker.specs.Seen.{word_of, Decided, Looked}
 use Rattle.hg_worker.specs.Workers.{had}
 use Rattle.hg_worker.proofs.Frees.{word_within, within_reach, hand_full, undenied_live}
 use Rattle.hg_worker.proofs.Frees.{lost_is_denied, own_decides_twice, free_denied, free_busy}
-use Rattle.hg_worker.proofs.Frees.{free_parted}
+use Rattle.hg_worker.proofs.Frees.{free_parted, own_steps_twice}
 use Rattle.hg_worker.specs.Judged.{rule_of}
 use Rattle.hg_worker.proofs.Hands.{own_saw, saw_freed, knows_new}
 use Rattle.hg_worker.proofs.Judged.{judged_by}
 use Rattle.hg_worker.proofs.Seats.{some_arena, machines_unseen, machines_looked, machines_shown}
-use Rattle.hg_worker.proofs.Steps.{none_in, own_looks, seats_stay, looked_ends}
+use Rattle.hg_worker.proofs.Steps.{none_in, no_step, own_looks, own_steps, seats_stay, looked_ends}
 use Rattle.hg_worker.proofs.Workers.{whole_of}
 
 pub returns-then-is_none-clause-refused : goal.returns-then-is_none-clause-refused
@@ -354,3 +355,39 @@ returns-clause-served g c = λ _.
       (live.0, decided),
       record { named = none; live = λ _. live.0; generation = λ _. live.1 },
     )
+
+pub returns-then-is_none-clause-few : goal.returns-then-is_none-clause-few
+returns-then-is_none-clause-few g c =
+    no_step number_in part_of_seat 2 c.args.handle.place (had c.args.self.now)
+
+pub returns-in-Denied-clause-few : goal.returns-in-Denied-clause-few
+returns-in-Denied-clause-few g c =
+    own_steps number_in part_of_seat 2 c.args.handle.place (c.look-word.result ∷ [])
+    (had c.args.self.now)
+    (record (had c.args.self.now) { own = part_on c.look-word.new.self.inner.badge })
+    c.requires refl (omega arith) c.look-word.ensures.step.1
+
+pub returns-then-is_some-clause-few : goal.returns-then-is_some-clause-few
+returns-then-is_some-clause-few g c =
+    own_steps number_in part_of_seat 2 c.args.handle.place (c.look-word.result ∷ [])
+    (had c.args.self.now)
+    (record (had c.args.self.now) { own = part_on c.look-word.new.self.inner.badge })
+    c.requires refl (omega arith) c.look-word.ensures.step.1
+
+pub returns-in-Err-clause-few : goal.returns-in-Err-clause-few
+returns-in-Err-clause-few g c =
+    own_steps_twice number_in part_of_seat c.args.handle.place c.look-word.result c.in-Err.found
+    (had c.args.self.now)
+    (record (had c.args.self.now) { own = part_on c.part.new.self.inner.badge })
+    (part_on c.look-word.new.self.inner.badge) c.requires refl
+    c.look-word.ensures.step.1 c.in-Err.ensures.err.2.1
+
+pub returns-clause-few : goal.returns-clause-few
+returns-clause-few g c =
+    own_steps_twice number_in part_of_seat c.args.handle.place c.look-word.result
+    (c.look-word.result - 1) (had c.args.self.now)
+    (record (had c.args.self.now) {
+      own = part_on c.part.new.self.inner.badge;
+      hand = Some c.args.handle;
+    })
+    (part_on c.look-word.new.self.inner.badge) c.requires refl c.look-word.ensures.step.1 c.in_default-part.ensures.ok.1.1

@@ -21,7 +21,7 @@ use Rattle.std.proofs.lemmas.Bool.{true≢false}
 use Rattle.std.proofs.Common.{ap, sym, ◌∙◌}
 use Rattle.hg_worker.proofs.Hands.{knows_still, stepped_grown, the_same}
 use Rattle.hg_worker.proofs.Seats.{arena_held, looked_held, machines_held, machines_shown}
-use Rattle.hg_worker.proofs.Steps.{either_end, held_decides, seat_shows, seat_steps}
+use Rattle.hg_worker.proofs.Steps.{either_end, held_once, held_decides, seat_shows, seat_steps}
 use Rattle.hg_worker.proofs.Workers.{whole_of}
 use Rattle.hg_worker.proofs.worker.Worker.free_here.Goals as goal
 
@@ -173,3 +173,17 @@ returns-in-Err-clause-any_hand g c = λ is.
     absurd
     (true≢false
     (sym is ∙ ap is_done c.refused_answer.ensures ∙ not_refused c.in-Err.refused))
+
+pub returns-in-Err-clause-once : goal.returns-in-Err-clause-once
+returns-in-Err-clause-once g c =
+    let e = c.in-Err.ensures.denied c.requires in
+    held_once number_in part_of_seat c.args.handle.place e.0 e.0 (had c.args.self.now)
+    (record (had c.args.self.now) { heap = c.free_here.new.self })
+    c.settled.ensures.once e.3
+
+pub returns-clause-once : goal.returns-clause-once
+returns-clause-once g c =
+    let e = c.in_default.ensures.freed in
+    held_once number_in part_of_seat c.args.handle.place e.0 (e.0 - 1) (had c.args.self.now)
+    (record (had c.args.self.now) { heap = c.free_here.new.self })
+    c.settled.ensures.once e.2

@@ -13,7 +13,8 @@ use Rattle.hg_worker.specs.Workers.{had}
 use Rattle.hg_worker.proofs.Away.{look_away}
 use Rattle.hg_worker.proofs.Judged.{found_slot, rule_away}
 use Rattle.hg_worker.proofs.Records.{all_goes}
-use Rattle.hg_worker.proofs.Workers.{stepped_of, stepped_known, held_looks, held_call, away_call}
+use Rattle.hg_worker.proofs.Workers.{stepped_of, stepped_known, held_looks, held_tries, held_call}
+use Rattle.hg_worker.proofs.Workers.{away_call}
 use Rattle.hg_heap.specs.Ties.{HeapTies}
 use Rattle.hg_heap.specs.Held.{Held}
 use Rattle.hg_heap.specs.Reading.{block_in, IsRowOf}
@@ -168,3 +169,15 @@ returns-in-None-clause-any_hand g c = λ held.
           (no_row (list_denial s.policy c.args.actor c.args.place c.look.new.shown)
           ∙ sym c.unlisted_answer.ensures) c.in-None.ensures.ties,
     )
+
+pub returns-in-Some-clause-once : goal.returns-in-Some-clause-once
+returns-in-Some-clause-once g c =
+    held_tries c.args.self.now c.look.new.self c.args.place c.settled.ensures.each
+    c.settled.ensures.once (sym c.holds.ensures ∙ c.if-not-holds.false) c.look.new.shown
+    c.look.ensures.step
+
+pub returns-in-None-clause-once : goal.returns-in-None-clause-once
+returns-in-None-clause-once g c =
+    held_tries c.args.self.now c.look.new.self c.args.place c.settled.ensures.each
+    c.settled.ensures.once (sym c.holds.ensures ∙ c.if-not-holds.false) c.look.new.shown
+    c.look.ensures.step

@@ -8,7 +8,8 @@ use Rattle.hg_worker.proofs.Away.{read_away}
 use Rattle.hg_place.specs.declared.Right.TheVariants as right
 use Rattle.hg_worker.proofs.Judged.{judged_by, rule_away, rule_read}
 use Rattle.hg_worker.proofs.Records.{all_goes}
-use Rattle.hg_worker.proofs.Workers.{stepped_of, stepped_known, held_looks, held_call, away_call}
+use Rattle.hg_worker.proofs.Workers.{stepped_of, stepped_known, held_looks, held_tries, held_call}
+use Rattle.hg_worker.proofs.Workers.{away_call}
 use Rattle.hg_worker.specs.Judged.{rule_of}
 use Rattle.hg_heap.specs.Held.{Held}
 use Rattle.hg_heap.specs.Keeping.{rest_of}
@@ -95,3 +96,10 @@ returns-clause-any_hand g c = λ held.
           c.settled.ensures.once held e.0 e.1,
       rw c.read_answer.ensures e.2,
     )
+
+pub returns-clause-once : goal.returns-clause-once
+returns-clause-once g c =
+    let held = sym c.holds.ensures ∙ c.if-not-holds.false in
+    let e = c.read.ensures.held held in
+    held_tries c.args.self.now c.read.new.self c.args.handle.place c.settled.ensures.each
+    c.settled.ensures.once held e.0 e.1

@@ -7,7 +7,8 @@ use Rattle.hg_worker.proofs.Away.{write_away}
 use Rattle.hg_place.specs.declared.Right.TheVariants as right
 use Rattle.hg_worker.proofs.Judged.{judged_by, rule_away, rule_done, not_away, not_refused}
 use Rattle.hg_worker.proofs.Records.{all_goes, wrote_goes}
-use Rattle.hg_worker.proofs.Workers.{stepped_of, stepped_known, held_looks, held_call, away_call}
+use Rattle.hg_worker.proofs.Workers.{stepped_of, stepped_known, held_looks, held_tries, held_call}
+use Rattle.hg_worker.proofs.Workers.{away_call}
 use Rattle.hg_worker.specs.Judged.{rule_of}
 use Rattle.hg_worker.specs.Answers.{is_done}
 use Rattle.hg_heap.specs.Answers.{done_answer}
@@ -129,3 +130,10 @@ returns-clause-any_hand g c = λ held.
           c.settled.ensures.once held e.0 e.1,
       rw c.done_answer.ensures e.2,
     )
+
+pub returns-clause-once : goal.returns-clause-once
+returns-clause-once g c =
+    let held = sym c.holds.ensures ∙ c.if-not-holds.false in
+    let e = c.write.ensures.held held in
+    held_tries c.args.self.now c.write.new.self c.args.handle.place c.settled.ensures.each
+    c.settled.ensures.once held e.0 e.1
