@@ -14,8 +14,8 @@ pub struct Names {
 }
 
 impl Names {
-    /// The names of a policy that was read from this document. A policy tells no names of arenas, so
-    /// they are looked for between the document's double quotes.
+    /// The names of a policy that was read from this document. A policy tells no names of arenas,
+    /// so they are looked for between the document's double quotes.
     pub fn of(alloc: Global, policy: &Policy, document: &str) -> Result<Names, AllocError> {
         let mut tenants = Vec::new(alloc);
         for number in 0..policy.tenants() {

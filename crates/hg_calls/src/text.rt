@@ -1,4 +1,4 @@
-//! The line of a call in a log: that of its event in a trace, and its answer behind it as a comment.
+//! The line of a call in a log: that of its event in a trace, and behind it its answer, a comment.
 
 use crate::call::Call;
 use crate::names::Names;

@@ -1,7 +1,7 @@
 //! Explains a log of workers by one order: `hg_explain` reads a policy, a line `---`, and the calls
-//! of workers with their answers. It prints the calls in an order in which
-//! a core gives the same answers (status 0); or that there is none, and the shortest front that no
-//! order comes past (status 1).
+//! of workers with their answers. It prints the calls in an order in which a core gives the same
+//! answers (status 0); or that there is none, and the shortest front that no order comes past
+//! (status 1).
 #![tactic(auto)]
 
 use anyhow::bail;
