@@ -82,6 +82,7 @@ fn parts_opened<N: ServiceName, R: Abort>(
         return false;
     };
     let CallerLocked {
+        policy: _,
         mut workers,
         mut lists,
         mut pool,
