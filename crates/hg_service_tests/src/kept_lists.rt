@@ -67,11 +67,12 @@ fn tried_on<N: ServiceName>(rt: &impl Abort, alloc: Global, policy: Policy, tabl
     let (front, back) = workers.as_mut_slice().split_at_mut(1);
     let (one, other) = (&mut front[0], &mut back[0]);
     let (own, foreign) = lists.as_mut_slice().split_at_mut(1);
+    let (own, foreign) = (&mut own[0], &mut foreign[0]);
     assert_eq!(rt; (one.number(), other.number()), (0, 1));
     assert_eq!(rt; one.refill_from(MAIN, &mut pool), Answer::Refilled(0));
     let _ = parted(rt, one, other);
-    sent(rt, other, &mut foreign[0], &mut own[0]);
-    taken(rt, one, other, &mut own[0]);
+    sent(rt, other, foreign, own);
+    taken(rt, one, other, own);
     drop(workers);
     drop(lists);
     drop(pool);
