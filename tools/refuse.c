@@ -30,7 +30,9 @@ static int is_refused(size_t size)
 {
     const long refused_now = asked("REFUSE", &refused);
     bytes += size;
-    return ++requests == refused_now;
+    if (++requests != refused_now) return 0;
+    errno = ENOMEM; /* as who asks may look at it: the C library does, where it starts a thread */
+    return 1;
 }
 
 #define REAL(name) \
