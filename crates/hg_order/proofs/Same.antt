@@ -1,7 +1,7 @@
 -- Calls that are equal, field by field, are the same.
-use Rattle.std.proofs.Common.{◌≡◌, ◌==◌, ◌&&◌, Bool, true, false, rules, arith, ap, refl}
+use Rattle.std.proofs.Common.{◌≡◌, ◌∙◌, ◌==◌, ◌&&◌, Bool, List, [], ◌∷◌, true, false, rules, arith, ap, refl}
 use Rattle.std.proofs.lemmas.Bool.{false≢true}
-use Rattle.std.specs.Bool.{Decides}
+use Rattle.std.specs.Cmp.Lexicographic.{pointwise}
 use Rattle.hg_calls.specs.declared.call.Call.{Call}
 use Rattle.hg_machine.specs.declared.Answer.{Answer}
 use Rattle.hg_machine.specs.declared.Answer.TheVariants as answer
@@ -112,8 +112,12 @@ same_call a b h =
     let worker : (a.worker == b.worker) ≡ true = parts.0 in
     search (rules, event, answer, worker)
 
-pub call_decides : (a b : Call) → Decides (calls.eq-value.it a b) (a ≡ b)
-call_decides a b = (same_call a b, λ same. ?)
-
-pub answer_decides : (a b : Answer) → Decides (answers.eq-value.it a b) (a ≡ b)
-answer_decides a b = (same_answer a b, λ same. ?)
+-- lists that are equal item by item are the same
+pub same_list : {A : Type 0} (test : A → A → Bool) → ((a b : A) → test a b ≡ true → a ≡ b)
+    → (xs ys : List A) → pointwise test xs ys ≡ true → xs ≡ ys
+same_list test same [] [] h = refl
+same_list test same [] (y ∷ ys) h = absurd (false≢true h)
+same_list test same (x ∷ xs) [] h = absurd (false≢true h)
+same_list test same (x ∷ xs) (y ∷ ys) h =
+    let parts = both (test x y) (pointwise test xs ys) h in
+    ap (λ v. v ∷ xs) (same x y parts.0) ∙ ap (λ vs. y ∷ vs) (same_list test same xs ys parts.1)
