@@ -10,7 +10,7 @@ use Rattle.hg_segment.specs.Kept.{Kept}
 use Rattle.hg_machine.specs.Policy.{Policy}
 use Rattle.hg_pool.specs.Pooled.{Pooled, IsRising, IsRight, numbers}
 use Rattle.hg_pool.proofs.Placed.{have_one_place}
-use Rattle.hg_table.specs.declared.segment.SegmentSeat.{SegmentSeat}
+use Rattle.hg_table.specs.declared.segment.UnnamedSegment.{UnnamedSegment}
 use Rattle.hg_remote.specs.Remote.{nothing_sent}
 use Rattle.hg_worker.specs.declared.worker.Worker.{Worker}
 use Rattle.hg_worker.specs.Seats.{number_in}
@@ -84,22 +84,21 @@ module _ {N : _} where
         sent = each_more (λ k one. one.list ≡ nothing_sent) xs kept are.sent sent;
       })
 
-module _ {N : _} {table : _} where
-  -- one that comes in front of those that are there
-  pub next_put : (policy : Policy) (from count : ℕ) (old new : Pooled (SegmentSeat N table))
-      (one : Kept (SegmentSeat N table)) → AreFresh policy (from + 1) count old
-      → number_in one.slots ≡ from → IsUnused policy one → Inserts one old.fresh new.fresh
-      → new.orphans ≡ old.orphans → IsRight number_in new
-      → AreFresh policy from (suc count) new
-  next_put policy from count old new one is number unused put orphans right =
-      let counted : numbers number_in (one ∷ old.fresh) ≡ range_with_len from (suc count) =
-      ap (λ k. k ∷ numbers number_in old.fresh) number ∙ ap (λ ks. from ∷ ks) is.numbers_are in
-      let there : new.fresh ≡ one ∷ old.fresh =
-      have_one_place number_in one old.fresh new.fresh (one ∷ old.fresh) put
-      ([], old.fresh, refl, refl) right.rising
-      (subst IsRising (sym counted) (range_rising from (suc count))) in
-      record {
-        orphans = orphans ∙ is.orphans;
-        numbers_are = ap (numbers number_in) there ∙ counted;
-        each = subst (AllByRecursion (IsUnused policy)) (sym there) (unused, is.each);
-      }
+-- one that comes in front of those that are there
+pub next_put : (policy : Policy) (from count : ℕ) (old new : Pooled UnnamedSegment)
+    (one : Kept UnnamedSegment) → AreFresh policy (from + 1) count old
+    → number_in one.slots ≡ from → IsUnused policy one → Inserts one old.fresh new.fresh
+    → new.orphans ≡ old.orphans → IsRight number_in new
+    → AreFresh policy from (suc count) new
+next_put policy from count old new one is number unused put orphans right =
+    let counted : numbers number_in (one ∷ old.fresh) ≡ range_with_len from (suc count) =
+    ap (λ k. k ∷ numbers number_in old.fresh) number ∙ ap (λ ks. from ∷ ks) is.numbers_are in
+    let there : new.fresh ≡ one ∷ old.fresh =
+    have_one_place number_in one old.fresh new.fresh (one ∷ old.fresh) put
+    ([], old.fresh, refl, refl) right.rising
+    (subst IsRising (sym counted) (range_rising from (suc count))) in
+    record {
+      orphans = orphans ∙ is.orphans;
+      numbers_are = ap (numbers number_in) there ∙ counted;
+      each = subst (AllByRecursion (IsUnused policy)) (sym there) (unused, is.each);
+    }

@@ -6,7 +6,7 @@ use Rattle.hg_worker.specs.declared.worker.Worker.{Worker as Own}
 module _ {N : _} {own : _} {table : _} where
   -- it is the worker of this number, with nothing in hand
   abbrev pub is_back : ℕ → Own N own table → Bool
-  is_back number worker = worker.number == number && is_none worker.hand
+  is_back number worker = worker.inner.value.number == number && is_none worker.inner.value.hand
 
   -- so many workers are there so
   abbrev pub AreBack : List (Own N own table) → ℕ → Type 0

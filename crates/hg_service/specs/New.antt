@@ -9,6 +9,7 @@ use Rattle.hg_heap.specs.Policies.{IsOf}
 use Rattle.hg_pool.specs.Pooled.{Pooled, numbers}
 use Rattle.hg_table.specs.Seats.{KnowsNothing, part_on}
 use Rattle.hg_table.specs.declared.segment.SegmentSeat.{SegmentSeat}
+use Rattle.hg_table.specs.declared.segment.UnnamedSegment.{UnnamedSegment}
 use Rattle.hg_remote.specs.Remote.{nothing_sent}
 use Rattle.hg_worker.specs.declared.worker.Worker.{Worker}
 use Rattle.hg_worker.specs.Seats.{number_in, records_in, part_of_seat}
@@ -18,10 +19,10 @@ module _ {N : _} {own : _} {table : _} where
   -- a worker of this number that holds nothing, has nothing in hand, and whose seat has seen and
   -- ended nothing
   pub record IsNew (number : ℕ) (worker : Worker N own table) : Type 0 where
-    pub number_is : worker.number ≡ number
-    pub held : worker.heap.segments ≡ []
-    pub hand : worker.hand ≡ None
-    pub seat : KnowsNothing (part_on worker.seat.inner.badge)
+    pub number_is : worker.inner.value.number ≡ number
+    pub held : worker.inner.value.heap.segments ≡ []
+    pub hand : worker.inner.value.hand ≡ None
+    pub seat : KnowsNothing (part_on worker.inner.value.seat.badge)
 
   -- so many new workers, each at its number
   pub record AreNew (count : ℕ) (workers : List (Worker N own table)) : Type 0 where
@@ -46,19 +47,19 @@ module _ {N : _} {table : _} where
   abbrev pub AreAtNumbers : List (SegmentSeat N table) → Type 0
   AreAtNumbers seats =
       (k : ℕ) (d : SegmentSeat N table) → k < length seats
-      → number_in (slice_index_or seats k d) ≡ k
+      → number_in (slice_index_or seats k d).inner ≡ k
 
-  -- a segment of the policy's of whose places none was ever given out, whose pages have no class,
-  -- and whose seat has seen and ended nothing
-  pub record IsUnused (policy : Policy) (one : Kept (SegmentSeat N table)) : Type 0 where
-    pub of : IsOf number_in policy one
-    pub home : (at : ℕ) → standing_at (records_in one.slots) at ≡ Home 0
-    pub classes : (page : ℕ) → class_at one.classes page ≡ None
-    pub seat : KnowsNothing (part_of_seat one.slots)
+-- a segment of the policy's of whose places none was ever given out, whose pages have no class,
+-- and whose seat has seen and ended nothing
+pub record IsUnused (policy : Policy) (one : Kept UnnamedSegment) : Type 0 where
+  pub of : IsOf number_in policy one
+  pub home : (at : ℕ) → standing_at (records_in one.slots) at ≡ Home 0
+  pub classes : (page : ℕ) → class_at one.classes page ≡ None
+  pub seat : KnowsNothing (part_of_seat one.slots)
 
-  -- the segments of the policy from a number on, so many, each fresh
-  pub record AreFresh (policy : Policy) (from count : ℕ) (pool : Pooled (SegmentSeat N table))
-      : Type 0 where
-    pub orphans : pool.orphans ≡ []
-    pub numbers_are : numbers number_in pool.fresh ≡ range_with_len from count
-    pub each : AllByRecursion (IsUnused policy) pool.fresh
+-- the segments of the policy from a number on, so many, each fresh
+pub record AreFresh (policy : Policy) (from count : ℕ) (pool : Pooled UnnamedSegment)
+    : Type 0 where
+  pub orphans : pool.orphans ≡ []
+  pub numbers_are : numbers number_in pool.fresh ≡ range_with_len from count
+  pub each : AllByRecursion (IsUnused policy) pool.fresh

@@ -7,4 +7,4 @@ module _ {N : _} {own : _} {table : _} where
   abbrev pub AreTheirs : List (Option (Own N own table)) → Type 0
   AreTheirs workers =
       (k : ℕ) (worker : Own N own table) → slice_get workers k ≡ Some (Some worker)
-      → worker.number ≡ k
+      → worker.inner.value.number ≡ k

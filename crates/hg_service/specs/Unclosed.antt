@@ -3,7 +3,7 @@ use Rattle.std.specs.Prelude.{◌≡◌, ℕ, ◌<◌, false, List, length}
 use Rattle.std.specs.Box.{boxed_slice_items}
 use Rattle.hg_machine.specs.Policy.{Policy}
 use Rattle.hg_pool.specs.Pooled.{Pooled}
-use Rattle.hg_table.specs.declared.segment.SegmentSeat.{SegmentSeat}
+use Rattle.hg_table.specs.declared.segment.UnnamedSegment.{UnnamedSegment}
 use Rattle.hg_close.specs.Closed.{AreLost}
 use Rattle.hg_close.specs.declared.fault.CloseFault.{CloseFault}
 use Rattle.hg_close.specs.declared.fault.CloseFault.TheVariants as fault
@@ -22,7 +22,7 @@ use Rattle.hg_service.specs.Ready.{is_ready}
 module _ {N : _} {own : _} {table : _} (policy : Policy) where
   -- the first, where memory is there: a segment before a worker
   abbrev pub IsFault
-      : Pooled (SegmentSeat N table) → List (Own N own table) → CloseFault → Type 0
+      : Pooled UnnamedSegment → List (Own N own table) → CloseFault → Type 0
   IsFault pool workers (fault.StillHeld segment) =
       IsFirstMissing number_in pool (length policy.segments) segment
   IsFault pool workers fault.Memory = Unit {0}

@@ -52,14 +52,14 @@ impl<N: ServiceName> KeptList<N> {
     /// `Busy` where the block is of another segment, or the list has it already, and then it stays
     /// in the hand and the list as it was.
     pub fn deliver(&mut self, worker: &mut Worker<N>) -> Answer
-        ensures sent { IsSentTo self.old.segment worker.old.hand result self.old.list
-            self.new.list worker.new.hand }
+        ensures sent { IsSentTo self.old.segment worker.old.inner.value.hand result self.old.list
+            self.new.list worker.new.inner.value.hand }
         ensures segment { self.new.segment ≡ self.old.segment }
-        ensures heap { worker.new.heap ≡ worker.old.heap }
+        ensures heap { worker.new.inner.value.heap ≡ worker.old.inner.value.heap }
         ensures seats { StaysUnseen worker.old worker.new }
         ensures home { SendsNoneHome worker.old worker.new }
-        ensures rest { (worker.new.policy ≡ worker.old.policy)
-            × (worker.new.number ≡ worker.old.number) }
+        ensures rest { (worker.new.inner.value.policy ≡ worker.old.inner.value.policy)
+            × (worker.new.inner.value.number ≡ worker.old.inner.value.number) }
     {
         if let Some(place) = worker.hand() {
             if place.segment != self.segment {
@@ -73,11 +73,11 @@ impl<N: ServiceName> KeptList<N> {
     /// that, and then nothing changes.
     pub fn take(&mut self, worker: &mut Worker<N>) -> Answer
         ensures taken { IsTakenFrom number_in records_in seat_shows seat_steps
-            (is_held number_in worker.old.heap.segments self.old.segment) self.old.segment result
-            self.old.list self.new.list worker.old.heap worker.new.heap }
+            (is_held number_in worker.old.inner.value.heap.segments self.old.segment) self.old.segment result
+            self.old.list self.new.list worker.old.inner.value.heap worker.new.inner.value.heap }
         ensures whole { (count : ℕ) → result ≡ Answer.Taken count → (count ≤ SEGMENT_PLACES)
             × HaveComeHome number_in records_in self.old.segment (contents self.old.list)
-            worker.old.heap.segments worker.new.heap.segments count }
+            worker.old.inner.value.heap.segments worker.new.inner.value.heap.segments count }
         ensures segment { self.new.segment ≡ self.old.segment }
         ensures lives { LeavesLives worker.old worker.new }
         ensures home { SendsHome (λ place. (segment_of place ≡ self.old.segment)

@@ -3,7 +3,7 @@
 ghost use Rattle.std.specs.Prelude.{◌≡◌, ◌<◌, ◌*◌, ◌+◌, ℕ, length, All, IfOk};
 ghost use Rattle.std.specs.Box.{boxed_slice_items};
 ghost use Rattle.hg_place.specs.declared.geometry.TheConstants.{SEGMENT_PLACES};
-ghost use Rattle.hg_table.specs.Named.{table_of};
+ghost use Rattle.hg_table.specs.Named.{table_of, table_of_segment};
 ghost use Rattle.hg_table.specs.Seats.{AreHome, KnowsNothing, part_in, part_on};
 ghost use Rattle.hg_worker.specs.Seats.{number_in};
 ghost use Rattle.hg_service.specs.New.{AreAtNumbers, AreFresh, AreNew, AreUnsent, IsNew, IsUnused};
@@ -13,7 +13,7 @@ use crate::kept_list::KeptList;
 use hg_place::SlotWords;
 use hg_policy::Policy;
 use hg_segment::Segment;
-use hg_table::{LifeTable, Seats, SegmentSeat, WorkerSeat};
+use hg_table::{LifeTable, Seats, SegmentSeat, UnnamedSegment, WorkerSeat};
 use hg_worker::{KeptPool, ServiceName, Worker};
 use std::alloc::{AllocError, Global};
 
@@ -129,16 +129,18 @@ fn fresh_segment<N: ServiceName>(
     alloc: Global,
     policy: &Policy,
     seat: SegmentSeat<N>,
-) -> Result<Segment<SegmentSeat<N>>, AllocError>
-    requires below { number_in seat < length policy.now.segments }
+) -> Result<Segment<UnnamedSegment>, AllocError>
+    requires below { number_in seat.inner < length policy.now.segments }
     requires home { AreHome (boxed_slice_items seat.inner.records) }
     requires nothing { KnowsNothing (part_in seat.inner.seat) }
-    ensures number { IfOk result (λ one. number_in one.slots ≡ number_in seat) }
+    ensures number { IfOk result (λ one. number_in one.slots ≡ number_in seat.inner) }
+    ensures named { IfOk result (λ one. table_of_segment one.slots ≡ N.table) }
     ensures unused { IfOk result (IsUnused policy.now) }
 {
     let number = seat.segment();
     let Some(arena) = policy.arena_of(number) else {
         unreachable!()
     };
-    Segment::new(alloc, number, arena, policy.max_generation(), seat)
+    let slots = seat.without_name();
+    Segment::new(alloc, number, arena, policy.max_generation(), slots)
 }

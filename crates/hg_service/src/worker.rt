@@ -30,13 +30,13 @@ impl<N: ServiceName> Worker<N> {
     /// that is nothing. `Busy` where the list has it already, and then it stays in the hand: that
     /// never comes while workers share a service's lists alone (tested).
     pub fn deliver<R: Wait>(&mut self, rt: &R) -> Answer
-        ensures sent { Delivers self.old.own.hand result self.new.own.hand }
-        ensures empty { result ≡ Answer.NothingInHand ↔ self.old.own.hand ≡ None }
-        ensures heap { self.new.own.heap ≡ self.old.own.heap }
+        ensures sent { Delivers self.old.own.inner.value.hand result self.new.own.inner.value.hand }
+        ensures empty { result ≡ Answer.NothingInHand ↔ self.old.own.inner.value.hand ≡ None }
+        ensures heap { self.new.own.inner.value.heap ≡ self.old.own.inner.value.heap }
         ensures seats { StaysUnseen self.old.own self.new.own }
         ensures home { SendsNoneHome self.old.own self.new.own }
-        ensures rest { (self.new.own.policy ≡ self.old.own.policy)
-            × (self.new.own.number ≡ self.old.own.number) }
+        ensures rest { (self.new.own.inner.value.policy ≡ self.old.own.inner.value.policy)
+            × (self.new.own.inner.value.number ≡ self.old.own.inner.value.number) }
     {
         let Some(place) = self.own.hand() else {
             return Answer::NothingInHand;
@@ -51,9 +51,9 @@ impl<N: ServiceName> Worker<N> {
     /// it doesn't hold that.
     pub fn take<R: Wait>(&mut self, rt: &R, segment: u8) -> Answer
         ensures taken { Takes number_in records_in seat_shows seat_steps segment result
-            self.old.own.heap self.new.own.heap }
+            self.old.own.inner.value.heap self.new.own.inner.value.heap }
         ensures unheld { result ≡ Answer.NotHeld
-            ↔ is_held number_in self.old.own.heap.segments segment ≡ false }
+            ↔ is_held number_in self.old.own.inner.value.heap.segments segment ≡ false }
         ensures lives { LeavesLives self.old.own self.new.own }
         ensures rest { Keeps self.old.own self.new.own }
     {
@@ -69,12 +69,12 @@ impl<N: ServiceName> Worker<N> {
     /// Takes the oldest orphan of an arena, or else its lowest fresh segment. `NoSegment` where the
     /// pool has neither.
     pub fn refill<R: Wait>(&mut self, rt: &R, arena: u8) -> Answer
-        ensures refilled { Refills number_in records_in part_of_seat self.old.own.policy arena
+        ensures refilled { Refills number_in records_in part_of_seat self.old.own.inner.value.policy arena
             result (had self.old.own) (had self.new.own) }
         ensures came { (segment : ℕ) → result ≡ Answer.Refilled segment
-            → (arena_of self.old.own.policy segment ≡ Some arena)
-            × (is_held number_in self.old.own.heap.segments segment ≡ false)
-            × (is_held number_in self.new.own.heap.segments segment ≡ true) }
+            → (arena_of self.old.own.inner.value.policy segment ≡ Some arena)
+            × (is_held number_in self.old.own.inner.value.heap.segments segment ≡ false)
+            × (is_held number_in self.new.own.inner.value.heap.segments segment ≡ true) }
         ensures lives { LeavesLives self.old.own self.new.own }
         ensures home { SendsNoneHome self.old.own self.new.own }
         ensures rest { Keeps self.old.own self.new.own }
@@ -88,14 +88,14 @@ impl<N: ServiceName> Worker<N> {
     /// Gives up a segment that the worker holds, with the blocks that live there: it is the last
     /// orphan. `NotHeld`, without a lock, where it doesn't hold that.
     pub fn abandon<R: Wait>(&mut self, rt: &R, segment: u8) -> Answer
-        ensures abandoned { Abandons number_in segment result self.old.own.heap
-            self.new.own.heap }
+        ensures abandoned { Abandons number_in segment result self.old.own.inner.value.heap
+            self.new.own.inner.value.heap }
         ensures unheld { result ≡ Answer.NotHeld
-            ↔ is_held number_in self.old.own.heap.segments segment ≡ false }
-        ensures gone { is_held number_in self.new.own.heap.segments segment ≡ false }
+            ↔ is_held number_in self.old.own.inner.value.heap.segments segment ≡ false }
+        ensures gone { is_held number_in self.new.own.inner.value.heap.segments segment ≡ false }
         ensures others { (other : ℕ) → other ≢ segment
-            → segment_in number_in self.new.own.heap.segments other
-            ≡ segment_in number_in self.old.own.heap.segments other }
+            → segment_in number_in self.new.own.inner.value.heap.segments other
+            ≡ segment_in number_in self.old.own.inner.value.heap.segments other }
         ensures lives { LeavesLives self.old.own self.new.own }
         ensures home { SendsNoneHome self.old.own self.new.own }
         ensures rest { Keeps self.old.own self.new.own }

@@ -52,6 +52,78 @@ impl UnnamedWorker {
             of: PhantomData,
         }
     }
+
+    /// The word of a place of the table.
+    pub fn look(&mut self, place: Place) -> u64
+        requires { word_at place.segment (slot_of place) < self.old.badge.table_id.words }
+        ensures shown { IsShown (word_at place.segment (slot_of place)) result
+            (part_on self.old.badge) }
+        ensures step { HasStepped (part_on self.old.badge)
+            (word_at place.segment (slot_of place)) result result (part_on self.new.badge) }
+        ensures same { self.new.badge.table_id ≡ self.old.badge.table_id }
+    {
+        let badge = mem::replace(&mut self.badge, Badge::blank());
+        let mut seat: Seat<(), View> = badge.into_seat();
+        let table = &self.table;
+        let found = table.shared.load::<Look>(&mut seat, word(place));
+        self.badge = seat.into_badge();
+        found
+    }
+
+    /// Ends the life of the live word that is expected, by one exchange: its place stays open until
+    /// the segment's seat takes it home. An error has the word that was found, which is another,
+    /// and leaves it.
+    pub fn part(&mut self, place: Place, expected: u64) -> Result<(), u64>
+        requires place { word_at place.segment (slot_of place) < self.old.badge.table_id.words }
+        requires live { IsLiveWord expected }
+        ensures ok { OnOk result (IsShown (word_at place.segment (slot_of place)) expected
+            (part_on self.old.badge)
+            × HasStepped (part_on self.old.badge) (word_at place.segment (slot_of place))
+            expected (expected - 1) (part_on self.new.badge)) }
+        ensures err { IfErr result (λ found. (found ≢ expected)
+            × IsShown (word_at place.segment (slot_of place)) found (part_on self.old.badge)
+            × HasStepped (part_on self.old.badge) (word_at place.segment (slot_of place))
+            found found (part_on self.new.badge)) }
+        ensures same { self.new.badge.table_id ≡ self.old.badge.table_id }
+    {
+        let badge = mem::replace(&mut self.badge, Badge::blank());
+        let mut seat: Seat<(), View> = badge.into_seat();
+        let table = &self.table;
+        let found = table
+            .shared
+            .compare_exchange::<Part>(&mut seat, word(place), expected, expected - 1);
+        self.badge = seat.into_badge();
+        if found == expected {
+            Ok(())
+        } else {
+            Err(found)
+        }
+    }
+
+    /// The word of a place of the table, as this seat and another of it see it together: each has
+    /// seen it from then on.
+    pub fn meet(&mut self, other: &mut UnnamedWorker, place: Place) -> u64
+        requires place { word_at place.segment (slot_of place) < self.old.badge.table_id.words }
+        requires together { self.old.badge.table_id ≡ other.old.badge.table_id }
+        ensures met { HaveMet (word_at place.segment (slot_of place)) result
+            (part_on self.old.badge) (part_on other.old.badge)
+            (part_on self.new.badge) (part_on other.new.badge) }
+        ensures same { self.new.badge.table_id ≡ self.old.badge.table_id }
+        ensures same_other { other.new.badge.table_id ≡ other.old.badge.table_id }
+    {
+        let badge = mem::replace(&mut other.badge, Badge::blank());
+        let theirs: Seat<(), View> = badge.into_seat();
+        let own = mem::replace(&mut self.badge, Badge::blank());
+        let mut seat: Seat<(), View> = own.into_seat();
+        let table = &self.table;
+        let shared = &table.shared;
+        shared.join_seat::<Both>(&mut seat, theirs);
+        let found = shared.load::<Meet>(&mut seat, word(place));
+        let back = shared.split_seat::<Both>(&mut seat);
+        other.badge = back.into_badge();
+        self.badge = seat.into_badge();
+        found
+    }
 }
 
 impl<N: TableName> WorkerSeat<N> {
@@ -71,13 +143,7 @@ impl<N: TableName> WorkerSeat<N> {
         ensures step { HasStepped (part_on self.old.inner.badge)
             (word_at place.segment (slot_of place)) result result (part_on self.new.inner.badge) }
     {
-        let inner = &mut self.inner;
-        let badge = mem::replace(&mut inner.badge, Badge::blank());
-        let mut seat: Seat<(), View> = badge.into_seat();
-        let table = &inner.table;
-        let found = table.shared.load::<Look>(&mut seat, word(place));
-        inner.badge = seat.into_badge();
-        found
+        self.inner.look(place)
     }
 
     /// Ends the life of the live word that is expected, by one exchange: its place stays open until
@@ -95,19 +161,7 @@ impl<N: TableName> WorkerSeat<N> {
             × HasStepped (part_on self.old.inner.badge) (word_at place.segment (slot_of place))
             found found (part_on self.new.inner.badge)) }
     {
-        let inner = &mut self.inner;
-        let badge = mem::replace(&mut inner.badge, Badge::blank());
-        let mut seat: Seat<(), View> = badge.into_seat();
-        let table = &inner.table;
-        let found = table
-            .shared
-            .compare_exchange::<Part>(&mut seat, word(place), expected, expected - 1);
-        inner.badge = seat.into_badge();
-        if found == expected {
-            Ok(())
-        } else {
-            Err(found)
-        }
+        self.inner.part(place, expected)
     }
 
     /// The word of a place of the table, as this seat and the other see it together: each has seen
@@ -118,19 +172,6 @@ impl<N: TableName> WorkerSeat<N> {
             (part_on self.old.inner.badge) (part_on other.old.inner.badge)
             (part_on self.new.inner.badge) (part_on other.new.inner.badge) }
     {
-        let others = &mut other.inner;
-        let badge = mem::replace(&mut others.badge, Badge::blank());
-        let theirs: Seat<(), View> = badge.into_seat();
-        let inner = &mut self.inner;
-        let own = mem::replace(&mut inner.badge, Badge::blank());
-        let mut seat: Seat<(), View> = own.into_seat();
-        let table = &inner.table;
-        let shared = &table.shared;
-        shared.join_seat::<Both>(&mut seat, theirs);
-        let found = shared.load::<Meet>(&mut seat, word(place));
-        let back = shared.split_seat::<Both>(&mut seat);
-        others.badge = back.into_badge();
-        inner.badge = seat.into_badge();
-        found
+        self.inner.meet(&mut other.inner, place)
     }
 }

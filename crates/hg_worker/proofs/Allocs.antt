@@ -18,14 +18,13 @@ use Rattle.hg_heap.specs.Idle.{bare}
 use Rattle.hg_heap.specs.Policies.{AreOf}
 use Rattle.hg_heap.proofs.Founds.{Contains-get}
 use Rattle.hg_heap.proofs.Looking.{slot_below}
-use Rattle.hg_table.specs.declared.name.TableName.{Ghosts}
-use Rattle.hg_table.specs.declared.segment.SegmentSeat.{SegmentSeat}
+use Rattle.hg_table.specs.declared.segment.UnnamedSegment.{UnnamedSegment}
 use Rattle.hg_table.specs.Fitting.{fitting}
 use Rattle.hg_table.specs.Seats.{ended_after}
 use Rattle.hg_table.proofs.Told.{not_ended}
 use Rattle.hg_worker.specs.Answers.{block_in}
 use Rattle.hg_worker.specs.Seats.{number_in, records_in, part_of_seat}
-use Rattle.hg_worker.proofs.Steps.{seat_shows, seat_steps}
+use Rattle.hg_worker.specs.Seats.{seat_shows, seat_steps}
 
 -- a refusal of the heap gives no block
 pub no_block : (why : Refused) → block_in (refused_answer why) ≡ None
@@ -57,36 +56,35 @@ live_ends_none at word generation owner ended =
     let lives : word_life (live_word generation owner) ≡ 1 = omega arith in
     not_ended at word (live_word generation owner) ended (λ _. lives) ∙ sym (append-nil ended)
 
-module _ {N : Type 0} {table : Ghosts N} where
-  module _ (policy : Policy) (size owner : ℕ) (handle : Handle)
-      (old new : List (Kept (SegmentSeat N table)))
-      (given : IsAllotted number_in records_in (seat_shows number_in part_of_seat)
-      (seat_steps number_in part_of_seat) size owner handle old new) where
-    -- the word that stood at the place was the one before
-    pub given_follows : IsAtOrBefore given.word (live_word handle.generation owner)
-    given_follows =
-        let st = given.stepped in
-        let seat = st.before.slots in
-        let fits = (fitting seat.inner.segment (slot_of handle.place) given.word (part_of_seat seat)
-        (records_in seat) seat.inner.first seat.inner.recorded seat.inner.sized
-        (slot_below handle.place) st.shown).1 in
-        let home : Fits (Home (handle.generation - 1)) given.word =
-        subst (λ r. Fits r given.word) given.home fits in
-        let sane : IsSane (Open handle.generation owner) =
-        subst IsSane given.given.standing
-        (st.after.slots.inner.sane (slot_of handle.place) (slot_below handle.place)) in
-        live_follows given.word handle.generation owner (sane.given_out refl) (sane.owner refl)
-        home.generation
+module _ (policy : Policy) (size owner : ℕ) (handle : Handle)
+    (old new : List (Kept UnnamedSegment))
+    (given : IsAllotted number_in records_in seat_shows
+    seat_steps size owner handle old new) where
+  -- the word that stood at the place was the one before
+  pub given_follows : IsAtOrBefore given.word (live_word handle.generation owner)
+  given_follows =
+      let st = given.stepped in
+      let seat = st.before.slots in
+      let fits = (fitting seat.segment (slot_of handle.place) given.word (part_of_seat seat)
+      (records_in seat) seat.first seat.recorded seat.sized
+      (slot_below handle.place) st.shown).1 in
+      let home : Fits (Home (handle.generation - 1)) given.word =
+      subst (λ r. Fits r given.word) given.home fits in
+      let sane : IsSane (Open handle.generation owner) =
+      subst IsSane given.given.standing
+      (st.after.slots.sane (slot_of handle.place) (slot_below handle.place)) in
+      live_follows given.word handle.generation owner (sane.given_out refl) (sane.owner refl)
+      home.generation
 
-    -- of a segment of the policy
-    pub given_arena : AreOf number_in policy old
-        → (arena : ℕ) × (arena_of policy handle.place.segment ≡ Some arena)
-    given_arena of =
-        let st = given.stepped in (
-          st.before.arena,
-          ap (arena_of policy) (sym st.segment)
-              ∙ of.arena st.before (Contains-get old st.found st.before st.at),
-        )
+  -- of a segment of the policy
+  pub given_arena : AreOf number_in policy old
+      → (arena : ℕ) × (arena_of policy handle.place.segment ≡ Some arena)
+  given_arena of =
+      let st = given.stepped in (
+        st.before.arena,
+        ap (arena_of policy) (sym st.segment)
+            ∙ of.arena st.before (Contains-get old st.found st.before st.at),
+      )
 
 module _ {S X : Type 0} (number : S → ℕ) (part : S → X) where
   mapped : (b : Bool) (k : Kept S) (o : Option (Kept S))

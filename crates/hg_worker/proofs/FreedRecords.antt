@@ -34,12 +34,13 @@ use Rattle.hg_heap.proofs.Looking.{slot_below}
 use Rattle.hg_heap.proofs.ViewRoom.{holding_in}
 use Rattle.hg_heap.proofs.Witnessed.{no_tie_is_empty}
 use Rattle.hg_machine.specs.SoundPolicy.{IsSoundPolicy}
-use Rattle.hg_table.specs.declared.name.TableName.{Ghosts}
-use Rattle.hg_table.specs.declared.segment.SegmentSeat.{SegmentSeat}
+use Rattle.hg_table.specs.declared.segment.UnnamedSegment.{UnnamedSegment}
 use Rattle.hg_table.specs.Fitting.{fitting}
 use Rattle.hg_worker.specs.Seats.{number_in, records_in, part_of_seat}
+use Rattle.hg_worker.specs.Seats.{seat_shows, seat_steps}
 use Rattle.hg_worker.specs.Records.{record_in, IsHomeAlone}
-use Rattle.hg_worker.proofs.Steps.{seat_shows, seat_steps, before_in}
+use Rattle.hg_worker.proofs.Steps.{before_in}
+use Rattle.hg_worker.proofs.Tables.{stepped_as}
 
 abbrev or_home : Option Standing → Standing
 or_home None = Home 0
@@ -161,85 +162,85 @@ module _ {S : Type 0} (number : S → ℕ) (records : S → List Standing) where
         ∙ ap (λ s. Home (standing_generation s)) (was_standing p held)
         ∙ ap (λ o. Home (standing_generation (or_home o))) was)
 
-module _ {N : Type 0} {table : Ghosts N} where
-  fits : (s : SegmentSeat N table) (at word : ℕ) → at < 8192
-      → seat_shows number_in part_of_seat s at word
-      → IsSlotWord word × Fits (standing_at (records_in s) at) word
-  fits s at word below is =
-      fitting s.inner.segment at word (part_of_seat s) (records_in s) s.inner.first
-      s.inner.recorded s.inner.sized below is
+fits : (s : UnnamedSegment) (at word : ℕ) → at < 8192
+    → seat_shows s at word
+    → IsSlotWord word × Fits (standing_at (records_in s) at) word
+fits s at word below is =
+    fitting s.segment at word (part_of_seat s) (records_in s) s.first
+    s.recorded s.sized below is
 
-  module _ (policy : Policy) (worker : ℕ) (actor : Actor) (handle : Handle)
-      (old new : List (Kept (SegmentSeat N table))) (sound : IsSoundPolicy policy)
-      (few : worker < policy.workers) (of : AreOf number_in policy old)
-      (settled : (k : Kept (SegmentSeat N table)) → Contains old k → IsSettled records_in k)
-      (once : HasNoRepeats (numbers number_in old)) where
-    owner_is : IsOwner number_in records_in (seat_shows number_in part_of_seat) policy worker None 0
-        old
-    owner_is = record {
-      policy_sound = sound;
-      below = few;
-      are_of = of;
-      settled = settled;
-      within = λ place e. absurd (none-some place e);
-      unheld = λ place e. absurd (none-some place e);
-      given_out = λ place e. absurd (none-some place e);
-      greatest = λ place e. absurd (none-some place e);
-    }
+module _ (policy : Policy) (worker : ℕ) (actor : Actor) (handle : Handle)
+    (old new : List (Kept UnnamedSegment)) (sound : IsSoundPolicy policy)
+    (few : worker < policy.workers) (of : AreOf number_in policy old)
+    (settled : (k : Kept UnnamedSegment) → Contains old k → IsSettled records_in k)
+    (once : HasNoRepeats (numbers number_in old)) where
+  owner_is : IsOwner number_in records_in seat_shows policy worker None 0
+      old
+  owner_is = record {
+    policy_sound = sound;
+    below = few;
+    are_of = of;
+    settled = settled;
+    within = λ place e. absurd (none-some place e);
+    unheld = λ place e. absurd (none-some place e);
+    given_out = λ place e. absurd (none-some place e);
+    greatest = λ place e. absurd (none-some place e);
+  }
 
-    -- the block was open, in the life of the word
-    was_open : (word : ℕ) → IsLiveWord word → word_generation word ≡ handle.generation
-        → Stepped number_in (seat_shows number_in part_of_seat)
-        (seat_steps number_in part_of_seat) handle.place word (word - 1) old new
-        → record_in number_in records_in old (number_of handle.place)
-        ≡ Some (Open handle.generation (word_owner word))
-    was_open word alive generation st =
-        let place = handle.place in
-        let here = before_in number_in part_of_seat place word (word - 1) old new once st in
-        let f = fits st.before.slots (slot_of place) word (slot_below place) st.shown in
-        ap (option_map (λ (k : Kept (SegmentSeat N table)).
-        standing_at (records_in k.slots) (number_of place % 8192)))
-        (ap (segment_in number_in old) (segment_is place) ∙ here)
-        ∙ ap (λ n. Some (standing_at (records_in st.before.slots) n)) (at_is place)
-        ∙ ap Some
-        (open_by (standing_at (records_in st.before.slots) (slot_of place)) word f.1 alive.1)
-        ∙ ap (λ (n : ℕ). Some (Open n (word_owner word))) generation
+  -- the block was open, in the life of the word
+  was_open : (word : ℕ) → IsLiveWord word → word_generation word ≡ handle.generation
+      → Stepped number_in seat_shows
+      seat_steps handle.place word (word - 1) old new
+      → record_in number_in records_in old (number_of handle.place)
+      ≡ Some (Open handle.generation (word_owner word))
+  was_open word alive generation st =
+      let place = handle.place in
+      let here = before_in number_in part_of_seat place word (word - 1) old new once (stepped_as st) in
+      let f = fits st.before.slots (slot_of place) word (slot_below place) st.shown in
+      ap (option_map (λ (k : Kept UnnamedSegment).
+      standing_at (records_in k.slots) (number_of place % 8192)))
+      (ap (segment_in number_in old) (segment_is place) ∙ here)
+      ∙ ap (λ n. Some (standing_at (records_in st.before.slots) n)) (at_is place)
+      ∙ ap Some
+      (open_by (standing_at (records_in st.before.slots) (slot_of place)) word f.1 alive.1)
+      ∙ ap (λ (n : ℕ). Some (Open n (word_owner word))) generation
 
-    -- and is home
-    pub freed_alone : (word other : ℕ) → IsLiveWord word → word_generation word ≡ handle.generation
-        → Stepped number_in (seat_shows number_in part_of_seat)
-        (seat_steps number_in part_of_seat) handle.place word (word - 1) old new
-        → Stepped number_in (seat_shows number_in part_of_seat)
-        (seat_steps number_in part_of_seat) handle.place other (other - 1) old new
-        → HeapTies number_in records_in policy (shown_at handle.place other)
-        (shown_at handle.place (other - 1)) (event.Free actor handle) answer.Done old new
-        → IsHomeAlone number_in records_in handle old new
-    freed_alone word other alive generation st st' ties =
-        let place = handle.place in
-        let law =
-        no_tie_is_empty number_in records_in (seat_shows number_in part_of_seat)
-        (λ s. s.inner.sized) (λ s. s.inner.sane) fits in
-        let here = before_in number_in part_of_seat place other (other - 1) old new once st' in
-        let m = law.shown policy worker None 0 other old place st'.before owner_is here st'.shown in
-        let follows = ties worker None 0 few m.0 m.1 in
-        let was = was_open word alive generation st in
-        let arena = of.arena st'.before
-        (segment_contained number_in old place.segment st'.before here) in
-        let inside = slice_get_within policy.segments place.segment st'.before.arena
-        (ap (arena_of policy) (sym st'.segment) ∙ arena) in
-        let whole = m.1.sound.whole.records in
-        let same : length m.0.policy.segments ≡ length policy.segments =
-        ap (λ (q : Policy). length q.segments) m.1.policy in
-        let p = place.page_below in
-        let i = place.index_below in
-        let below : number_of place < length m.0.records = omega (arith, inside, whole, same, p, i)
-        in
-        record {
-          owner = word_owner word;
-          was = was;
-          home = goes_home number_in records_in policy worker (number_of place) old new m.0
-              (shown_at place other) (shown_at place (other - 1)) m.1 follows.agrees
-              handle.generation (word_owner word) below was;
-          others = others_stay number_in records_in policy worker (number_of place) old new m.0
-              (shown_at place other) (shown_at place (other - 1)) m.1 follows.agrees;
-        }
+  -- and is home
+  pub freed_alone : (word other : ℕ) → IsLiveWord word → word_generation word ≡ handle.generation
+      → Stepped number_in seat_shows
+      seat_steps handle.place word (word - 1) old new
+      → Stepped number_in seat_shows
+      seat_steps handle.place other (other - 1) old new
+      → HeapTies number_in records_in policy (shown_at handle.place other)
+      (shown_at handle.place (other - 1)) (event.Free actor handle) answer.Done old new
+      → IsHomeAlone number_in records_in handle old new
+  freed_alone word other alive generation st st' ties =
+      let place = handle.place in
+      let law =
+      no_tie_is_empty number_in records_in seat_shows
+      (λ s. s.sized) (λ s. s.sane) fits in
+      let here = before_in number_in part_of_seat place other (other - 1) old new once (stepped_as st')
+      in
+      let m = law.shown policy worker None 0 other old place st'.before owner_is here st'.shown in
+      let follows = ties worker None 0 few m.0 m.1 in
+      let was = was_open word alive generation st in
+      let arena = of.arena st'.before
+      (segment_contained number_in old place.segment st'.before here) in
+      let inside = slice_get_within policy.segments place.segment st'.before.arena
+      (ap (arena_of policy) (sym st'.segment) ∙ arena) in
+      let whole = m.1.sound.whole.records in
+      let same : length m.0.policy.segments ≡ length policy.segments =
+      ap (λ (q : Policy). length q.segments) m.1.policy in
+      let p = place.page_below in
+      let i = place.index_below in
+      let below : number_of place < length m.0.records = omega (arith, inside, whole, same, p, i)
+      in
+      record {
+        owner = word_owner word;
+        was = was;
+        home = goes_home number_in records_in policy worker (number_of place) old new m.0
+            (shown_at place other) (shown_at place (other - 1)) m.1 follows.agrees
+            handle.generation (word_owner word) below was;
+        others = others_stay number_in records_in policy worker (number_of place) old new m.0
+            (shown_at place other) (shown_at place (other - 1)) m.1 follows.agrees;
+      }

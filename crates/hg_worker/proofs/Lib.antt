@@ -1,12 +1,13 @@
 pub mod Steps
 pub mod Away
 pub mod Witnessed
+pub mod Pools
+pub mod Tables
 pub mod Seats
 pub mod Workers
 pub mod Frees
 pub mod Allocs
 pub mod Meetings
-pub mod Pools
 pub mod Takings
 pub mod Hands
 pub mod Comings

@@ -81,6 +81,48 @@ left_there xs ys one p k c =
     Contains-permutation (one ∷ ys) xs k (IsPermutation-sym xs (one ∷ ys) p)
     (Contains-append_right (one ∷ []) ys k c)
 
+-- what has an orphan more has what it had, and that one
+pub with_there : {X : Type 0} (orphans fresh : List X) (one k : X)
+    → Contains ((orphans ++ one ∷ []) ++ fresh) k → Contains ((orphans ++ fresh) ++ one ∷ []) k
+with_there orphans fresh one k c =
+    ⊎_elim
+    (λ (l : Contains (orphans ++ one ∷ []) k).
+    ⊎_elim
+    (λ (a : Contains orphans k).
+    Contains-append_left (orphans ++ fresh) (one ∷ []) k (Contains-append_left orphans fresh k a))
+    (λ (b : Contains (one ∷ []) k). Contains-append_right (orphans ++ fresh) (one ∷ []) k b)
+    (Contains-append_cases orphans (one ∷ []) k l))
+    (λ (r : Contains fresh k).
+    Contains-append_left (orphans ++ fresh) (one ∷ []) k (Contains-append_right orphans fresh k r))
+    (Contains-append_cases (orphans ++ one ∷ []) fresh k c)
+
+-- so has what has one more amid the fresh ones
+pub amid_there : {X : Type 0} (orphans fresh orphans' fresh' front back : List X) (one k : X)
+    → orphans' ≡ orphans → front ++ back ≡ fresh → fresh' ≡ front ++ one ∷ back
+    → Contains (orphans' ++ fresh') k → Contains ((orphans ++ fresh) ++ one ∷ []) k
+amid_there {X} orphans fresh orphans' fresh' front back one k same is now c =
+    let there : Contains (orphans ++ (front ++ one ∷ back)) k =
+    subst (λ (xs : List X). Contains (xs ++ (front ++ one ∷ back)) k) same
+    (subst (λ (xs : List X). Contains (orphans' ++ xs) k) now c) in
+    let old : Contains fresh k → Contains ((orphans ++ fresh) ++ one ∷ []) k =
+    λ f. Contains-append_left (orphans ++ fresh) (one ∷ []) k
+    (Contains-append_right orphans fresh k f) in
+    ⊎_elim
+    (λ (l : Contains orphans k).
+    Contains-append_left (orphans ++ fresh) (one ∷ []) k (Contains-append_left orphans fresh k l))
+    (λ (r : Contains (front ++ one ∷ back) k).
+    ⊎_elim
+    (λ (a : Contains front k).
+    old (subst (λ (xs : List X). Contains xs k) is (Contains-append_left front back k a)))
+    (λ (b : Contains ((one ∷ []) ++ back) k).
+    ⊎_elim
+    (λ (o : Contains (one ∷ []) k). Contains-append_right (orphans ++ fresh) (one ∷ []) k o)
+    (λ (q : Contains back k).
+    old (subst (λ (xs : List X). Contains xs k) is (Contains-append_right front back k q)))
+    (Contains-append_cases (one ∷ []) back k b))
+    (Contains-append_cases front (one ∷ back) k r))
+    (Contains-append_cases orphans (front ++ one ∷ back) k there)
+
 module _ {S : Type 0} (number : S → ℕ) where
   -- what comes next is in the pool
   pub next_contained : (pool : Pooled S) (arena : ℕ) (one : Kept S) → next_in pool arena ≡ Some one
@@ -105,17 +147,26 @@ module _ {S : Type 0} (number : S → ℕ) where
     greatest = λ k c. of.greatest k (part k c);
   }
 
+  -- what a pool has without a segment it had with it
+  pub without_there : (pool : Pooled S) (segment : ℕ) (k : Kept S)
+      → Contains
+      ((without_segment number pool segment).orphans ++ (without_segment number pool segment).fresh)
+      k
+      → Contains (pool.orphans ++ pool.fresh) k
+  without_there pool segment k c =
+      let p : Kept S → Bool = λ one. not (is_numbered number segment one) in
+      contained_in p (pool.orphans ++ pool.fresh) k
+      (subst (λ (l : List (Kept S)). Contains l k)
+      (sym (filter-append p pool.orphans pool.fresh)) c)
+
   pub pool_without : (policy : Policy) (pool : Pooled S) (segment : ℕ)
       → AreOf number policy (pool.orphans ++ pool.fresh)
       → AreOf number policy
       ((without_segment number pool segment).orphans ++ (without_segment number pool segment).fresh)
   pool_without policy pool segment of =
-      let p : Kept S → Bool = λ one. not (is_numbered number segment one) in
       are_of_part policy (pool.orphans ++ pool.fresh)
       (without_number number segment pool.orphans ++ without_number number segment pool.fresh)
-      (λ k c. contained_in p (pool.orphans ++ pool.fresh) k
-      (subst (λ (l : List (Kept S)). Contains l k)
-      (sym (filter-append p pool.orphans pool.fresh)) c)) of
+      (without_there pool segment) of
 
   -- one more
   pub are_of_more : (policy : Policy) (xs : List (Kept S)) (one : Kept S) → AreOf number policy xs
@@ -139,21 +190,7 @@ module _ {S : Type 0} (number : S → ℕ) where
       → AreOf number policy ((orphans ++ one ∷ []) ++ fresh)
   pool_with policy orphans fresh one of here =
       are_of_part policy ((orphans ++ fresh) ++ one ∷ []) ((orphans ++ one ∷ []) ++ fresh)
-      (λ k c.
-      ⊎_elim
-      (λ (l : Contains (orphans ++ one ∷ []) k).
-      ⊎_elim
-      (λ (a : Contains orphans k).
-      Contains-append_left (orphans ++ fresh) (one ∷ []) k
-      (Contains-append_left orphans fresh k a))
-      (λ (b : Contains (one ∷ []) k).
-      Contains-append_right (orphans ++ fresh) (one ∷ []) k b)
-      (Contains-append_cases orphans (one ∷ []) k l))
-      (λ (r : Contains fresh k).
-      Contains-append_left (orphans ++ fresh) (one ∷ []) k
-      (Contains-append_right orphans fresh k r))
-      (Contains-append_cases (orphans ++ one ∷ []) fresh k c))
-      (are_of_more policy (orphans ++ fresh) one of here)
+      (with_there orphans fresh one) (are_of_more policy (orphans ++ fresh) one of here)
 
   -- one more, amid the fresh ones
   pub pool_amid : (policy : Policy) (orphans fresh orphans' fresh' : List (Kept S)) (one : Kept S)
@@ -162,29 +199,5 @@ module _ {S : Type 0} (number : S → ℕ) where
       → fresh' ≡ front ++ one ∷ back → AreOf number policy (orphans' ++ fresh')
   pool_amid policy orphans fresh orphans' fresh' one front back of here same is now =
       are_of_part policy ((orphans ++ fresh) ++ one ∷ []) (orphans' ++ fresh')
-      (λ k c.
-      let there : Contains (orphans ++ (front ++ one ∷ back)) k =
-      subst (λ (xs : List (Kept S)). Contains (xs ++ (front ++ one ∷ back)) k) same
-      (subst (λ (xs : List (Kept S)). Contains (orphans' ++ xs) k) now c) in
-      let old : Contains fresh k → Contains ((orphans ++ fresh) ++ one ∷ []) k =
-      λ f. Contains-append_left (orphans ++ fresh) (one ∷ []) k
-      (Contains-append_right orphans fresh k f) in
-      ⊎_elim
-      (λ (l : Contains orphans k).
-      Contains-append_left (orphans ++ fresh) (one ∷ []) k
-      (Contains-append_left orphans fresh k l))
-      (λ (r : Contains (front ++ one ∷ back) k).
-      ⊎_elim
-      (λ (a : Contains front k).
-      old (subst (λ (xs : List (Kept S)). Contains xs k) is
-      (Contains-append_left front back k a)))
-      (λ (b : Contains ((one ∷ []) ++ back) k).
-      ⊎_elim
-      (λ (o : Contains (one ∷ []) k). Contains-append_right (orphans ++ fresh) (one ∷ []) k o)
-      (λ (q : Contains back k).
-      old (subst (λ (xs : List (Kept S)). Contains xs k) is
-      (Contains-append_right front back k q)))
-      (Contains-append_cases (one ∷ []) back k b))
-      (Contains-append_cases front (one ∷ back) k r))
-      (Contains-append_cases orphans (front ++ one ∷ back) k there))
+      (λ k. amid_there orphans fresh orphans' fresh' front back one k same is now)
       (are_of_more policy (orphans ++ fresh) one of here)

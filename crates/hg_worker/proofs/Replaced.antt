@@ -43,29 +43,31 @@ module _ {S : Type 0} (number : S → ℕ) where
       let ks = pool.orphans ++ pool.fresh in
       Contains-get ks (position_or_len p ks) one (sym (find_at p ks) ∙ e)
 
+  -- what a pool has then it had, or that one
+  pub then_cases : (pool : Pooled S) (after k : Kept S) (n : ℕ)
+      → Contains ((with_segment number pool n after).orphans
+      ++ (with_segment number pool n after).fresh) k
+      → (after ≡ k) ⊎ Contains (pool.orphans ++ pool.fresh) k
+  then_cases pool after k n c =
+      replaced_cases (pool.orphans ++ pool.fresh) after k n
+      (subst (λ ks. Contains ks k)
+      (sym (map-append (λ j. cond (is_numbered number n j) after j) pool.orphans pool.fresh)) c)
+
   -- so all are as the policy has them, where that one is
   pub pool_then : (policy : Policy) (pool : Pooled S) (after : Kept S) (n : ℕ)
       → AreOf number policy (pool.orphans ++ pool.fresh) → IsOf number policy after
       → AreOf number policy
       ((with_segment number pool n after).orphans ++ (with_segment number pool n after).fresh)
   pool_then policy pool after n of here =
-      let both = sym (map-append (λ k. cond (is_numbered number n k) after k) pool.orphans
-      pool.fresh) in
-      let was : (k : Kept S)
-      → Contains ((with_segment number pool n after).orphans
-      ++ (with_segment number pool n after).fresh) k
-      → (after ≡ k) ⊎ Contains (pool.orphans ++ pool.fresh) k =
-      λ k c. replaced_cases (pool.orphans ++ pool.fresh) after k n
-      (subst (λ ks. Contains ks k) both c) in
       record {
         arena = λ k c. ⊎_elim
             (λ (e : after ≡ k).
             subst (λ (j : Kept S). arena_of policy (number j.slots) ≡ Some j.arena) e here.0)
             (λ (d : Contains (pool.orphans ++ pool.fresh) k). of.arena k d)
-            (was k c);
+            (then_cases pool after k n c);
         greatest = λ k c. ⊎_elim
             (λ (e : after ≡ k).
             subst (λ (j : Kept S). j.greatest ≡ policy.max_generation) e here.1)
             (λ (d : Contains (pool.orphans ++ pool.fresh) k). of.greatest k d)
-            (was k c);
+            (then_cases pool after k n c);
       }

@@ -8,8 +8,7 @@ use Rattle.hg_segment.specs.Kept.{Kept}
 use Rattle.hg_heap.specs.Held.{Held, segment_in}
 use Rattle.hg_heap.specs.Taking.{IsAnother, IsTaken, IsPassed, Takes}
 use Rattle.hg_heap.proofs.Founds.{map_same}
-use Rattle.hg_table.specs.declared.name.TableName.{Ghosts}
-use Rattle.hg_table.specs.declared.segment.SegmentSeat.{SegmentSeat}
+use Rattle.hg_table.specs.declared.segment.UnnamedSegment.{UnnamedSegment}
 use Rattle.hg_table.specs.declared.view.Part.{Part}
 use Rattle.hg_table.proofs.Told.{not_ended}
 use Rattle.hg_worker.specs.Had.{Had}
@@ -43,111 +42,110 @@ module _ {S X : Type 0} (number : S → ℕ) (told : Kept S → X) where
       (told_in xs ys tails segment)
       ∙ sym (mapped (number x.slots == segment) x (segment_in number xs segment))
 
-module _ {N : Type 0} {table : Ghosts N} where
-  abbrev ended_of : Kept (SegmentSeat N table) → List (ℕ × ℕ)
-  ended_of k = (part_of_seat k.slots).ended
+abbrev ended_of : Kept UnnamedSegment → List (ℕ × ℕ)
+ended_of k = (part_of_seat k.slots).ended
 
-  abbrev ends : List (Kept (SegmentSeat N table)) → List (ℕ × List (ℕ × ℕ))
-  ends segments = map (pair number_in ended_of) segments
+abbrev ends : List (Kept UnnamedSegment) → List (ℕ × List (ℕ × ℕ))
+ends segments = map (pair number_in ended_of) segments
 
-  another_ends : (segment : ℕ) (old new : List (Kept (SegmentSeat N table)))
-      (a : IsAnother number_in segment old new) → ended_of a.after ≡ ended_of a.before
-      → ends new ≡ ends old
-  another_ends segment old new a same =
-      ap ends a.now
-      ∙ map_same (pair number_in ended_of) old a.found a.before a.after a.at
-      (ap (λ (n : ℕ). (n, ended_of a.after)) (a.number_kept ∙ sym a.number_is)
-      ∙ ap (λ (l : List (ℕ × ℕ)). (number_in a.before.slots, l)) same)
+another_ends : (segment : ℕ) (old new : List (Kept UnnamedSegment))
+    (a : IsAnother number_in segment old new) → ended_of a.after ≡ ended_of a.before
+    → ends new ≡ ends old
+another_ends segment old new a same =
+    ap ends a.now
+    ∙ map_same (pair number_in ended_of) old a.found a.before a.after a.at
+    (ap (λ (n : ℕ). (n, ended_of a.after)) (a.number_kept ∙ sym a.number_is)
+    ∙ ap (λ (l : List (ℕ × ℕ)). (number_in a.before.slots, l)) same)
 
-  link_ends : (segment page index : ℕ) (old new : Held (SegmentSeat N table))
-      → IsTaken number_in records_in seat_shows seat_steps segment page index old new
-      ⊎ IsPassed number_in records_in seat_shows seat_steps segment page index old new
-      → ends new.segments ≡ ends old.segments
-  link_ends segment page index old new either =
-      ⊎_elim
-      (λ (t : IsTaken number_in records_in seat_shows seat_steps segment page index old new).
-      (let took = t.home.took in
-      another_ends segment old.segments new.segments t.another
-      (took.step.2 ∙ not_ended _ took.word took.word (ended_of t.another.before) (λ e. e))))
-      (λ (p : IsPassed number_in records_in seat_shows seat_steps segment page index old new).
-      another_ends segment old.segments new.segments p.another
-      (⊎_elim (λ still. ap (λ s. (part_of_seat s).ended) still.1)
-      (λ stepped. stepped.3.2
-      ∙ not_ended _ stepped.0 stepped.0 (ended_of p.another.before) (λ e. e))
-      p.away.passed))
-      either
+link_ends : (segment page index : ℕ) (old new : Held UnnamedSegment)
+    → IsTaken number_in records_in seat_shows seat_steps segment page index old new
+    ⊎ IsPassed number_in records_in seat_shows seat_steps segment page index old new
+    → ends new.segments ≡ ends old.segments
+link_ends segment page index old new either =
+    ⊎_elim
+    (λ (t : IsTaken number_in records_in seat_shows seat_steps segment page index old new).
+    (let took = t.home.took in
+    another_ends segment old.segments new.segments t.another
+    (took.step.step.2 ∙ not_ended _ took.word took.word (ended_of t.another.before) (λ e. e))))
+    (λ (p : IsPassed number_in records_in seat_shows seat_steps segment page index old new).
+    another_ends segment old.segments new.segments p.another
+    (⊎_elim (λ still. ap (λ s. (part_of_seat s).ended) still.1)
+    (λ stepped. stepped.3.step.2
+    ∙ not_ended _ stepped.0 stepped.0 (ended_of p.another.before) (λ e. e))
+    p.away.passed))
+    either
 
-  pub taking_ends : (segment count : ℕ) (places : List ℕ) (old new : Held (SegmentSeat N table))
-      → Takes number_in records_in seat_shows seat_steps segment places old new count
-      → ends new.segments ≡ ends old.segments
-  taking_ends segment count [] old new t =
-      ap (λ (h : Held (SegmentSeat N table)). ends h.segments) t.0
-  taking_ends segment count (place ∷ places) old new t =
-      taking_ends segment t.1 places t.0 new t.2
-      ∙ link_ends segment (page_of place) (index_of place) old t.0
-      (⊎_elim (λ taken. inl taken.0) (λ passed. inr passed.0) t.3)
+pub taking_ends : (segment count : ℕ) (places : List ℕ) (old new : Held UnnamedSegment)
+    → Takes number_in records_in seat_shows seat_steps segment places old new count
+    → ends new.segments ≡ ends old.segments
+taking_ends segment count [] old new t =
+    ap (λ (h : Held UnnamedSegment). ends h.segments) t.0
+taking_ends segment count (place ∷ places) old new t =
+    taking_ends segment t.1 places t.0 new t.2
+    ∙ link_ends segment (page_of place) (index_of place) old t.0
+    (⊎_elim (λ taken. inl taken.0) (λ passed. inr passed.0) t.3)
 
-  both : (o q : Option (Kept (SegmentSeat N table))) (a b : Part)
-      → option_map ended_of q ≡ option_map ended_of o
-      → option_map (λ (k : Kept (SegmentSeat N table)). part_of_seat k.slots) o ≡ Some a
-      → option_map (λ (k : Kept (SegmentSeat N table)). part_of_seat k.slots) q ≡ Some b
-      → b.ended ≡ a.ended
-  both None q a b e f g = absurd (cc)
-  both (Some k) None a b e f g = absurd (cc)
-  both (Some k) (Some j) a b e f g =
-      let mine : part_of_seat k.slots ≡ a = cc in
-      let theirs : part_of_seat j.slots ≡ b = cc in
-      let same : ended_of j ≡ ended_of k = cc in
-      ap (λ (p : Part). p.ended) (sym theirs) ∙ same ∙ ap (λ (p : Part). p.ended) mine
+both : (o q : Option (Kept UnnamedSegment)) (a b : Part)
+    → option_map ended_of q ≡ option_map ended_of o
+    → option_map (λ (k : Kept UnnamedSegment). part_of_seat k.slots) o ≡ Some a
+    → option_map (λ (k : Kept UnnamedSegment). part_of_seat k.slots) q ≡ Some b
+    → b.ended ≡ a.ended
+both None q a b e f g = absurd (cc)
+both (Some k) None a b e f g = absurd (cc)
+both (Some k) (Some j) a b e f g =
+    let mine : part_of_seat k.slots ≡ a = cc in
+    let theirs : part_of_seat j.slots ≡ b = cc in
+    let same : ended_of j ≡ ended_of k = cc in
+    ap (λ (p : Part). p.ended) (sym theirs) ∙ same ∙ ap (λ (p : Part). p.ended) mine
 
-  pub taking_leaves_lives : (segment count : ℕ) (places : List ℕ)
-      (old new : Had (SegmentSeat N table)) → new.own ≡ old.own
-      → Takes number_in records_in seat_shows seat_steps segment places old.heap new.heap count
-      → EndsNothing number_in part_of_seat old new
-  taking_leaves_lives segment count places old new own t = record {
-    own = ap (λ (p : Part). p.ended) own;
-    segments = λ other a b e f.
-        both (segment_in number_in old.heap.segments other)
-        (segment_in number_in new.heap.segments other) a b
-        (told_in number_in ended_of old.heap.segments new.heap.segments
-        (taking_ends segment count places old.heap new.heap t) other) e f;
-  }
+pub taking_leaves_lives : (segment count : ℕ) (places : List ℕ)
+    (old new : Had UnnamedSegment) → new.own ≡ old.own
+    → Takes number_in records_in seat_shows seat_steps segment places old.heap new.heap count
+    → EndsNothing number_in part_of_seat old new
+taking_leaves_lives segment count places old new own t = record {
+  own = ap (λ (p : Part). p.ended) own;
+  segments = λ other a b e f.
+      both (segment_in number_in old.heap.segments other)
+      (segment_in number_in new.heap.segments other) a b
+      (told_in number_in ended_of old.heap.segments new.heap.segments
+      (taking_ends segment count places old.heap new.heap t) other) e f;
+}
 
-  another_grown : (segment : ℕ) (old new : List (Kept (SegmentSeat N table)))
-      (a : IsAnother number_in segment old new)
-      → SawMore (part_of_seat a.before.slots) (part_of_seat a.after.slots)
-      → Grown number_in part_of_seat old new
-  another_grown segment old new a more =
-      set_grown number_in part_of_seat old new a.found a.before a.after a.at a.now
-      (a.number_kept ∙ sym a.number_is) more
+another_grown : (segment : ℕ) (old new : List (Kept UnnamedSegment))
+    (a : IsAnother number_in segment old new)
+    → SawMore (part_of_seat a.before.slots) (part_of_seat a.after.slots)
+    → Grown number_in part_of_seat old new
+another_grown segment old new a more =
+    set_grown number_in part_of_seat old new a.found a.before a.after a.at a.now
+    (a.number_kept ∙ sym a.number_is) more
 
-  link_grown : (segment page index : ℕ) (old new : Held (SegmentSeat N table))
-      → IsTaken number_in records_in seat_shows seat_steps segment page index old new
-      ⊎ IsPassed number_in records_in seat_shows seat_steps segment page index old new
-      → Grown number_in part_of_seat old.segments new.segments
-  link_grown segment page index old new either =
-      ⊎_elim
-      (λ (t : IsTaken number_in records_in seat_shows seat_steps segment page index old new).
-      another_grown segment old.segments new.segments t.another
-      (record { more = _; seen = t.home.took.step.1 }))
-      (λ (p : IsPassed number_in records_in seat_shows seat_steps segment page index old new).
-      another_grown segment old.segments new.segments p.another
-      (⊎_elim
-      (λ still. subst (λ s. SawMore (part_of_seat p.another.before.slots) (part_of_seat s))
-      (sym still.1) (the_same (part_of_seat p.another.before.slots)))
-      (λ stepped. record { more = _; seen = stepped.3.1 })
-      p.away.passed))
-      either
+link_grown : (segment page index : ℕ) (old new : Held UnnamedSegment)
+    → IsTaken number_in records_in seat_shows seat_steps segment page index old new
+    ⊎ IsPassed number_in records_in seat_shows seat_steps segment page index old new
+    → Grown number_in part_of_seat old.segments new.segments
+link_grown segment page index old new either =
+    ⊎_elim
+    (λ (t : IsTaken number_in records_in seat_shows seat_steps segment page index old new).
+    another_grown segment old.segments new.segments t.another
+    (record { more = _; seen = t.home.took.step.step.1 }))
+    (λ (p : IsPassed number_in records_in seat_shows seat_steps segment page index old new).
+    another_grown segment old.segments new.segments p.another
+    (⊎_elim
+    (λ still. subst (λ s. SawMore (part_of_seat p.another.before.slots) (part_of_seat s))
+    (sym still.1) (the_same (part_of_seat p.another.before.slots)))
+    (λ stepped. record { more = _; seen = stepped.3.step.1 })
+    p.away.passed))
+    either
 
-  -- what is taken in leaves what was seen
-  pub taking_grown : (segment count : ℕ) (places : List ℕ) (old new : Held (SegmentSeat N table))
-      → Takes number_in records_in seat_shows seat_steps segment places old new count
-      → Grown number_in part_of_seat old.segments new.segments
-  taking_grown segment count [] old new t =
-      some_left number_in part_of_seat
-      (λ k c. subst (λ (h : Held (SegmentSeat N table)). Contains h.segments k) t.0 c)
-  taking_grown segment count (place ∷ places) old new t =
-      grown_on number_in part_of_seat
-      (link_grown segment (page_of place) (index_of place) old t.0
-      (⊎_elim (λ taken. inl taken.0) (λ passed. inr passed.0) t.3))
-      (taking_grown segment t.1 places t.0 new t.2)
+-- what is taken in leaves what was seen
+pub taking_grown : (segment count : ℕ) (places : List ℕ) (old new : Held UnnamedSegment)
+    → Takes number_in records_in seat_shows seat_steps segment places old new count
+    → Grown number_in part_of_seat old.segments new.segments
+taking_grown segment count [] old new t =
+    some_left number_in part_of_seat
+    (λ k c. subst (λ (h : Held UnnamedSegment). Contains h.segments k) t.0 c)
+taking_grown segment count (place ∷ places) old new t =
+    grown_on number_in part_of_seat
+    (link_grown segment (page_of place) (index_of place) old t.0
+    (⊎_elim (λ taken. inl taken.0) (λ passed. inr passed.0) t.3))
+    (taking_grown segment t.1 places t.0 new t.2)

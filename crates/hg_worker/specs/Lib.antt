@@ -10,6 +10,7 @@ pub mod Hands
 pub mod Answers
 pub mod Listing
 pub mod Names
+pub mod States
 pub mod Workers
 pub mod WorkerLaws
 pub mod Missing

@@ -38,33 +38,34 @@ impl<N: ServiceName> Worker<N> {
             × IsMachines (shown_at handle.place word) (Event.Alloc actor arena bytes) result
             (shown_at handle.place (live_word handle.generation actor.0)) self.old self.new) }
         ensures given { IfSome (block_in result) (λ handle. IsAllotted number_in records_in
-            seat_shows seat_steps (size_of bytes) actor.0 handle self.old.heap.segments
-            self.new.heap.segments) }
+            seat_shows seat_steps (size_of bytes) actor.0 handle self.old.inner.value.heap.segments
+            self.new.inner.value.heap.segments) }
         ensures chosen { IfSome (block_in result) (λ handle.
-            chosen_place number_in records_in self.old.heap arena (size_of bytes)
+            chosen_place number_in records_in self.old.inner.value.heap arena (size_of bytes)
             ≡ Some (number_of handle.place)) }
         ensures no_room { result ≡ Answer.NoRoom
-            → chosen_place number_in records_in self.old.heap arena (size_of bytes) ≡ None }
+            → chosen_place number_in records_in self.old.inner.value.heap arena (size_of bytes) ≡ None }
         ensures lists { IfSome (block_in result) (λ handle. GivenOut number_in records_in arena
-            (size_of bytes) (page_number handle.place) handle.place.index self.old.heap.segments
-            self.new.heap.segments) }
-        ensures queues { IfSome (block_in result) (λ handle. self.new.heap.queues ≡ requeued
+            (size_of bytes) (page_number handle.place) handle.place.index self.old.inner.value.heap.segments
+            self.new.inner.value.heap.segments) }
+        ensures queues { IfSome (block_in result) (λ handle. self.new.inner.value.heap.queues ≡ requeued
             (key_of arena (number_of_size (size_of bytes))) (page_number handle.place)
-            (has_place (lists_on number_in self.new.heap.segments (page_number handle.place)))
-            self.old.heap.queues) }
+            (has_place (lists_on number_in self.new.inner.value.heap.segments (page_number handle.place)))
+            self.old.inner.value.heap.queues) }
         ensures refused { IfNone (block_in result) (StaysUnseen self.old self.new) }
-        ensures unchanged { IfNone (block_in result) (self.new.heap ≡ self.old.heap) }
+        ensures unchanged { IfNone (block_in result) (self.new.inner.value.heap ≡ self.old.inner.value.heap) }
         ensures any { IfNone (block_in result) ((shown : Option Shown) → Finds shown self.old
             → IsMachines shown (Event.Alloc actor arena bytes) result shown self.old self.new) }
         ensures any_hand { IfNone (block_in result) ((shown : Option Shown)
-            → HeapTies number_in records_in self.old.policy shown shown
-            (Event.Alloc actor arena bytes) result self.old.heap.segments
-            self.new.heap.segments) }
+            → HeapTies number_in records_in self.old.inner.value.policy shown shown
+            (Event.Alloc actor arena bytes) result self.old.inner.value.heap.segments
+            self.new.inner.value.heap.segments) }
         ensures home { SendsNoneHome self.old self.new }
         ensures rest { Keeps self.old self.new }
     {
-        self.heap.settled();
-        match self.heap.alloc(&self.policy, actor, arena, bytes) {
+        let inner = &mut *self.inner;
+        inner.heap.settled();
+        match inner.heap.alloc(&inner.policy, actor, arena, bytes) {
             Ok(handle) => Answer::Block(handle),
             Err(refused) => refused_answer(refused),
         }
@@ -77,17 +78,18 @@ impl<N: ServiceName> Worker<N> {
         ensures any { (shown : Option Shown) → Finds shown self.old
             → IsMachines shown Event.Collect result shown self.old self.new }
         ensures pages { result ≡ Answer.Pages
-            (idle_pages number_in records_in self.old.heap.segments) }
-        ensures collected { Collected number_in records_in self.old.heap self.new.heap }
-        ensures out { IdleAreOut number_in records_in self.old.heap self.new.heap }
+            (idle_pages number_in records_in self.old.inner.value.heap.segments) }
+        ensures collected { Collected number_in records_in self.old.inner.value.heap self.new.inner.value.heap }
+        ensures out { IdleAreOut number_in records_in self.old.inner.value.heap self.new.inner.value.heap }
         ensures seats { StaysUnseen self.old self.new }
         ensures any_hand { (shown : Option Shown)
-            → HeapTies number_in records_in self.old.policy shown shown Event.Collect result
-            self.old.heap.segments self.new.heap.segments }
+            → HeapTies number_in records_in self.old.inner.value.policy shown shown Event.Collect result
+            self.old.inner.value.heap.segments self.new.inner.value.heap.segments }
         ensures home { SendsNoneHome self.old self.new }
         ensures rest { Keeps self.old self.new }
     {
-        self.heap.settled();
-        Answer::Pages(self.heap.collect())
+        let inner = &mut *self.inner;
+        inner.heap.settled();
+        Answer::Pages(inner.heap.collect())
     }
 }

@@ -8,6 +8,7 @@ ghost use Rattle.hg_remote.specs.Remote.{contents};
 ghost use Rattle.hg_heap.specs.Held.{is_held, segment_in};
 ghost use Rattle.hg_heap.specs.Homecoming.{HaveComeHome};
 ghost use Rattle.hg_pool.specs.Pooled.{next_in};
+ghost use Rattle.hg_table.specs.Named.{table_of_segment, table_of_worker};
 ghost use Rattle.hg_table.specs.Seats.{part_on};
 ghost use Rattle.hg_worker.specs.CallerLocked.{IsDelivered, IsTakenFrom, IsRefilled, IsAbandoned};
 ghost use Rattle.hg_worker.specs.Met.{ComesTo};
@@ -22,7 +23,7 @@ use hg_machine::Answer;
 use hg_place::Handle;
 use hg_remote::RemoteList;
 use hg_segment::Segment;
-use hg_table::{SegmentSeat, WorkerSeat};
+use hg_table::{UnnamedSegment, UnnamedWorker};
 
 impl<N: ServiceName> Worker<N> {
     /// Sends the place in hand to this list, which is to be that of its segment: only its page and
@@ -30,20 +31,21 @@ impl<N: ServiceName> Worker<N> {
     /// `Busy` where the list has it already, and then it stays in the hand; `NothingInHand` where
     /// that is empty.
     pub fn deliver_to(&mut self, list: &mut RemoteList) -> Answer
-        ensures delivered { IsDelivered self.old.hand result list.old list.new self.new.hand }
-        ensures heap { self.new.heap ≡ self.old.heap }
+        ensures delivered { IsDelivered self.old.inner.value.hand result list.old list.new self.new.inner.value.hand }
+        ensures heap { self.new.inner.value.heap ≡ self.old.inner.value.heap }
         ensures seats { StaysUnseen self.old self.new }
         ensures home { SendsNoneHome self.old self.new }
-        ensures rest { (self.new.policy ≡ self.old.policy)
-            × (self.new.number ≡ self.old.number) }
+        ensures rest { (self.new.inner.value.policy ≡ self.old.inner.value.policy)
+            × (self.new.inner.value.number ≡ self.old.inner.value.number) }
     {
-        let Some(handle) = self.hand else {
+        let inner = &mut *self.inner;
+        let Some(handle) = inner.hand else {
             return Answer::NothingInHand;
         };
         if list.push(handle.place.page, handle.place.index).is_err() {
             return Answer::Busy;
         }
-        self.hand = None;
+        inner.hand = None;
         Answer::Done
     }
 
@@ -51,21 +53,22 @@ impl<N: ServiceName> Worker<N> {
     /// `NotHeld`.
     pub fn take_from(&mut self, segment: u8, list: &mut RemoteList) -> Answer
         ensures taken { IsTakenFrom number_in records_in seat_shows seat_steps
-            (is_held number_in self.old.heap.segments segment) segment result list.old list.new
-            self.old.heap self.new.heap }
+            (is_held number_in self.old.inner.value.heap.segments segment) segment result list.old list.new
+            self.old.inner.value.heap self.new.inner.value.heap }
         ensures whole { (count : ℕ) → result ≡ Answer.Taken count → (count ≤ SEGMENT_PLACES)
             × HaveComeHome number_in records_in segment (contents list.old)
-            self.old.heap.segments self.new.heap.segments count }
-        ensures own { self.new.seat ≡ self.old.seat }
+            self.old.inner.value.heap.segments self.new.inner.value.heap.segments count }
+        ensures own { self.new.inner.value.seat ≡ self.old.inner.value.seat }
         ensures lives { LeavesLives self.old self.new }
         ensures home { SendsHome (λ place. (segment_of place ≡ segment)
             × Contains (contents list.old) (place % SEGMENT_PLACES)) self.old self.new }
         ensures rest { Keeps self.old self.new }
     {
-        if !self.heap.holds(segment) {
+        let inner = &mut *self.inner;
+        if !inner.heap.holds(segment) {
             return Answer::NotHeld;
         }
-        Answer::Taken(self.heap.take(segment, list))
+        Answer::Taken(inner.heap.take(segment, list))
     }
 
     /// Takes the next segment of the arena from this pool, or answers `NoSegment`. Where the place
@@ -76,7 +79,7 @@ impl<N: ServiceName> Worker<N> {
             (next_in pool.old.pool arena) result pool.old.pool pool.new.pool
             (had self.old) (had self.new) }
         ensures unheld { IfSome (next_in pool.old.pool arena) (λ one.
-            is_held number_in self.old.heap.segments (number_in one.slots) ≡ false) }
+            is_held number_in self.old.inner.value.heap.segments (number_in one.slots) ≡ false) }
         ensures lives { LeavesLives self.old self.new }
         ensures home { SendsNoneHome self.old self.new }
         ensures rest { Keeps self.old self.new }
@@ -85,12 +88,13 @@ impl<N: ServiceName> Worker<N> {
             return Answer::NoSegment;
         };
         let segment = one.number();
-        if let Some(other) = self.heap.release(segment) {
+        let inner = &mut *self.inner;
+        if let Some(other) = inner.heap.release(segment) {
             never_twice(one, other);
             unreachable!()
         }
-        see_hand(&mut one, &mut self.seat, self.hand);
-        self.heap.adopt(one);
+        see_hand(&mut one, &mut inner.seat, inner.hand);
+        inner.heap.adopt(one);
         Answer::Refilled(segment)
     }
 
@@ -98,18 +102,19 @@ impl<N: ServiceName> Worker<N> {
     /// `NotHeld`.
     pub fn abandon_to(&mut self, segment: u8, pool: &mut KeptPool<N>) -> Answer
         ensures abandoned { IsAbandoned number_in segment
-            (segment_in number_in self.old.heap.segments segment) result
-            pool.old.pool pool.new.pool self.old.heap self.new.heap }
-        ensures gone { is_held number_in self.new.heap.segments segment ≡ false }
+            (segment_in number_in self.old.inner.value.heap.segments segment) result
+            pool.old.pool pool.new.pool self.old.inner.value.heap self.new.inner.value.heap }
+        ensures gone { is_held number_in self.new.inner.value.heap.segments segment ≡ false }
         ensures others { (other : ℕ) → other ≢ segment
-            → segment_in number_in self.new.heap.segments other
-            ≡ segment_in number_in self.old.heap.segments other }
-        ensures own { self.new.seat ≡ self.old.seat }
+            → segment_in number_in self.new.inner.value.heap.segments other
+            ≡ segment_in number_in self.old.inner.value.heap.segments other }
+        ensures own { self.new.inner.value.seat ≡ self.old.inner.value.seat }
         ensures lives { LeavesLives self.old self.new }
         ensures home { SendsNoneHome self.old self.new }
         ensures rest { Keeps self.old self.new }
     {
-        let Some(one) = self.heap.release(segment) else {
+        let inner = &mut *self.inner;
+        let Some(one) = inner.heap.release(segment) else {
             return Answer::NotHeld;
         };
         if let Some(other) = pool.pool.pick(segment) {
@@ -122,13 +127,12 @@ impl<N: ServiceName> Worker<N> {
 }
 
 /// A segment that comes and the worker's seat meet at the place in hand, if that is the segment's.
-fn see_hand<N: ServiceName>(
-    one: &mut Segment<SegmentSeat<N>>,
-    seat: &mut WorkerSeat<N>,
-    hand: Option<Handle>,
-)
-    ensures { ComesTo number_in records_in part_of_seat hand one.old one.new
-        (part_on seat.old.inner.badge) (part_on seat.new.inner.badge) }
+fn see_hand(one: &mut Segment<UnnamedSegment>, seat: &mut UnnamedWorker, hand: Option<Handle>)
+    requires { table_of_segment one.old.slots ≡ table_of_worker seat.old }
+    ensures comes { ComesTo number_in records_in part_of_seat hand one.old one.new
+        (part_on seat.old.badge) (part_on seat.new.badge) }
+    ensures same { table_of_segment one.new.slots ≡ table_of_segment one.old.slots }
+    ensures same_seat { table_of_worker seat.new ≡ table_of_worker seat.old }
 {
     let Some(handle) = hand else {
         return;

@@ -39,46 +39,46 @@ impl<N: ServiceName> Worker<N> {
             × IsMachines shown (Event.Free actor handle) result shown self.old self.new }
         ensures served { IsTrue (is_freed result) → (word : ℕ)
             × Ends handle.place word self.old self.new
-            × IsJudged self.old.policy actor.0 Right.Free handle word None }
+            × IsJudged self.old.inner.value.policy actor.0 Right.Free handle word None }
         ensures judged { IsFalse (is_freed result) → (shown : Option Shown)
             × Looks handle.place shown self.old self.new
-            × IsJudged self.old.policy actor.0 Right.Free handle (found_word shown)
+            × IsJudged self.old.inner.value.policy actor.0 Right.Free handle (found_word shown)
             (rule_of result) }
         ensures records { IsTrue (is_done result) → IsHomeAlone number_in records_in handle
-            self.old.heap.segments self.new.heap.segments }
+            self.old.inner.value.heap.segments self.new.inner.value.heap.segments }
         ensures lists { IsTrue (is_done result) → CameHome number_in
-            (handle.generation == greatest_in number_in self.old.heap.segments
+            (handle.generation == greatest_in number_in self.old.inner.value.heap.segments
             handle.place.segment) (page_number handle.place) handle.place.index
-            self.old.heap.segments self.new.heap.segments }
+            self.old.inner.value.heap.segments self.new.inner.value.heap.segments }
         ensures queues { IsTrue (is_done result) → (key : ℕ)
-            × (key_on number_in self.old.heap.segments (page_number handle.place) ≡ Some key)
-            × (self.new.heap.queues ≡ requeued key (page_number handle.place)
-            (has_place (lists_on number_in self.new.heap.segments (page_number handle.place)))
-            self.old.heap.queues) }
+            × (key_on number_in self.old.inner.value.heap.segments (page_number handle.place) ≡ Some key)
+            × (self.new.inner.value.heap.queues ≡ requeued key (page_number handle.place)
+            (has_place (lists_on number_in self.new.inner.value.heap.segments (page_number handle.place)))
+            self.old.inner.value.heap.queues) }
         ensures kept { IsFalse (is_done result) → KeepsSegments self.old self.new
-            × (self.new.heap.queues ≡ self.old.heap.queues) }
+            × (self.new.inner.value.heap.queues ≡ self.old.inner.value.heap.queues) }
         ensures home { SendsHome
             (λ place. IsTrue (is_done result) × (place ≡ number_of handle.place))
             self.old self.new }
         ensures any_hand { IsTrue (is_done result) → (word : ℕ)
             × Ends handle.place word self.old self.new
-            × HeapTies number_in records_in self.old.policy (shown_at handle.place word)
+            × HeapTies number_in records_in self.old.inner.value.policy (shown_at handle.place word)
             (shown_at handle.place (word - 1)) (Event.Free actor handle) result
-            self.old.heap.segments self.new.heap.segments }
+            self.old.inner.value.heap.segments self.new.inner.value.heap.segments }
         ensures held { IsTrue (is_freed result) → is_done result
-            ≡ is_held number_in self.old.heap.segments handle.place.segment }
-        ensures once { is_held number_in self.old.heap.segments handle.place.segment ≡ true
+            ≡ is_held number_in self.old.inner.value.heap.segments handle.place.segment }
+        ensures once { is_held number_in self.old.inner.value.heap.segments handle.place.segment ≡ true
             → Tries 1 handle.place self.old self.new }
         ensures few { Tries 2 handle.place self.old self.new }
-        ensures parted { result ≡ Answer.Parted → self.old.hand ≡ None }
+        ensures parted { result ≡ Answer.Parted → self.old.inner.value.hand ≡ None }
         ensures busy { IsFalse (is_freed result) → rule_of result ≡ None
-            → (result ≡ Answer.Busy) × (self.old.hand ≢ None)
-            × (is_held number_in self.old.heap.segments handle.place.segment ≡ false) }
-        ensures hand { self.new.hand ≡ hand_after result handle self.old.hand }
-        ensures rest { (self.new.policy ≡ self.old.policy)
-            × (self.new.number ≡ self.old.number) }
+            → (result ≡ Answer.Busy) × (self.old.inner.value.hand ≢ None)
+            × (is_held number_in self.old.inner.value.heap.segments handle.place.segment ≡ false) }
+        ensures hand { self.new.inner.value.hand ≡ hand_after result handle self.old.inner.value.hand }
+        ensures rest { (self.new.inner.value.policy ≡ self.old.inner.value.policy)
+            × (self.new.inner.value.number ≡ self.old.inner.value.number) }
     {
-        if self.heap.holds(handle.place.segment) {
+        if self.holds(handle.place.segment) {
             return self.free_here(actor, handle);
         }
         self.free_away(actor, handle)
@@ -86,7 +86,7 @@ impl<N: ServiceName> Worker<N> {
 
     /// Frees a block of a segment that the worker holds.
     fn free_here(&mut self, actor: Actor, handle: Handle) -> Answer
-        requires { is_held number_in self.old.heap.segments handle.place.segment ≡ true }
+        requires { is_held number_in self.old.inner.value.heap.segments handle.place.segment ≡ true }
         ensures freed { IsTrue (is_freed result) → (word : ℕ)
             × Ends handle.place word self.old self.new
             × IsMachines (shown_at handle.place word) (Event.Free actor handle) result
@@ -96,41 +96,42 @@ impl<N: ServiceName> Worker<N> {
             × IsMachines shown (Event.Free actor handle) result shown self.old self.new }
         ensures served { IsTrue (is_freed result) → (word : ℕ)
             × Ends handle.place word self.old self.new
-            × IsJudged self.old.policy actor.0 Right.Free handle word None }
+            × IsJudged self.old.inner.value.policy actor.0 Right.Free handle word None }
         ensures judged { IsFalse (is_freed result) → (shown : Option Shown)
             × Looks handle.place shown self.old self.new
-            × IsJudged self.old.policy actor.0 Right.Free handle (found_word shown)
+            × IsJudged self.old.inner.value.policy actor.0 Right.Free handle (found_word shown)
             (rule_of result) }
         ensures records { IsTrue (is_done result) → IsHomeAlone number_in records_in handle
-            self.old.heap.segments self.new.heap.segments }
+            self.old.inner.value.heap.segments self.new.inner.value.heap.segments }
         ensures lists { IsTrue (is_done result) → CameHome number_in
-            (handle.generation == greatest_in number_in self.old.heap.segments
+            (handle.generation == greatest_in number_in self.old.inner.value.heap.segments
             handle.place.segment) (page_number handle.place) handle.place.index
-            self.old.heap.segments self.new.heap.segments }
+            self.old.inner.value.heap.segments self.new.inner.value.heap.segments }
         ensures queues { IsTrue (is_done result) → (key : ℕ)
-            × (key_on number_in self.old.heap.segments (page_number handle.place) ≡ Some key)
-            × (self.new.heap.queues ≡ requeued key (page_number handle.place)
-            (has_place (lists_on number_in self.new.heap.segments (page_number handle.place)))
-            self.old.heap.queues) }
+            × (key_on number_in self.old.inner.value.heap.segments (page_number handle.place) ≡ Some key)
+            × (self.new.inner.value.heap.queues ≡ requeued key (page_number handle.place)
+            (has_place (lists_on number_in self.new.inner.value.heap.segments (page_number handle.place)))
+            self.old.inner.value.heap.queues) }
         ensures kept { IsFalse (is_done result) → KeepsSegments self.old self.new
-            × (self.new.heap.queues ≡ self.old.heap.queues) }
+            × (self.new.inner.value.heap.queues ≡ self.old.inner.value.heap.queues) }
         ensures home { SendsHome
             (λ place. IsTrue (is_done result) × (place ≡ number_of handle.place))
             self.old self.new }
         ensures any_hand { IsTrue (is_done result) → (word : ℕ)
             × Ends handle.place word self.old self.new
-            × HeapTies number_in records_in self.old.policy (shown_at handle.place word)
+            × HeapTies number_in records_in self.old.inner.value.policy (shown_at handle.place word)
             (shown_at handle.place (word - 1)) (Event.Free actor handle) result
-            self.old.heap.segments self.new.heap.segments }
+            self.old.inner.value.heap.segments self.new.inner.value.heap.segments }
         ensures here { IsTrue (is_freed result) → IsTrue (is_done result) }
         ensures once { Tries 1 handle.place self.old self.new }
         ensures denied { IsFalse (is_freed result) → rule_of result ≢ None }
-        ensures hand { self.new.hand ≡ hand_after result handle self.old.hand }
-        ensures rest { (self.new.policy ≡ self.old.policy)
-            × (self.new.number ≡ self.old.number) }
+        ensures hand { self.new.inner.value.hand ≡ hand_after result handle self.old.inner.value.hand }
+        ensures rest { (self.new.inner.value.policy ≡ self.old.inner.value.policy)
+            × (self.new.inner.value.number ≡ self.old.inner.value.number) }
     {
-        self.heap.settled();
-        if let Err(refused) = self.heap.free_here(&self.policy, actor, handle) {
+        let inner = &mut *self.inner;
+        inner.heap.settled();
+        if let Err(refused) = inner.heap.free_here(&inner.policy, actor, handle) {
             return refused_answer(refused);
         }
         Answer::Done
@@ -138,7 +139,7 @@ impl<N: ServiceName> Worker<N> {
 
     /// Frees a block of another one.
     fn free_away(&mut self, actor: Actor, handle: Handle) -> Answer
-        requires { is_held number_in self.old.heap.segments handle.place.segment ≡ false }
+        requires { is_held number_in self.old.inner.value.heap.segments handle.place.segment ≡ false }
         ensures freed { IsTrue (is_freed result) → (word : ℕ)
             × Ends handle.place word self.old self.new
             × IsMachines (shown_at handle.place word) (Event.Free actor handle) result
@@ -148,37 +149,38 @@ impl<N: ServiceName> Worker<N> {
             × IsMachines shown (Event.Free actor handle) result shown self.old self.new }
         ensures served { IsTrue (is_freed result) → (word : ℕ)
             × Ends handle.place word self.old self.new
-            × IsJudged self.old.policy actor.0 Right.Free handle word None }
+            × IsJudged self.old.inner.value.policy actor.0 Right.Free handle word None }
         ensures judged { IsFalse (is_freed result) → (shown : Option Shown)
             × Looks handle.place shown self.old self.new
-            × IsJudged self.old.policy actor.0 Right.Free handle (found_word shown)
+            × IsJudged self.old.inner.value.policy actor.0 Right.Free handle (found_word shown)
             (rule_of result) }
         ensures away { IsFalse (is_done result) }
         ensures few { Tries 2 handle.place self.old self.new }
         ensures busy { IsFalse (is_freed result) → rule_of result ≡ None
-            → (result ≡ Answer.Busy) × (self.old.hand ≢ None) }
-        ensures parted { result ≡ Answer.Parted → self.old.hand ≡ None }
-        ensures heap { self.new.heap ≡ self.old.heap }
-        ensures hand { self.new.hand ≡ hand_after result handle self.old.hand }
-        ensures rest { (self.new.policy ≡ self.old.policy)
-            × (self.new.number ≡ self.old.number) }
+            → (result ≡ Answer.Busy) × (self.old.inner.value.hand ≢ None) }
+        ensures parted { result ≡ Answer.Parted → self.old.inner.value.hand ≡ None }
+        ensures heap { self.new.inner.value.heap ≡ self.old.inner.value.heap }
+        ensures hand { self.new.inner.value.hand ≡ hand_after result handle self.old.inner.value.hand }
+        ensures rest { (self.new.inner.value.policy ≡ self.old.inner.value.policy)
+            × (self.new.inner.value.number ≡ self.old.inner.value.number) }
     {
         let place = handle.place;
-        self.heap.settled();
-        if self.policy.arena_of(place.segment).is_none() {
-            return denied_answer(&self.policy, actor, Right::Free, handle, 0);
+        let inner = &mut *self.inner;
+        inner.heap.settled();
+        if inner.policy.arena_of(place.segment).is_none() {
+            return denied_answer(&inner.policy, actor, Right::Free, handle, 0);
         }
-        let word = self.seat.look(place);
-        if let Verdict::Denied(rule) = judge(&self.policy, actor, Right::Free, handle, word) {
+        let word = inner.seat.look(place);
+        if let Verdict::Denied(rule) = judge(&inner.policy, actor, Right::Free, handle, word) {
             return Answer::Denied(rule);
         }
-        if self.hand.is_some() {
+        if inner.hand.is_some() {
             return Answer::Busy;
         }
-        if let Err(found) = self.seat.part(place, word) {
-            return denied_answer(&self.policy, actor, Right::Free, handle, found);
+        if let Err(found) = inner.seat.part(place, word) {
+            return denied_answer(&inner.policy, actor, Right::Free, handle, found);
         }
-        self.hand = Some(handle);
+        inner.hand = Some(handle);
         Answer::Parted
     }
 }

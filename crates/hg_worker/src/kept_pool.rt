@@ -8,21 +8,26 @@ ghost use Rattle.hg_pool.specs.Moving.{CopiedIn, AreForFirst, IsMoved};
 ghost use Rattle.hg_pool.specs.Pooled.{IsPooled, IsRight, first_in};
 ghost use Rattle.hg_segment.specs.Parted.{plain_number};
 ghost use Rattle.hg_worker.specs.Missing.{HasAll, IsFirstMissing};
+ghost use Rattle.hg_table.specs.Named.{table_of_segment};
 ghost use Rattle.hg_worker.specs.Seats.{number_in, records_in, seat_shows, seat_steps};
+ghost use Rattle.hg_worker.specs.Seats.{AreOnTable};
 
 use crate::ServiceName;
 use hg_place::PlainWords;
 use hg_pool::Pool;
 use hg_segment::Segment;
-use hg_table::SegmentSeat;
+use hg_table::UnnamedSegment;
 use std::alloc::{AllocError, Global};
+use std::marker::PhantomData;
 
 /// A pool of segments of the service N: each is of its arena and has its greatest generation by the
 /// policy, and the seat of its own number and of the service's table.
 #[derive(Drop)]
 pub struct KeptPool<N: ServiceName> {
-    pub(crate) pool: Pool<SegmentSeat<N>>,
-    ghost of: { AreOf number_in N.policy (pool.orphans ++ pool.fresh) },
+    pub(crate) pool: Pool<UnnamedSegment>,
+    pub(crate) of: PhantomData<N>,
+    ghost each: { AreOf number_in N.policy (pool.orphans ++ pool.fresh) },
+    ghost named: { AreOnTable N.table (pool.orphans ++ pool.fresh) },
 }
 
 impl<N: ServiceName> KeptPool<N> {
@@ -32,13 +37,17 @@ impl<N: ServiceName> KeptPool<N> {
         ensures fresh { IfOk result (λ kept. kept.pool.fresh ≡ []) }
     {
         let pool = Pool::new(alloc)?;
-        Ok(KeptPool { pool })
+        Ok(KeptPool {
+            pool,
+            of: PhantomData,
+        })
     }
 
     /// Puts a segment that no worker has held with the fresh ones, by its number, as it is: blocks
     /// that were given out there are those of the worker that it comes to.
-    pub fn put_fresh(&mut self, one: Segment<SegmentSeat<N>>)
-        requires { IsOf number_in N.policy one }
+    pub fn put_fresh(&mut self, one: Segment<UnnamedSegment>)
+        requires of { IsOf number_in N.policy one }
+        requires named { table_of_segment one.slots ≡ N.table }
         ensures fresh { Inserts one self.old.pool.fresh self.new.pool.fresh }
         ensures orphans { self.new.pool.orphans ≡ self.old.pool.orphans }
         ensures right { IsRight number_in self.new.pool }
@@ -51,9 +60,11 @@ impl<N: ServiceName> KeptPool<N> {
     }
 
     /// What a pool keeps, for its callers to know: each segment is of its arena and has its greatest
-    /// generation by the policy, no two are of one number, and the fresh ones stand by number.
+    /// generation by the policy, and the seat of the service's table; no two are of one number, and
+    /// the fresh ones stand by number.
     pub fn settled(&self)
         ensures of { AreOf number_in N.policy (self.now.pool.orphans ++ self.now.pool.fresh) }
+        ensures named { AreOnTable N.table (self.now.pool.orphans ++ self.now.pool.fresh) }
         ensures right { IsRight number_in self.now.pool }
     {
         let _there = self.pool.has(0); // hands out what a pool keeps
@@ -112,11 +123,9 @@ impl<N: ServiceName> KeptPool<N> {
 }
 
 /// Two segments of one table are never of one number.
-pub(crate) fn never_twice<N: ServiceName>(
-    one: Segment<SegmentSeat<N>>,
-    other: Segment<SegmentSeat<N>>,
-)
-    requires { number_in one.slots ≡ number_in other.slots }
+pub(crate) fn never_twice(one: Segment<UnnamedSegment>, other: Segment<UnnamedSegment>)
+    requires number { number_in one.slots ≡ number_in other.slots }
+    requires table { table_of_segment one.slots ≡ table_of_segment other.slots }
     ensures { ⊥ }
 {
     one.into_slots().apart(other.into_slots());

@@ -12,8 +12,10 @@ mod listing;
 mod meeting;
 mod name;
 mod reading;
+mod state;
 mod worker;
 
 pub use kept_pool::KeptPool;
 pub use name::ServiceName;
+pub use state::WorkerState;
 pub use worker::Worker;

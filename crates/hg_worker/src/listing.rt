@@ -23,16 +23,16 @@ impl<N: ServiceName> Worker<N> {
     /// record as open, rising. An error is want of memory, and then nothing was looked at.
     pub fn list(&mut self, alloc: Global, actor: Actor) -> Result<Vec<Row>, AllocError>
         ensures listed { IfOk result (λ rows. Lists actor
-            (open_places number_in records_in self.old.heap.segments) rows.items
+            (open_places number_in records_in self.old.inner.value.heap.segments) rows.items
             self.old self.new) }
         ensures err { OnErr result (self.new ≡ self.old) }
-        ensures kept { KeepsAll number_in records_in self.old.heap.segments
-            self.new.heap.segments }
-        ensures queues { self.new.heap.queues ≡ self.old.heap.queues }
+        ensures kept { KeepsAll number_in records_in self.old.inner.value.heap.segments
+            self.new.inner.value.heap.segments }
+        ensures queues { self.new.inner.value.heap.queues ≡ self.old.inner.value.heap.queues }
         ensures home { SendsNoneHome self.old self.new }
         ensures rest { Keeps self.old self.new }
     {
-        let places = open_places(alloc, &self.heap)?;
+        let places = open_places(alloc, &self.inner.heap)?;
         let mut rows = Vec::with_capacity(alloc, places.len())?;
         for place in &places {
             self.look_into(actor, *place, &mut rows);
@@ -43,12 +43,12 @@ impl<N: ServiceName> Worker<N> {
     /// Looks at a place, and puts the row that it shows behind the others.
     fn look_into(&mut self, actor: Actor, place: Place, rows: &mut Vec<Row>)
         requires room { vec_len rows.old < vec_capacity rows.old }
-        requires held { is_held number_in self.old.heap.segments place.segment ≡ true }
+        requires held { is_held number_in self.old.inner.value.heap.segments place.segment ≡ true }
         ensures look { (answer : Answer) × LooksAt actor place answer self.old self.new
             × (rows.new.items ≡ rows.old.items ++ rows_in answer) }
         ensures room { vec_capacity rows.new ≡ vec_capacity rows.old }
         ensures few { vec_len rows.new ≤ vec_len rows.old + 1 }
-        ensures queues { self.new.heap.queues ≡ self.old.heap.queues }
+        ensures queues { self.new.inner.value.heap.queues ≡ self.old.inner.value.heap.queues }
         ensures rest { Keeps self.old self.new }
     {
         let Answer::Listed(row) = self.look(actor, place) else {

@@ -5,7 +5,7 @@ ghost use Rattle.std.specs.Prelude.{◌≡◌, ◌+◌, ◌*◌, length, All, If
 ghost use Rattle.std.specs.Box.{boxed_slice_items};
 ghost use Rattle.hg_place.specs.declared.geometry.TheConstants.{SEGMENT_PLACES};
 ghost use Rattle.hg_heap.specs.Policies.{IsOf};
-ghost use Rattle.hg_table.specs.Named.{table_of};
+ghost use Rattle.hg_table.specs.Named.{table_of, table_of_segment};
 ghost use Rattle.hg_table.specs.Seats.{AreHome, KnowsNothing, part_in};
 ghost use Rattle.hg_worker.specs.Seats.{number_in};
 
@@ -14,7 +14,7 @@ use hg_place::{Actor, SlotWords};
 use hg_policy::{Policy, read_policy};
 use hg_remote::RemoteList;
 use hg_segment::Segment;
-use hg_table::{LifeTable, Seats, SegmentSeat, WorkerSeat};
+use hg_table::{LifeTable, Seats, SegmentSeat, UnnamedSegment, WorkerSeat};
 use hg_worker::{KeptPool, ServiceName, Worker};
 use std::alloc::Global;
 use std::marker::Brand;
@@ -162,13 +162,15 @@ fn fresh_segment<N: ServiceName>(
     alloc: Global,
     policy: &Policy,
     seat: SegmentSeat<N>,
-) -> Option<Segment<SegmentSeat<N>>>
+) -> Option<Segment<UnnamedSegment>>
     requires home { AreHome (boxed_slice_items seat.inner.records) }
-    ensures { IfSome result (λ one. IsOf number_in policy.now one) }
+    ensures of { IfSome result (λ one. IsOf number_in policy.now one) }
+    ensures named { IfSome result (λ one. table_of_segment one.slots ≡ N.table) }
 {
     let number = seat.segment();
     let arena = policy.arena_of(number)?;
-    Segment::new(alloc, number, arena, policy.max_generation(), seat).ok()
+    let slots = seat.without_name();
+    Segment::new(alloc, number, arena, policy.max_generation(), slots).ok()
 }
 
 /// The segment whose list a call is lent: that of the block in hand, or the one that it names.

@@ -24,7 +24,7 @@ loop-seat-preserved g c =
     let more = one_more _ _ c.in-Some.seat c.in-Some.ensures.items in
     let fresh = c.loop-seat.invariant.fresh in
     record {
-      numbers = in_front number_in _ _ _ c.pop.ensures.items c.loop-seat.invariant.numbers;
+      numbers = in_front (λ seat. number_in seat.inner) _ _ _ c.pop.ensures.items c.loop-seat.invariant.numbers;
       home = (All-pop (λ seat. AreHome (boxed_slice_items seat.inner.records)
           × KnowsNothing (part_in seat.inner.seat)) _ _ c.pop.result c.pop.ensures.items
           c.loop-seat.invariant.home).0;
@@ -35,7 +35,7 @@ loop-seat-preserved g c =
             c.put_fresh.new.self.pool c.in_ok-fresh_segment.field-0
             (subst (λ n. AreFresh c.args.policy.now n fresh.0 c.loop-seat.kept.pool) (sym more) fresh.2)
             (c.in_ok-fresh_segment.ensures.number
-            ∙ last_number number_in _ _ c.in-Some.seat c.in-Some.ensures.items
+            ∙ last_number (λ seat. number_in seat.inner) _ _ c.in-Some.seat c.in-Some.ensures.items
             c.loop-seat.invariant.numbers)
             c.in_ok-fresh_segment.ensures.unused c.put_fresh.ensures.fresh
             c.put_fresh.ensures.orphans c.put_fresh.ensures.right,

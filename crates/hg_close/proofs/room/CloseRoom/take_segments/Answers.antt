@@ -12,7 +12,7 @@ loop-number-init g c =
     record {
       under = begun number_in records_in g.N.ServiceName.policy
           c.args.pool.now.pool c.args.self.now.words.items c.args.self.now.parts.pool
-          c.args.pool.now.of (λ n lt. c.requires.room.words n (omega (arith, lt, same)))
+          c.args.pool.now.each (λ n lt. c.requires.room.words n (omega (arith, lt, same)))
           c.requires.room.orphans c.requires.room.fresh;
       rest = refl;
     }
@@ -37,7 +37,7 @@ loop-number-smaller g c =
     c.in-Some.number c.loop-number.pool.pool c.take_first.new.pool.pool
     c.loop-number.self.words.items c.take_first.new.self.words.items
     c.loop-number.self.parts.pool c.take_first.new.self.parts.pool c.loop-number.invariant.under
-    c.args.pool.now.of c.take_first.ensures.moved c.take_first.ensures.right
+    c.args.pool.now.each c.take_first.ensures.moved c.take_first.ensures.right
     c.take_first.ensures.words
 
 pub loop-number-preserved : goal.loop-number-preserved
@@ -46,7 +46,7 @@ loop-number-preserved g c = record {
       c.args.pool.now.pool c.in-Some.number c.loop-number.pool.pool c.take_first.new.pool.pool
       c.loop-number.self.words.items c.take_first.new.self.words.items
       c.loop-number.self.parts.pool c.take_first.new.self.parts.pool c.loop-number.invariant.under
-      c.args.pool.now.of c.take_first.ensures.moved c.take_first.ensures.right
+      c.args.pool.now.each c.take_first.ensures.moved c.take_first.ensures.right
       c.take_first.ensures.words;
   rest = still_rest c.args.self.now c.loop-number.self c.take_first.new.self
       c.loop-number.invariant.rest c.take_first.ensures.rest;

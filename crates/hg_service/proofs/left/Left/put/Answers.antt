@@ -6,6 +6,6 @@ use Rattle.hg_service.proofs.left.Left.put.Goals as goal
 pub invariant_of-self : goal.invariant_of-self
 invariant_of-self g c = record {
   all = length-set _ _ _ ∙ c.args.self.now.all;
-  theirs = put_theirs (λ worker. worker.number) _ c.from-number.result c.args.worker
+  theirs = put_theirs (λ worker. worker.inner.value.number) _ c.from-number.result c.args.worker
       (sym (c.from-number.ensures ∙ c.number.ensures)) c.args.self.now.theirs;
 }

@@ -5,7 +5,7 @@ use Rattle.hg_service.proofs.worker.Worker.abandon.Goals as goal
 
 pub returns-then-not-holds-clause-abandoned : goal.returns-then-not-holds-clause-abandoned
 returns-then-not-holds-clause-abandoned g c =
-    abandons_nothing number_in c.args.segment c.args.self.now.own.heap (sym c.if-not-holds.ensures)
+    abandons_nothing number_in c.args.segment c.args.self.now.own.inner.value.heap (sym c.if-not-holds.ensures)
 
 pub returns-clause-abandoned : goal.returns-clause-abandoned
 returns-clause-abandoned g c = record {

@@ -8,10 +8,10 @@ use Rattle.hg_service.proofs.worker.Worker.refill.Goals as goal
 pub returns-clause-came : goal.returns-clause-came
 returns-clause-came g c segment =
     let pool = c.deref_mut-pool.result.now.pool in
-    came number_in records_in part_of_seat c.args.self.now.own.policy c.args.arena segment
+    came number_in records_in part_of_seat c.args.self.now.own.inner.value.policy c.args.arena segment
     pool (had c.args.self.now.own) (had c.refill_from.new.self)
     (subst (λ policy. AreOf number_in policy (pool.orphans ++ pool.fresh))
-    (sym c.args.self.now.own.serves) c.deref_mut-pool.result.now.of)
+    (sym c.args.self.now.own.named.serves) c.deref_mut-pool.result.now.each)
     c.refill_from.new.pool.pool c.refill_from.result c.refill_from.ensures.refilled
     c.refill_from.ensures.unheld
 
@@ -22,6 +22,6 @@ returns-clause-refilled g c = record {
   of =
       subst (λ policy. AreOf number_in policy
       (c.deref_mut-pool.result.now.pool.orphans ++ c.deref_mut-pool.result.now.pool.fresh))
-      (sym c.args.self.now.own.serves) c.deref_mut-pool.result.now.of;
+      (sym c.args.self.now.own.named.serves) c.deref_mut-pool.result.now.each;
   refilled = c.refill_from.ensures.refilled;
 }

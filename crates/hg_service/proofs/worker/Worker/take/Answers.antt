@@ -6,15 +6,15 @@ use Rattle.hg_service.proofs.worker.Worker.take.Goals as goal
 pub returns-then-not-holds-clause-taken : goal.returns-then-not-holds-clause-taken
 returns-then-not-holds-clause-taken g c =
     takes_nothing number_in records_in seat_shows seat_steps c.args.segment
-    c.args.self.now.own.heap (sym c.if-not-holds.ensures)
+    c.args.self.now.own.inner.value.heap (sym c.if-not-holds.ensures)
 
 pub index-requires : goal.index-requires
 index-requires g c =
-    let own = c.args.self.now.own in
+    let own = c.args.self.now.own.inner.value in
     let below =
     held_within number_in own.policy own.heap.segments c.args.segment (sym c.if-not-holds.ensures)
     own.of in
-    let same = ap (λ policy. length policy.segments) own.serves in
+    let same = ap (λ policy. length policy.segments) c.args.self.now.own.named.serves in
     let all = c.deref.result.now.all in
     let counted = c.deref.result.now.lists.ok.0 in
     let at = c.from.ensures in

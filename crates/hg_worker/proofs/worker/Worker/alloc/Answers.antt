@@ -13,8 +13,9 @@ use Rattle.hg_machine.specs.Request.{size_of}
 use Rattle.hg_worker.specs.Answers.{block_in}
 use Rattle.hg_worker.specs.Had.{hand_place, hand_generation}
 use Rattle.hg_worker.specs.Seats.{number_in, part_of_seat}
+use Rattle.hg_worker.specs.Seats.{seat_shows, seat_steps}
 use Rattle.hg_worker.specs.Seen.{word_of, Decided}
-use Rattle.hg_worker.specs.Workers.{had}
+use Rattle.hg_worker.specs.Workers.{had_in}
 use Rattle.hg_worker.proofs.Allocs.{no_block, by_none, if_no_block, given_follows, given_arena}
 use Rattle.hg_worker.proofs.Allocs.{live_ends_none}
 use Rattle.hg_worker.specs.Hands.{KnowsHand}
@@ -25,38 +26,44 @@ use Rattle.hg_worker.specs.Seats.{records_in}
 use Rattle.hg_worker.proofs.Records.{same_goes, given_goes}
 use Rattle.hg_worker.proofs.Seats.{machines_shown, machines_unseen, machines_any}
 use Rattle.std.specs.Prelude.{Option, Some, Err, IfNone}
-use Rattle.hg_worker.proofs.Steps.{either_way, held_decides, seat_shows, seat_steps}
+use Rattle.hg_worker.proofs.Steps.{either_way, held_decides}
+use Rattle.hg_table.specs.Named.{table_of_worker}
+use Rattle.hg_worker.specs.Seats.{AreOnTable}
+use Rattle.hg_worker.proofs.Tables.{allotted_as, stepped_as, stepped_on_table}
 use Rattle.hg_worker.proofs.Workers.{whole_of}
 use Rattle.hg_worker.proofs.worker.Worker.alloc.Goals as goal
 
-pub invariant_of-self : goal.invariant_of-self
-invariant_of-self g c =
-    let s = c.args.self.now in
+pub invariant_of-inner : goal.invariant_of-inner
+invariant_of-inner g c =
+    let s = c.deref_mut-inner.result.now in
     let of : AreOf number_in s.policy c.alloc.new.self.segments =
     either_way c.alloc.result _ _ c.alloc.ensures.given c.alloc.ensures.refused
-    (λ handle e. steps_keep_policy number_in (seat_shows number_in part_of_seat)
-    (seat_steps number_in part_of_seat) s.policy handle.place e.0.word
+    (λ handle e. steps_keep_policy number_in seat_shows
+    seat_steps s.policy handle.place e.0.word
     (live_word handle.generation c.args.actor.0) s.heap.segments c.alloc.new.self.segments
     e.0.stepped s.of)
     (λ _ e. subst (λ (h : Held _). AreOf number_in s.policy h.segments) (sym e.0) s.of) in
     record {
-      serves = s.serves;
       sound = s.sound;
       below = s.below;
       words = s.words;
       of = of;
+      together = either_way c.alloc.result _ _ c.alloc.ensures.given c.alloc.ensures.refused
+          (λ handle e. stepped_on_table e.0.stepped s.together)
+          (λ _ e. subst (λ (h : Held _). AreOnTable (table_of_worker s.seat) h.segments) (sym e.0)
+          s.together);
       reach = s.reach;
       known = either_way c.alloc.result _ _ c.alloc.ensures.given c.alloc.ensures.refused
-          (λ handle e. knows_still number_in part_of_seat (the_same (had s).own)
-          (stepped_grown number_in part_of_seat e.0.stepped) s.known)
-          (λ _ e. subst (λ (h : Held _). KnowsHand number_in part_of_seat s.hand (had s).own
+          (λ handle e. knows_still number_in part_of_seat (the_same (had_in s).own)
+          (stepped_grown number_in part_of_seat (stepped_as e.0.stepped)) s.known)
+          (λ _ e. subst (λ (h : Held _). KnowsHand number_in part_of_seat s.hand (had_in s).own
           h.segments) (sym e.0) s.known);
     }
 
 pub returns-in-Ok-clause-alloc : goal.returns-in-Ok-clause-alloc
 returns-in-Ok-clause-alloc g c =
-    let s = c.args.self.now in
-    let old = had s in
+    rw (sym c.deref_mut-inner.ensures.value) (let s = c.deref_mut-inner.result.now in
+    let old = had_in s in
     let handle = c.in-Ok.handle in
     let place = handle.place in
     let given = c.in-Ok.ensures.given.0 in
@@ -68,8 +75,8 @@ returns-in-Ok-clause-alloc g c =
     let decided : Decided number_in part_of_seat place given.word
     (live_word handle.generation c.args.actor.0) [] old new =
     held_decides number_in part_of_seat place given.word
-    (live_word handle.generation c.args.actor.0) [] old new c.settled.ensures.once given.stepped
-    refl
+    (live_word handle.generation c.args.actor.0) [] old new c.settled.ensures.once
+    (stepped_as given.stepped) refl
     (given_follows s.policy (size_of c.args.bytes) c.args.actor.0 handle s.heap.segments
     c.alloc.new.self.segments given)
     (live_ends_none (word_of place) given.word handle.generation c.args.actor.0) in (
@@ -79,12 +86,12 @@ returns-in-Ok-clause-alloc g c =
           (event.Alloc c.args.actor c.args.arena c.args.bytes) (answer.Block handle)
           (shown_at place (live_word handle.generation c.args.actor.0))
           (whole_of s c.settled.ensures.each) arena.1 decided.shown ties,
-    )
+    ))
 
 pub returns-in-Err-clause-alloc : goal.returns-in-Err-clause-alloc
 returns-in-Err-clause-alloc g c =
-    let s = c.args.self.now in
-    let old = had s in
+    rw (sym c.deref_mut-inner.ensures.value) (let s = c.deref_mut-inner.result.now in
+    let old = had_in s in
     let e = c.in-Err.ensures.refused in
     let new = record old { heap = c.alloc.new.self } in
     let ties = e.1 None s.number (hand_place s.hand) (hand_generation s.hand) s.below in
@@ -92,7 +99,7 @@ returns-in-Err-clause-alloc g c =
     (ap block_in c.refused_answer.ensures ∙ no_block c.in-Err.refused)
     (machines_unseen old new (event.Alloc c.args.actor c.args.arena c.args.bytes)
     c.refused_answer.result None (whole_of s c.settled.ensures.each)
-    (rw (c.refused_answer.ensures, e.0) ties))
+    (rw (c.refused_answer.ensures, e.0) ties)))
 
 -- a refusal of the heap is no block
 refusal : (why : Refused) (answer : Answer) → answer ≡ refused_answer why
@@ -101,22 +108,23 @@ refusal why answer is = ap block_in is ∙ no_block why
 
 pub returns-in-Err-clause-given : goal.returns-in-Err-clause-given
 returns-in-Err-clause-given g c =
-    if_no_block _ _ (refusal c.in-Err.refused c.refused_answer.result c.refused_answer.ensures)
+    rw (sym c.deref_mut-inner.ensures.value) (if_no_block _ _ (refusal c.in-Err.refused c.refused_answer.result c.refused_answer.ensures))
 
 pub returns-in-Err-clause-chosen : goal.returns-in-Err-clause-chosen
 returns-in-Err-clause-chosen g c =
-    if_no_block _ _ (refusal c.in-Err.refused c.refused_answer.result c.refused_answer.ensures)
+    rw (sym c.deref_mut-inner.ensures.value) (if_no_block _ _ (refusal c.in-Err.refused c.refused_answer.result c.refused_answer.ensures))
 
 pub returns-in-Ok-clause-given : goal.returns-in-Ok-clause-given
-returns-in-Ok-clause-given g c = c.in-Ok.ensures.given.0
+returns-in-Ok-clause-given g c =
+    rw (sym c.deref_mut-inner.ensures.value) (c.in-Ok.ensures.given.0)
 
 pub returns-in-Err-clause-lists : goal.returns-in-Err-clause-lists
 returns-in-Err-clause-lists g c =
-    if_no_block _ _ (refusal c.in-Err.refused c.refused_answer.result c.refused_answer.ensures)
+    rw (sym c.deref_mut-inner.ensures.value) (if_no_block _ _ (refusal c.in-Err.refused c.refused_answer.result c.refused_answer.ensures))
 
 pub returns-in-Err-clause-queues : goal.returns-in-Err-clause-queues
 returns-in-Err-clause-queues g c =
-    if_no_block _ _ (refusal c.in-Err.refused c.refused_answer.result c.refused_answer.ensures)
+    rw (sym c.deref_mut-inner.ensures.value) (if_no_block _ _ (refusal c.in-Err.refused c.refused_answer.result c.refused_answer.ensures))
 
 only_no_room : (why : Refused) → refused_answer why ≡ answer.NoRoom → why ≡ refused.NoRoom
 only_no_room (refused.Denied rule) e = absurd (cc)
@@ -130,19 +138,20 @@ where_none None P p = p
 where_none (Some x) P p = tt
 
 pub returns-in-Err-clause-no_room : goal.returns-in-Err-clause-no_room
-returns-in-Err-clause-no_room g c = λ is.
+returns-in-Err-clause-no_room g c =
+    rw (sym c.deref_mut-inner.ensures.value) (λ is.
     c.alloc.ensures.no_room
     (c.in-Err.is
-    ∙ ap Err (only_no_room c.in-Err.refused (sym c.refused_answer.ensures ∙ is)))
+    ∙ ap Err (only_no_room c.in-Err.refused (sym c.refused_answer.ensures ∙ is))))
 
 pub returns-in-Err-clause-unchanged : goal.returns-in-Err-clause-unchanged
 returns-in-Err-clause-unchanged g c =
-    where_none (block_in c.refused_answer.result) _ c.in-Err.ensures.refused.0
+    rw (sym c.deref_mut-inner.ensures.value) (where_none (block_in c.refused_answer.result) _ c.in-Err.ensures.refused.0)
 
 pub returns-in-Err-clause-any : goal.returns-in-Err-clause-any
 returns-in-Err-clause-any g c =
-    let s = c.args.self.now in
-    let old = had s in
+    rw (sym c.deref_mut-inner.ensures.value) (let s = c.deref_mut-inner.result.now in
+    let old = had_in s in
     let e = c.in-Err.ensures.refused in
     let new = record old { heap = c.alloc.new.self } in
     where_none (block_in c.refused_answer.result) _
@@ -150,24 +159,26 @@ returns-in-Err-clause-any g c =
     let ties = e.1 shown s.number (hand_place s.hand) (hand_generation s.hand) s.below in
     machines_any old new shown (event.Alloc c.args.actor c.args.arena c.args.bytes)
     c.refused_answer.result shown (whole_of s c.settled.ensures.each) may
-    (rw (c.refused_answer.ensures, e.0) ties))
+    (rw (c.refused_answer.ensures, e.0) ties)))
 
 pub returns-in-Err-clause-home : goal.returns-in-Err-clause-home
 returns-in-Err-clause-home g c =
-    same_goes number_in records_in _ _
+    rw (sym c.deref_mut-inner.ensures.value) (same_goes number_in records_in _ _
     (λ place.
     ap (λ (h : Held _). record_in number_in records_in h.segments place)
-    c.in-Err.ensures.refused.0)
+    c.in-Err.ensures.refused.0))
 
 pub returns-in-Ok-clause-no_room : goal.returns-in-Ok-clause-no_room
-returns-in-Ok-clause-no_room g c = λ is. absurd (cc)
+returns-in-Ok-clause-no_room g c =
+    rw (sym c.deref_mut-inner.ensures.value) (λ is. absurd (cc))
 
 pub returns-in-Ok-clause-home : goal.returns-in-Ok-clause-home
 returns-in-Ok-clause-home g c =
-    given_goes number_in records_in part_of_seat c.settled.ensures.once c.in-Ok.ensures.given.0
+    rw (sym c.deref_mut-inner.ensures.value) (given_goes number_in records_in part_of_seat c.settled.ensures.once
+    (allotted_as c.in-Ok.ensures.given.0))
 
 pub returns-in-Err-clause-any_hand : goal.returns-in-Err-clause-any_hand
 returns-in-Err-clause-any_hand g c =
-    where_none (block_in c.refused_answer.result) _
+    rw (sym c.deref_mut-inner.ensures.value) (where_none (block_in c.refused_answer.result) _
     (λ shown. rw (c.refused_answer.ensures, c.in-Err.ensures.refused.0)
-    (c.in-Err.ensures.refused.1 shown))
+    (c.in-Err.ensures.refused.1 shown)))

@@ -14,7 +14,7 @@ use Rattle.hg_table.proofs.Told.{is_ended}
 use Rattle.hg_table.proofs.WordSteps.{freed_word_after}
 use Rattle.hg_worker.specs.Seats.{number_in, records_in, part_of_seat}
 use Rattle.hg_worker.specs.Seen.{word_of, Decided, Looked}
-use Rattle.hg_worker.specs.Workers.{had}
+use Rattle.hg_worker.specs.Workers.{had_in}
 use Rattle.hg_worker.proofs.Frees.{word_within, within_reach, hand_full, undenied_live}
 use Rattle.hg_worker.proofs.Frees.{lost_is_denied, own_decides_twice, free_denied, free_busy}
 use Rattle.hg_worker.proofs.Frees.{free_parted, own_steps_twice}
@@ -23,12 +23,14 @@ use Rattle.hg_worker.proofs.Hands.{own_saw, saw_freed, knows_new}
 use Rattle.hg_worker.proofs.Judged.{judged_by}
 use Rattle.hg_worker.proofs.Seats.{some_arena, machines_unseen, machines_looked, machines_shown}
 use Rattle.hg_worker.proofs.Steps.{none_in, no_step, own_looks, own_steps, seats_stay, looked_ends}
-use Rattle.hg_worker.proofs.Workers.{whole_of}
+use Rattle.hg_worker.proofs.Tables.{same_together, same_words}
+use Rattle.hg_worker.proofs.Workers.{held_by, whole_of}
 
 pub returns-then-is_none-clause-refused : goal.returns-then-is_none-clause-refused
-returns-then-is_none-clause-refused g c = λ _.
-    let s = c.args.self.now in
-    let old = had s in
+returns-then-is_none-clause-refused g c =
+    rw (sym c.deref_mut-inner.ensures.value) (λ _.
+    let s = c.deref_mut-inner.result.now in
+    let old = had_in s in
     let e = c.denied_answer.ensures in
     let at : arena_of s.policy c.args.handle.place.segment ≡ None =
     sym c.arena_of.ensures
@@ -39,18 +41,19 @@ returns-then-is_none-clause-refused g c = λ _.
       (at, seats_stay number_in part_of_seat old old refl refl),
       machines_unseen old old (event.Free c.args.actor c.args.handle) c.denied_answer.result None
           (whole_of s c.settled.ensures.each) (rw e.2 ties),
-    )
+    ))
 
 pub look-word-requires : goal.look-word-requires
 look-word-requires g c =
-    let s = c.args.self.now in
+    let s = c.deref_mut-inner.result.now in
     word_within s.policy c.args.handle.place _ s.words
     (ap is_some (sym c.arena_of.ensures) ∙ (c.is_none.ensures ∙ ap not c.if-is_none.false))
 
 pub returns-in-Denied-clause-refused : goal.returns-in-Denied-clause-refused
-returns-in-Denied-clause-refused g c = λ _.
-    let s = c.args.self.now in
-    let old = had s in
+returns-in-Denied-clause-refused g c =
+    rw (sym c.deref_mut-inner.ensures.value) (λ _.
+    let s = c.deref_mut-inner.result.now in
+    let old = had_in s in
     let place = c.args.handle.place in
     let word = c.look-word.result in
     let some : is_some (arena_of s.policy place.segment) ≡ true =
@@ -58,11 +61,11 @@ returns-in-Denied-clause-refused g c = λ _.
     let denied = denied_by _ c.in-Denied.rule c.in-Denied.ensures in
     let ties = free_denied number_in records_in old (shown_at place word) s.below c.args.actor
     c.args.handle refl c.in-Denied.rule denied in
-    let new = record old { own = part_on c.look-word.new.self.inner.badge } in
+    let new = record old { own = part_on c.look-word.new.self.badge } in
     let looked : Looked number_in part_of_seat place (shown_at place word) old new = (
       some,
       refl,
-      own_looks number_in part_of_seat place word old new c.requires refl
+      own_looks number_in part_of_seat place word old new (held_by _ c.deref_mut-inner.ensures.value c.requires) refl
           c.look-word.ensures.shown c.look-word.ensures.step,
     ) in (
       shown_at place word,
@@ -70,24 +73,25 @@ returns-in-Denied-clause-refused g c = λ _.
       machines_looked old new place (shown_at place word)
           (event.Free c.args.actor c.args.handle) (answer.Denied c.in-Denied.rule)
           (whole_of s c.settled.ensures.each) looked ties,
-    )
+    ))
 
 pub returns-then-is_some-clause-refused : goal.returns-then-is_some-clause-refused
-returns-then-is_some-clause-refused g c = λ _.
-    let s = c.args.self.now in
-    let old = had s in
+returns-then-is_some-clause-refused g c =
+    rw (sym c.deref_mut-inner.ensures.value) (λ _.
+    let s = c.deref_mut-inner.result.now in
+    let old = had_in s in
     let place = c.args.handle.place in
     let word = c.look-word.result in
     let some : is_some (arena_of s.policy place.segment) ≡ true =
     ap is_some (sym c.arena_of.ensures) ∙ (c.is_none.ensures ∙ ap not c.if-is_none.false) in
     let ties = free_busy number_in records_in old (shown_at place word) s.below c.args.actor
-    c.args.handle refl c.requires (allowed_by _ c.in_default.ensures)
+    c.args.handle refl (held_by _ c.deref_mut-inner.ensures.value c.requires) (allowed_by _ c.in_default.ensures)
     (hand_full s.hand (sym c.if-is_some.ensures)) in
-    let new = record old { own = part_on c.look-word.new.self.inner.badge } in
+    let new = record old { own = part_on c.look-word.new.self.badge } in
     let looked : Looked number_in part_of_seat place (shown_at place word) old new = (
       some,
       refl,
-      own_looks number_in part_of_seat place word old new c.requires refl
+      own_looks number_in part_of_seat place word old new (held_by _ c.deref_mut-inner.ensures.value c.requires) refl
           c.look-word.ensures.shown c.look-word.ensures.step,
     ) in (
       shown_at place word,
@@ -95,32 +99,32 @@ returns-then-is_some-clause-refused g c = λ _.
       machines_looked old new place (shown_at place word)
           (event.Free c.args.actor c.args.handle) answer.Busy
           (whole_of s c.settled.ensures.each) looked ties,
-    )
+    ))
 
-pub invariant_of-self : goal.invariant_of-self
-invariant_of-self g c =
-    let s = c.args.self.now in
+pub invariant_of-inner : goal.invariant_of-inner
+invariant_of-inner g c =
+    let s = c.deref_mut-inner.result.now in
     record {
-      serves = s.serves;
       sound = s.sound;
       below = s.below;
-      words = s.words;
+      words = same_words c.look-word.ensures.same s.words;
       of = s.of;
+      together = same_together s.heap.segments c.look-word.ensures.same s.together;
       reach = s.reach;
       known = own_saw number_in part_of_seat
           ((word_of c.args.handle.place, c.look-word.result) ∷ [])
           c.look-word.ensures.step.1 s.known;
     }
 
-pub invariant_of-self-then-is_some : goal.invariant_of-self-then-is_some
-invariant_of-self-then-is_some g c =
-    let s = c.args.self.now in
+pub invariant_of-inner-then-is_some : goal.invariant_of-inner-then-is_some
+invariant_of-inner-then-is_some g c =
+    let s = c.deref_mut-inner.result.now in
     record {
-      serves = s.serves;
       sound = s.sound;
       below = s.below;
-      words = s.words;
+      words = same_words c.look-word.ensures.same s.words;
       of = s.of;
+      together = same_together s.heap.segments c.look-word.ensures.same s.together;
       reach = s.reach;
       known = own_saw number_in part_of_seat
           ((word_of c.args.handle.place, c.look-word.result) ∷ [])
@@ -129,24 +133,26 @@ invariant_of-self-then-is_some g c =
 
 pub part-requires-clause-place : goal.part-requires-clause-place
 part-requires-clause-place g c =
-    let s = c.args.self.now in
-    word_within s.policy c.args.handle.place _ s.words
+    let s = c.deref_mut-inner.result.now in
+    word_within s.policy c.args.handle.place _
+    (same_words c.look-word.ensures.same s.words)
     (ap is_some (sym c.arena_of.ensures) ∙ (c.is_none.ensures ∙ ap not c.if-is_none.false))
 
 pub denied_answer-requires-in-Err : goal.denied_answer-requires-in-Err
 denied_answer-requires-in-Err g c = λ e.
-    let s = c.args.self.now in
+    let s = c.deref_mut-inner.result.now in
     let err = c.in-Err.ensures.err in
     lost_is_denied s.policy c.args.actor.0 right.Free c.args.handle
     (word_of c.args.handle.place) c.look-word.result c.in-Err.found
-    (part_on s.seat.inner.badge) (part_on c.look-word.new.self.inner.badge)
+    (part_on s.seat.badge) (part_on c.look-word.new.self.badge)
     c.look-word.ensures.shown.slot_word (allowed_by _ c.in_default.ensures)
     c.look-word.ensures.step.1 err.1 err.0 e
 
 pub returns-in-Err-clause-refused : goal.returns-in-Err-clause-refused
-returns-in-Err-clause-refused g c = λ _.
-    let s = c.args.self.now in
-    let old = had s in
+returns-in-Err-clause-refused g c =
+    rw (sym c.deref_mut-inner.ensures.value) (λ _.
+    let s = c.deref_mut-inner.result.now in
+    let old = had_in s in
     let place = c.args.handle.place in
     let word = c.look-word.result in
     let found = c.in-Err.found in
@@ -154,12 +160,12 @@ returns-in-Err-clause-refused g c = λ _.
     let e = c.denied_answer-in-Err.ensures in
     let some : is_some (arena_of s.policy place.segment) ≡ true =
     ap is_some (sym c.arena_of.ensures) ∙ (c.is_none.ensures ∙ ap not c.if-is_none.false) in
-    let new = record old { own = part_on c.part.new.self.inner.badge } in
+    let new = record old { own = part_on c.part.new.self.badge } in
     let looked : Looked number_in part_of_seat place (shown_at place found) old new = (
       some,
       refl,
       own_decides_twice number_in part_of_seat place word found found [] old new
-          (part_on c.look-word.new.self.inner.badge) c.requires refl s.seat.inner.plain
+          (part_on c.look-word.new.self.badge) (held_by _ c.deref_mut-inner.ensures.value c.requires) refl s.seat.plain
           c.look-word.ensures.step err.1 err.2 (itself found) (looked_ends (word_of place) found),
     ) in
     let ties = free_denied number_in records_in old (shown_at place found) s.below c.args.actor
@@ -169,51 +175,52 @@ returns-in-Err-clause-refused g c = λ _.
       machines_looked old new place (shown_at place found)
           (event.Free c.args.actor c.args.handle) c.denied_answer-in-Err.result
           (whole_of s c.settled.ensures.each) looked (rw e.2 ties),
-    )
+    ))
 
-pub invariant_of-self-in-Err-1 : goal.invariant_of-self-in-Err-1
-invariant_of-self-in-Err-1 g c =
-    let s = c.args.self.now in
+pub invariant_of-inner-in-Err-1 : goal.invariant_of-inner-in-Err-1
+invariant_of-inner-in-Err-1 g c =
+    let s = c.deref_mut-inner.result.now in
     record {
-      serves = s.serves;
       sound = s.sound;
       below = s.below;
-      words = s.words;
+      words = same_words (c.part.ensures.same ∙ c.look-word.ensures.same) s.words;
       of = s.of;
+      together = same_together s.heap.segments (c.part.ensures.same ∙ c.look-word.ensures.same) s.together;
       reach = s.reach;
       known = own_saw number_in part_of_seat
-          {own = part_on c.look-word.new.self.inner.badge}
+          {own = part_on c.look-word.new.self.badge}
           ((word_of c.args.handle.place, c.in-Err.found) ∷ []) c.in-Err.ensures.err.2.1
           (own_saw number_in part_of_seat ((word_of c.args.handle.place, c.look-word.result) ∷ [])
           c.look-word.ensures.step.1 s.known);
     }
 
-pub invariant_of-self-2 : goal.invariant_of-self-2
-invariant_of-self-2 g c =
-    let s = c.args.self.now in
+pub invariant_of-inner-2 : goal.invariant_of-inner-2
+invariant_of-inner-2 g c =
+    let s = c.deref_mut-inner.result.now in
     record {
-      serves = s.serves;
       sound = s.sound;
       below = s.below;
-      words = s.words;
+      words = same_words (c.part.ensures.same ∙ c.look-word.ensures.same) s.words;
       of = s.of;
+      together = same_together s.heap.segments (c.part.ensures.same ∙ c.look-word.ensures.same) s.together;
       reach = within_reach s.policy c.args.handle
           (ap is_some (sym c.arena_of.ensures) ∙ (c.is_none.ensures ∙ ap not c.if-is_none.false));
       known =
           let word = c.look-word.result in
           let live = undenied_live s.policy c.args.actor.0 right.Free c.args.handle word
           c.look-word.ensures.shown.slot_word (allowed_by _ c.in_default.ensures) in
-          knows_new number_in part_of_seat c.args.handle (part_on c.part.new.self.inner.badge)
+          knows_new number_in part_of_seat c.args.handle (part_on c.part.new.self.badge)
           s.heap.segments
-          (saw_freed c.args.handle word (part_on c.look-word.new.self.inner.badge)
-          (part_on c.part.new.self.inner.badge) live.0 live.1 c.in_default-part.ensures.ok.1.1)
-          c.requires;
+          (saw_freed c.args.handle word (part_on c.look-word.new.self.badge)
+          (part_on c.part.new.self.badge) live.0 live.1 c.in_default-part.ensures.ok.1.1)
+          (held_by _ c.deref_mut-inner.ensures.value c.requires);
     }
 
 pub returns-clause-freed : goal.returns-clause-freed
-returns-clause-freed g c = λ _.
-    let s = c.args.self.now in
-    let old = had s in
+returns-clause-freed g c =
+    rw (sym c.deref_mut-inner.ensures.value) (λ _.
+    let s = c.deref_mut-inner.result.now in
+    let old = had_in s in
     let place = c.args.handle.place in
     let word = c.look-word.result in
     let none = allowed_by _ c.in_default.ensures in
@@ -226,29 +233,30 @@ returns-clause-freed g c = λ _.
     let arena = some_arena (arena_of s.policy place.segment) some in
     let empty : s.hand ≡ None = none_in s.hand (sym c.if-is_some.ensures) in
     let new = record old {
-      own = part_on c.part.new.self.inner.badge;
+      own = part_on c.part.new.self.badge;
       hand = Some c.args.handle;
     } in
     let decided : Decided number_in part_of_seat place word (word - 1)
     ((word_of place, word_generation word) ∷ []) old new =
     own_decides_twice number_in part_of_seat place word word (word - 1)
     ((word_of place, word_generation word) ∷ []) old new
-    (part_on c.look-word.new.self.inner.badge) c.requires refl s.seat.inner.plain
+    (part_on c.look-word.new.self.badge) (held_by _ c.deref_mut-inner.ensures.value c.requires) refl s.seat.plain
     c.look-word.ensures.step ok.0 ok.1 (freed_word_after word live).0
     (λ es. is_ended (word_of place) word es live) in
     let ties = free_parted number_in records_in old word c.args.actor c.args.handle s.below
-    c.requires none empty in (
+    (held_by _ c.deref_mut-inner.ensures.value c.requires) none empty in (
       word,
       (live, decided),
       machines_shown old new place word arena.0 (event.Free c.args.actor c.args.handle)
           answer.Parted (shown_at place (word - 1)) (whole_of s c.settled.ensures.each) arena.1
           decided.shown ties,
-    )
+    ))
 
 pub returns-then-is_none-clause-judged : goal.returns-then-is_none-clause-judged
-returns-then-is_none-clause-judged g c = λ _.
-    let s = c.args.self.now in
-    let old = had s in
+returns-then-is_none-clause-judged g c =
+    rw (sym c.deref_mut-inner.ensures.value) (λ _.
+    let s = c.deref_mut-inner.result.now in
+    let old = had_in s in
     let e = c.denied_answer.ensures in
     let at : arena_of s.policy c.args.handle.place.segment ≡ None =
     sym c.arena_of.ensures
@@ -259,21 +267,22 @@ returns-then-is_none-clause-judged g c = λ _.
       looked,
       judged_by number_in part_of_seat s.policy c.args.actor.0 right.Free c.args.handle None old
           old (rule_of c.denied_answer.result) looked (e.1 ∙ sym (ap rule_of e.2)),
-    )
+    ))
 
 pub returns-in-Denied-clause-judged : goal.returns-in-Denied-clause-judged
-returns-in-Denied-clause-judged g c = λ _.
-    let s = c.args.self.now in
-    let old = had s in
+returns-in-Denied-clause-judged g c =
+    rw (sym c.deref_mut-inner.ensures.value) (λ _.
+    let s = c.deref_mut-inner.result.now in
+    let old = had_in s in
     let place = c.args.handle.place in
     let word = c.look-word.result in
     let some : is_some (arena_of s.policy place.segment) ≡ true =
     ap is_some (sym c.arena_of.ensures) ∙ (c.is_none.ensures ∙ ap not c.if-is_none.false) in
-    let new = record old { own = part_on c.look-word.new.self.inner.badge } in
+    let new = record old { own = part_on c.look-word.new.self.badge } in
     let looked : Looked number_in part_of_seat place (shown_at place word) old new = (
       some,
       refl,
-      own_looks number_in part_of_seat place word old new c.requires refl
+      own_looks number_in part_of_seat place word old new (held_by _ c.deref_mut-inner.ensures.value c.requires) refl
           c.look-word.ensures.shown c.look-word.ensures.step,
     ) in (
       shown_at place word,
@@ -281,33 +290,35 @@ returns-in-Denied-clause-judged g c = λ _.
       judged_by number_in part_of_seat s.policy c.args.actor.0 right.Free c.args.handle
           (shown_at place word) old new (Some c.in-Denied.rule) looked
           (denied_by _ c.in-Denied.rule c.in-Denied.ensures),
-    )
+    ))
 
 pub returns-then-is_some-clause-judged : goal.returns-then-is_some-clause-judged
-returns-then-is_some-clause-judged g c = λ _.
-    let s = c.args.self.now in
-    let old = had s in
+returns-then-is_some-clause-judged g c =
+    rw (sym c.deref_mut-inner.ensures.value) (λ _.
+    let s = c.deref_mut-inner.result.now in
+    let old = had_in s in
     let place = c.args.handle.place in
     let word = c.look-word.result in
     let some : is_some (arena_of s.policy place.segment) ≡ true =
     ap is_some (sym c.arena_of.ensures) ∙ (c.is_none.ensures ∙ ap not c.if-is_none.false) in
-    let new = record old { own = part_on c.look-word.new.self.inner.badge } in
+    let new = record old { own = part_on c.look-word.new.self.badge } in
     let looked : Looked number_in part_of_seat place (shown_at place word) old new = (
       some,
       refl,
-      own_looks number_in part_of_seat place word old new c.requires refl
+      own_looks number_in part_of_seat place word old new (held_by _ c.deref_mut-inner.ensures.value c.requires) refl
           c.look-word.ensures.shown c.look-word.ensures.step,
     ) in (
       shown_at place word,
       looked,
       judged_by number_in part_of_seat s.policy c.args.actor.0 right.Free c.args.handle
           (shown_at place word) old new None looked (allowed_by _ c.in_default.ensures),
-    )
+    ))
 
 pub returns-in-Err-clause-judged : goal.returns-in-Err-clause-judged
-returns-in-Err-clause-judged g c = λ _.
-    let s = c.args.self.now in
-    let old = had s in
+returns-in-Err-clause-judged g c =
+    rw (sym c.deref_mut-inner.ensures.value) (λ _.
+    let s = c.deref_mut-inner.result.now in
+    let old = had_in s in
     let place = c.args.handle.place in
     let word = c.look-word.result in
     let found = c.in-Err.found in
@@ -315,12 +326,12 @@ returns-in-Err-clause-judged g c = λ _.
     let e = c.denied_answer-in-Err.ensures in
     let some : is_some (arena_of s.policy place.segment) ≡ true =
     ap is_some (sym c.arena_of.ensures) ∙ (c.is_none.ensures ∙ ap not c.if-is_none.false) in
-    let new = record old { own = part_on c.part.new.self.inner.badge } in
+    let new = record old { own = part_on c.part.new.self.badge } in
     let looked : Looked number_in part_of_seat place (shown_at place found) old new = (
       some,
       refl,
       own_decides_twice number_in part_of_seat place word found found [] old new
-          (part_on c.look-word.new.self.inner.badge) c.requires refl s.seat.inner.plain
+          (part_on c.look-word.new.self.badge) (held_by _ c.deref_mut-inner.ensures.value c.requires) refl s.seat.plain
           c.look-word.ensures.step err.1 err.2 (itself found) (looked_ends (word_of place) found),
     ) in (
       shown_at place found,
@@ -328,12 +339,13 @@ returns-in-Err-clause-judged g c = λ _.
       judged_by number_in part_of_seat s.policy c.args.actor.0 right.Free c.args.handle
           (shown_at place found) old new (rule_of c.denied_answer-in-Err.result) looked
           (e.1 ∙ sym (ap rule_of e.2)),
-    )
+    ))
 
 pub returns-clause-served : goal.returns-clause-served
-returns-clause-served g c = λ _.
-    let s = c.args.self.now in
-    let old = had s in
+returns-clause-served g c =
+    rw (sym c.deref_mut-inner.ensures.value) (λ _.
+    let s = c.deref_mut-inner.result.now in
+    let old = had_in s in
     let place = c.args.handle.place in
     let word = c.look-word.result in
     let none = allowed_by _ c.in_default.ensures in
@@ -341,53 +353,53 @@ returns-clause-served g c = λ _.
     c.look-word.ensures.shown.slot_word none in
     let ok = c.in_default-part.ensures.ok in
     let new = record old {
-      own = part_on c.part.new.self.inner.badge;
+      own = part_on c.part.new.self.badge;
       hand = Some c.args.handle;
     } in
     let decided : Decided number_in part_of_seat place word (word - 1)
     ((word_of place, word_generation word) ∷ []) old new =
     own_decides_twice number_in part_of_seat place word word (word - 1)
     ((word_of place, word_generation word) ∷ []) old new
-    (part_on c.look-word.new.self.inner.badge) c.requires refl s.seat.inner.plain
+    (part_on c.look-word.new.self.badge) (held_by _ c.deref_mut-inner.ensures.value c.requires) refl s.seat.plain
     c.look-word.ensures.step ok.0 ok.1 (freed_word_after word live.0).0
     (λ es. is_ended (word_of place) word es live.0) in (
       word,
       (live.0, decided),
       record { named = none; live = λ _. live.0; generation = λ _. live.1 },
-    )
+    ))
 
 pub returns-then-is_none-clause-few : goal.returns-then-is_none-clause-few
 returns-then-is_none-clause-few g c =
-    no_step number_in part_of_seat 2 c.args.handle.place (had c.args.self.now)
+    rw (sym c.deref_mut-inner.ensures.value) (no_step number_in part_of_seat 2 c.args.handle.place (had_in c.deref_mut-inner.result.now))
 
 pub returns-in-Denied-clause-few : goal.returns-in-Denied-clause-few
 returns-in-Denied-clause-few g c =
-    own_steps number_in part_of_seat 2 c.args.handle.place (c.look-word.result ∷ [])
-    (had c.args.self.now)
-    (record (had c.args.self.now) { own = part_on c.look-word.new.self.inner.badge })
-    c.requires refl (omega arith) c.look-word.ensures.step.1
+    rw (sym c.deref_mut-inner.ensures.value) (own_steps number_in part_of_seat 2 c.args.handle.place (c.look-word.result ∷ [])
+    (had_in c.deref_mut-inner.result.now)
+    (record (had_in c.deref_mut-inner.result.now) { own = part_on c.look-word.new.self.badge })
+    (held_by _ c.deref_mut-inner.ensures.value c.requires) refl (omega arith) c.look-word.ensures.step.1)
 
 pub returns-then-is_some-clause-few : goal.returns-then-is_some-clause-few
 returns-then-is_some-clause-few g c =
-    own_steps number_in part_of_seat 2 c.args.handle.place (c.look-word.result ∷ [])
-    (had c.args.self.now)
-    (record (had c.args.self.now) { own = part_on c.look-word.new.self.inner.badge })
-    c.requires refl (omega arith) c.look-word.ensures.step.1
+    rw (sym c.deref_mut-inner.ensures.value) (own_steps number_in part_of_seat 2 c.args.handle.place (c.look-word.result ∷ [])
+    (had_in c.deref_mut-inner.result.now)
+    (record (had_in c.deref_mut-inner.result.now) { own = part_on c.look-word.new.self.badge })
+    (held_by _ c.deref_mut-inner.ensures.value c.requires) refl (omega arith) c.look-word.ensures.step.1)
 
 pub returns-in-Err-clause-few : goal.returns-in-Err-clause-few
 returns-in-Err-clause-few g c =
-    own_steps_twice number_in part_of_seat c.args.handle.place c.look-word.result c.in-Err.found
-    (had c.args.self.now)
-    (record (had c.args.self.now) { own = part_on c.part.new.self.inner.badge })
-    (part_on c.look-word.new.self.inner.badge) c.requires refl
-    c.look-word.ensures.step.1 c.in-Err.ensures.err.2.1
+    rw (sym c.deref_mut-inner.ensures.value) (own_steps_twice number_in part_of_seat c.args.handle.place c.look-word.result c.in-Err.found
+    (had_in c.deref_mut-inner.result.now)
+    (record (had_in c.deref_mut-inner.result.now) { own = part_on c.part.new.self.badge })
+    (part_on c.look-word.new.self.badge) (held_by _ c.deref_mut-inner.ensures.value c.requires) refl
+    c.look-word.ensures.step.1 c.in-Err.ensures.err.2.1)
 
 pub returns-clause-few : goal.returns-clause-few
 returns-clause-few g c =
-    own_steps_twice number_in part_of_seat c.args.handle.place c.look-word.result
-    (c.look-word.result - 1) (had c.args.self.now)
-    (record (had c.args.self.now) {
-      own = part_on c.part.new.self.inner.badge;
+    rw (sym c.deref_mut-inner.ensures.value) (own_steps_twice number_in part_of_seat c.args.handle.place c.look-word.result
+    (c.look-word.result - 1) (had_in c.deref_mut-inner.result.now)
+    (record (had_in c.deref_mut-inner.result.now) {
+      own = part_on c.part.new.self.badge;
       hand = Some c.args.handle;
     })
-    (part_on c.look-word.new.self.inner.badge) c.requires refl c.look-word.ensures.step.1 c.in_default-part.ensures.ok.1.1
+    (part_on c.look-word.new.self.badge) (held_by _ c.deref_mut-inner.ensures.value c.requires) refl c.look-word.ensures.step.1 c.in_default-part.ensures.ok.1.1)

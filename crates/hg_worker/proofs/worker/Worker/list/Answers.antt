@@ -5,6 +5,7 @@ use Rattle.std.proofs.lemmas.List.Elements.{All-same}
 use Rattle.hg_machine.specs.declared.Row.{Row}
 use Rattle.hg_place.specs.declared.Place.{Place}
 use Rattle.hg_heap.specs.Held.{is_held}
+use Rattle.hg_worker.specs.declared.state.WorkerState.{WorkerState}
 use Rattle.hg_worker.specs.Listing.{open_places}
 use Rattle.hg_worker.specs.Seats.{number_in, records_in, part_of_seat}
 use Rattle.hg_worker.specs.Workers.{had, Lists}
@@ -53,12 +54,14 @@ pub look_into-requires-clause-held : goal.look_into-requires-clause-held
 look_into-requires-clause-held g c =
     let s = c.args.self.now in
     let place = c.place-item.result in
-    let segments = s.heap.segments in
+    let segments = s.inner.value.heap.segments in
     let held : Place → Type 0 = λ p. is_held number_in segments p.segment ≡ true in
-    all_held number_in records_in segments c.loop-place.self.heap.segments
+    all_held number_in records_in segments c.loop-place.self.inner.value.heap.segments
     c.loop-place.invariant.kept place.segment
     ∙ subst held (sym c.place-item.is)
     (All-same held c.deref-place-items.result.now (open_places number_in records_in segments)
-    (c.deref-place-items.ensures.value ∙ c.in_ok-places.ensures)
+    (c.deref-place-items.ensures.value ∙ c.in_ok-places.ensures
+    ∙ ap (λ (w : WorkerState). open_places number_in records_in w.heap.segments)
+    c.deref.ensures)
     (open_are_held number_in records_in segments) c.loop-place.place-index place
     c.loop-place-test.true)

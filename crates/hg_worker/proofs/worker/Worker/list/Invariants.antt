@@ -9,8 +9,8 @@ abbrev pub invariant-loop-place : goal.invariant-loop-place
 invariant-loop-place g l = record {
   listed :
       Lists l.actor (take l.place-index l.place-items) l.rows.items l.fn.self l.self;
-  kept : KeepsAll number_in records_in l.fn.self.heap.segments l.self.heap.segments;
-  queues : l.self.heap.queues ≡ l.fn.self.heap.queues;
+  kept : KeepsAll number_in records_in l.fn.self.inner.value.heap.segments l.self.inner.value.heap.segments;
+  queues : l.self.inner.value.heap.queues ≡ l.fn.self.inner.value.heap.queues;
   rest : Keeps l.fn.self l.self;
   room : vec_capacity l.rows ≡ length l.place-items;
   few : vec_len l.rows ≤ l.place-index;

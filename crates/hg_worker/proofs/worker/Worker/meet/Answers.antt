@@ -6,56 +6,62 @@ use Rattle.hg_table.specs.Seats.{part_on, word_at}
 use Rattle.hg_worker.specs.Seen.{word_of}
 use Rattle.hg_worker.proofs.Hands.{knows_still, stepped_grown, the_same, own_saw}
 use Rattle.hg_worker.specs.Seats.{number_in, records_in, part_of_seat}
-use Rattle.hg_worker.specs.Workers.{had}
+use Rattle.hg_worker.specs.Seats.{seat_shows, seat_steps}
+use Rattle.hg_worker.specs.Workers.{had_in}
 use Rattle.hg_worker.proofs.Pools.{by_some}
 use Rattle.hg_worker.proofs.Meetings.{met_away, met_held, met_held_other, met_keeps, met_stepped}
 use Rattle.hg_worker.proofs.Records.{all_goes}
 use Rattle.hg_worker.proofs.Seats.{some_arena}
-use Rattle.hg_worker.proofs.Steps.{seat_shows, seat_steps}
+use Rattle.hg_heap.proofs.ViewRoom.{found_one}
+use Rattle.hg_worker.proofs.Tables.{same_together, stepped_as, stepped_on_table}
+use Rattle.hg_worker.proofs.Workers.{named_by}
 use Rattle.hg_worker.proofs.worker.Worker.meet.Goals as goal
 
 pub returns-then-not-holds-2-clause-met : goal.returns-then-not-holds-2-clause-met
 returns-then-not-holds-2-clause-met g c =
-    let s = c.args.self.now in
-    let o = c.args.other.now in
+    rw (sym c.deref_mut-inner.ensures.value, sym c.deref_mut-theirs.ensures.value) (let s = c.deref_mut-inner.result.now in
+    let o = c.deref_mut-theirs.result.now in
     let place = c.args.handle.place in
     let there : is_some (arena_of s.policy place.segment) ≡ true =
     ap is_some (sym c.arena_of.ensures) ∙ (c.is_none.ensures ∙ ap not c.if-is_none.false) in
     let arena = some_arena (arena_of s.policy place.segment) there in
     by_some (arena_of s.policy place.segment) _ _ arena.0 arena.1
-    (met_away place c.meet.result (had s) (had o)
-    (record (had s) { own = part_on c.meet.new.self.inner.badge })
-    (record (had o) { own = part_on c.meet.new.other.inner.badge })
+    (met_away place c.meet.result (had_in s) (had_in o)
+    (record (had_in s) { own = part_on c.meet.new.self.badge })
+    (record (had_in o) { own = part_on c.meet.new.other.badge })
     (sym c.holds.ensures ∙ c.if-not-holds.true)
-    (sym c.holds-then-not-holds.ensures ∙ c.if-not-holds-2.true) refl refl c.meet.ensures)
+    (sym c.holds-then-not-holds.ensures ∙ c.if-not-holds-2.true) refl refl c.meet.ensures.met))
 
-pub invariant_of-other-then-not-holds : goal.invariant_of-other-then-not-holds
-invariant_of-other-then-not-holds g c =
-    let s = c.args.self.now in
-    let o = c.args.other.now in
+pub invariant_of-theirs-then-not-holds : goal.invariant_of-theirs-then-not-holds
+invariant_of-theirs-then-not-holds g c =
+    let s = c.deref_mut-inner.result.now in
+    let o = c.deref_mut-theirs.result.now in
     let place = c.args.handle.place in
     let word = c.meet-then-not-holds.result in
     record {
-      serves = o.serves;
       sound = o.sound;
       below = o.below;
       words = o.words;
-      of = steps_keep_policy number_in (seat_shows number_in part_of_seat)
-          (seat_steps number_in part_of_seat) o.policy place word word o.heap.segments
+      of = steps_keep_policy number_in seat_shows
+          seat_steps o.policy place word word o.heap.segments
           c.meet-then-not-holds.new.self.segments
           (met_stepped place word o.heap.segments c.meet-then-not-holds.new.self.segments s.seat
           _ c.meet-then-not-holds.ensures.met) o.of;
+      together = stepped_on_table (met_stepped place word o.heap.segments
+          c.meet-then-not-holds.new.self.segments s.seat _ c.meet-then-not-holds.ensures.met)
+          o.together;
       reach = o.reach;
-      known = knows_still number_in part_of_seat (the_same (had o).own)
+      known = knows_still number_in part_of_seat (the_same (had_in o).own)
           (stepped_grown number_in part_of_seat
-          (met_stepped place word o.heap.segments c.meet-then-not-holds.new.self.segments s.seat _
-          c.meet-then-not-holds.ensures.met)) o.known;
+          (stepped_as (met_stepped place word o.heap.segments
+          c.meet-then-not-holds.new.self.segments s.seat _ c.meet-then-not-holds.ensures.met)))
+          o.known;
     }
 
 pub returns-then-not-holds-clause-met : goal.returns-then-not-holds-clause-met
 returns-then-not-holds-clause-met g c =
-    let s = c.args.self.now in
-    let o = c.args.other.now in
+    rw (sym c.deref_mut-inner.ensures.value, sym c.deref_mut-theirs.ensures.value) (let s = c.deref_mut-inner.result.now in
+    let o = c.deref_mut-theirs.result.now in
     let place = c.args.handle.place in
     let word = c.meet-then-not-holds.result in
     let after = c.meet-then-not-holds.new.other in
@@ -63,39 +69,42 @@ returns-then-not-holds-clause-met g c =
     ap is_some (sym c.arena_of.ensures) ∙ (c.is_none.ensures ∙ ap not c.if-is_none.false) in
     let arena = some_arena (arena_of s.policy place.segment) there in
     by_some (arena_of s.policy place.segment) _ _ arena.0 arena.1
-    (met_held_other place word (had o) (had s)
-    (record (had o) { heap = c.meet-then-not-holds.new.self })
-    (record (had s) { own = part_on after.inner.badge })
+    (met_held_other place word (had_in o) (had_in s)
+    (record (had_in o) { heap = c.meet-then-not-holds.new.self })
+    (record (had_in s) { own = part_on after.badge })
     c.settled-2.ensures.once (sym c.holds.ensures ∙ c.if-not-holds.true) refl refl s.seat after
-    refl refl c.meet-then-not-holds.ensures.met)
+    refl refl c.meet-then-not-holds.ensures.met))
 
-pub invariant_of-self-then-not-holds-3 : goal.invariant_of-self-then-not-holds-3
-invariant_of-self-then-not-holds-3 g c =
-    let s = c.args.self.now in
-    let o = c.args.other.now in
+pub invariant_of-inner-then-not-holds-3 : goal.invariant_of-inner-then-not-holds-3
+invariant_of-inner-then-not-holds-3 g c =
+    let s = c.deref_mut-inner.result.now in
+    let o = c.deref_mut-theirs.result.now in
     let place = c.args.handle.place in
     let word = c.meet-then-not-holds-3.result in
     record {
-      serves = s.serves;
       sound = s.sound;
       below = s.below;
       words = s.words;
-      of = steps_keep_policy number_in (seat_shows number_in part_of_seat)
-          (seat_steps number_in part_of_seat) s.policy place word word s.heap.segments
+      of = steps_keep_policy number_in seat_shows
+          seat_steps s.policy place word word s.heap.segments
           c.meet-then-not-holds-3.new.self.segments
           (met_stepped place word s.heap.segments c.meet-then-not-holds-3.new.self.segments o.seat
           _ c.meet-then-not-holds-3.ensures.met) s.of;
+      together = stepped_on_table (met_stepped place word s.heap.segments
+          c.meet-then-not-holds-3.new.self.segments o.seat _ c.meet-then-not-holds-3.ensures.met)
+          s.together;
       reach = s.reach;
-      known = knows_still number_in part_of_seat (the_same (had s).own)
+      known = knows_still number_in part_of_seat (the_same (had_in s).own)
           (stepped_grown number_in part_of_seat
-          (met_stepped place word s.heap.segments c.meet-then-not-holds-3.new.self.segments o.seat
-          _ c.meet-then-not-holds-3.ensures.met)) s.known;
+          (stepped_as (met_stepped place word s.heap.segments
+          c.meet-then-not-holds-3.new.self.segments o.seat _ c.meet-then-not-holds-3.ensures.met)))
+          s.known;
     }
 
 pub returns-then-not-holds-3-clause-met : goal.returns-then-not-holds-3-clause-met
 returns-then-not-holds-3-clause-met g c =
-    let s = c.args.self.now in
-    let o = c.args.other.now in
+    rw (sym c.deref_mut-inner.ensures.value, sym c.deref_mut-theirs.ensures.value) (let s = c.deref_mut-inner.result.now in
+    let o = c.deref_mut-theirs.result.now in
     let place = c.args.handle.place in
     let word = c.meet-then-not-holds-3.result in
     let after = c.meet-then-not-holds-3.new.other in
@@ -103,60 +112,113 @@ returns-then-not-holds-3-clause-met g c =
     ap is_some (sym c.arena_of.ensures) ∙ (c.is_none.ensures ∙ ap not c.if-is_none.false) in
     let arena = some_arena (arena_of s.policy place.segment) there in
     by_some (arena_of s.policy place.segment) _ _ arena.0 arena.1
-    (met_held place word (had s) (had o)
-    (record (had s) { heap = c.meet-then-not-holds-3.new.self })
-    (record (had o) { own = part_on after.inner.badge })
+    (met_held place word (had_in s) (had_in o)
+    (record (had_in s) { heap = c.meet-then-not-holds-3.new.self })
+    (record (had_in o) { own = part_on after.badge })
     c.settled.ensures.once (sym c.holds-2.ensures ∙ c.if-not-holds-3.true) refl refl o.seat after
-    refl refl c.meet-then-not-holds-3.ensures.met)
+    refl refl c.meet-then-not-holds-3.ensures.met))
 
 pub returns-then-not-holds-clause-other_heap : goal.returns-then-not-holds-clause-other_heap
 returns-then-not-holds-clause-other_heap g c =
-    met_keeps c.args.handle.place c.meet-then-not-holds.result c.args.other.now.heap
-    c.meet-then-not-holds.new.self c.args.self.now.seat _ c.meet-then-not-holds.ensures.met
-    c.meet-then-not-holds.ensures.queues
+    rw (sym c.deref_mut-theirs.ensures.value) (met_keeps c.args.handle.place c.meet-then-not-holds.result c.deref_mut-theirs.result.now.heap
+    c.meet-then-not-holds.new.self c.deref_mut-inner.result.now.seat _ c.meet-then-not-holds.ensures.met
+    c.meet-then-not-holds.ensures.queues)
 
 pub returns-then-not-holds-3-clause-heap : goal.returns-then-not-holds-3-clause-heap
 returns-then-not-holds-3-clause-heap g c =
-    met_keeps c.args.handle.place c.meet-then-not-holds-3.result c.args.self.now.heap
-    c.meet-then-not-holds-3.new.self c.args.other.now.seat _ c.meet-then-not-holds-3.ensures.met
-    c.meet-then-not-holds-3.ensures.queues
+    rw (sym c.deref_mut-inner.ensures.value) (met_keeps c.args.handle.place c.meet-then-not-holds-3.result c.deref_mut-inner.result.now.heap
+    c.meet-then-not-holds-3.new.self c.deref_mut-theirs.result.now.seat _ c.meet-then-not-holds-3.ensures.met
+    c.meet-then-not-holds-3.ensures.queues)
 
-pub invariant_of-self-clause-known : goal.invariant_of-self-clause-known
-invariant_of-self-clause-known g c =
+pub invariant_of-inner-clause-known : goal.invariant_of-inner-clause-known
+invariant_of-inner-clause-known g c =
     own_saw number_in part_of_seat ((word_of c.args.handle.place, c.meet.result) ∷ [])
-    c.meet.ensures.step.1 c.args.self.now.known
+    c.meet.ensures.met.step.1 c.deref_mut-inner.result.now.known
 
-pub invariant_of-other-clause-known : goal.invariant_of-other-clause-known
-invariant_of-other-clause-known g c =
+pub invariant_of-theirs-clause-known : goal.invariant_of-theirs-clause-known
+invariant_of-theirs-clause-known g c =
     own_saw number_in part_of_seat ((word_of c.args.handle.place, c.meet.result) ∷ [])
-    c.meet.ensures.step_other.1 c.args.other.now.known
+    c.meet.ensures.met.step_other.1 c.deref_mut-theirs.result.now.known
 
-pub invariant_of-self-then-not-holds-clause-known
-    : goal.invariant_of-self-then-not-holds-clause-known
-invariant_of-self-then-not-holds-clause-known g c =
+pub invariant_of-inner-then-not-holds-clause-known
+    : goal.invariant_of-inner-then-not-holds-clause-known
+invariant_of-inner-then-not-holds-clause-known g c =
     let m = c.meet-then-not-holds.ensures.met in
     own_saw number_in part_of_seat
     ((word_at (number_in m.one.slots) (slot_of c.args.handle.place), c.meet-then-not-holds.result)
-    ∷ []) m.met.step_other.1 c.args.self.now.known
+    ∷ []) m.met.met.step_other.1 c.deref_mut-inner.result.now.known
 
-pub invariant_of-other-then-not-holds-3-clause-known
-    : goal.invariant_of-other-then-not-holds-3-clause-known
-invariant_of-other-then-not-holds-3-clause-known g c =
+pub invariant_of-theirs-then-not-holds-3-clause-known
+    : goal.invariant_of-theirs-then-not-holds-3-clause-known
+invariant_of-theirs-then-not-holds-3-clause-known g c =
     let m = c.meet-then-not-holds-3.ensures.met in
     own_saw number_in part_of_seat
     ((word_at (number_in m.one.slots) (slot_of c.args.handle.place), c.meet-then-not-holds-3.result)
-    ∷ []) m.met.step_other.1 c.args.other.now.known
+    ∷ []) m.met.met.step_other.1 c.deref_mut-theirs.result.now.known
 
 pub returns-then-not-holds-clause-other_home : goal.returns-then-not-holds-clause-other_home
 returns-then-not-holds-clause-other_home g c =
-    all_goes number_in records_in _ _
-    (met_keeps c.args.handle.place c.meet-then-not-holds.result c.args.other.now.heap
-    c.meet-then-not-holds.new.self c.args.self.now.seat _ c.meet-then-not-holds.ensures.met
-    c.meet-then-not-holds.ensures.queues).0
+    rw (sym c.deref_mut-theirs.ensures.value) (all_goes number_in records_in _ _
+    (met_keeps c.args.handle.place c.meet-then-not-holds.result c.deref_mut-theirs.result.now.heap
+    c.meet-then-not-holds.new.self c.deref_mut-inner.result.now.seat _ c.meet-then-not-holds.ensures.met
+    c.meet-then-not-holds.ensures.queues).0)
 
 pub returns-then-not-holds-3-clause-home : goal.returns-then-not-holds-3-clause-home
 returns-then-not-holds-3-clause-home g c =
-    all_goes number_in records_in _ _
-    (met_keeps c.args.handle.place c.meet-then-not-holds-3.result c.args.self.now.heap
-    c.meet-then-not-holds-3.new.self c.args.other.now.seat _ c.meet-then-not-holds-3.ensures.met
-    c.meet-then-not-holds-3.ensures.queues).0
+    rw (sym c.deref_mut-inner.ensures.value) (all_goes number_in records_in _ _
+    (met_keeps c.args.handle.place c.meet-then-not-holds-3.result c.deref_mut-inner.result.now.heap
+    c.meet-then-not-holds-3.new.self c.deref_mut-theirs.result.now.seat _ c.meet-then-not-holds-3.ensures.met
+    c.meet-then-not-holds-3.ensures.queues).0)
+
+pub invariant_of-inner-clause-together : goal.invariant_of-inner-clause-together
+invariant_of-inner-clause-together g c =
+    same_together _ c.meet.ensures.same c.deref_mut-inner.result.now.together
+
+pub invariant_of-theirs-clause-together : goal.invariant_of-theirs-clause-together
+invariant_of-theirs-clause-together g c =
+    same_together _ c.meet.ensures.same_other c.deref_mut-theirs.result.now.together
+
+pub invariant_of-inner-then-not-holds-clause-together
+    : goal.invariant_of-inner-then-not-holds-clause-together
+invariant_of-inner-then-not-holds-clause-together g c =
+    same_together _ c.meet-then-not-holds.ensures.met.met.same_other
+    c.deref_mut-inner.result.now.together
+
+pub invariant_of-theirs-then-not-holds-3-clause-together
+    : goal.invariant_of-theirs-then-not-holds-3-clause-together
+invariant_of-theirs-then-not-holds-3-clause-together g c =
+    same_together _ c.meet-then-not-holds-3.ensures.met.met.same_other
+    c.deref_mut-theirs.result.now.together
+
+pub meet-requires-then-not-holds-clause-may_meet
+    : goal.meet-requires-then-not-holds-clause-may_meet
+meet-requires-then-not-holds-clause-may_meet g c = λ one is.
+    let s = c.deref_mut-inner.result.now in
+    let o = c.deref_mut-theirs.result.now in
+    o.together one
+    (found_one number_in records_in o.heap.segments c.args.handle.place.segment one is).0
+    ∙ (named_by c.deref_mut-theirs.ensures.value c.args.other.now.named).seated
+    ∙ sym (named_by c.deref_mut-inner.ensures.value c.args.self.now.named).seated
+
+pub meet-requires-then-not-holds-3-clause-may_meet
+    : goal.meet-requires-then-not-holds-3-clause-may_meet
+meet-requires-then-not-holds-3-clause-may_meet g c = λ one is.
+    let s = c.deref_mut-inner.result.now in
+    let o = c.deref_mut-theirs.result.now in
+    s.together one
+    (found_one number_in records_in s.heap.segments c.args.handle.place.segment one is).0
+    ∙ (named_by c.deref_mut-inner.ensures.value c.args.self.now.named).seated
+    ∙ sym (named_by c.deref_mut-theirs.ensures.value c.args.other.now.named).seated
+
+pub never_twice-requires-clause-table : goal.never_twice-requires-clause-table
+never_twice-requires-clause-table g c =
+    let s = c.deref_mut-inner.result.now in
+    let o = c.deref_mut-theirs.result.now in
+    s.together c.in-Some.one
+    (found_one number_in records_in s.heap.segments c.args.handle.place.segment c.in-Some.one
+    (sym c.in-Some.ensures.released)).0
+    ∙ (named_by c.deref_mut-inner.ensures.value c.args.self.now.named).seated
+    ∙ sym (o.together c.in-Some-release.two
+    (found_one number_in records_in o.heap.segments c.args.handle.place.segment
+    c.in-Some-release.two (sym c.in-Some-release.ensures.released)).0
+    ∙ (named_by c.deref_mut-theirs.ensures.value c.args.other.now.named).seated)

@@ -3,12 +3,13 @@ use Rattle.std.proofs.Common.{sym, ap, ◌∙◌}
 use Rattle.hg_heap.specs.Ties.{shown_at}
 use Rattle.hg_machine.specs.declared.Event.TheVariants as event
 use Rattle.hg_worker.specs.Seats.{number_in, records_in, part_of_seat}
-use Rattle.hg_worker.specs.Workers.{had}
+use Rattle.hg_worker.specs.Workers.{had, had_in}
 use Rattle.hg_worker.proofs.Away.{read_away}
 use Rattle.hg_place.specs.declared.Right.TheVariants as right
 use Rattle.hg_worker.proofs.Judged.{judged_by, rule_away, rule_read}
 use Rattle.hg_worker.proofs.Records.{all_goes}
-use Rattle.hg_worker.proofs.Workers.{stepped_of, stepped_known, held_looks, held_tries, held_call}
+use Rattle.hg_worker.proofs.Workers.{stepped_of, stepped_together, stepped_known, held_by}
+use Rattle.hg_worker.proofs.Workers.{held_looks, held_tries, held_call}
 use Rattle.hg_worker.proofs.Workers.{away_call}
 use Rattle.hg_worker.specs.Judged.{rule_of}
 use Rattle.hg_heap.specs.Held.{Held}
@@ -18,45 +19,45 @@ use Rattle.hg_worker.proofs.worker.Worker.read.Goals as goal
 
 pub returns-then-not-holds-clause-read : goal.returns-then-not-holds-clause-read
 returns-then-not-holds-clause-read g c =
-    let s = c.args.self.now in
-    away_call s c.out_of_reach.new.self c.args.handle.place
+    let s = c.args.self.now.inner.value in
+    away_call s c.out_of_reach.new.self.inner.value c.args.handle.place
     (event.Read c.args.actor c.args.handle c.args.index) c.out_of_reach.result _
-    c.settled.ensures.each c.out_of_reach.ensures.heap c.out_of_reach.ensures.rest
+    c.settled.ensures c.out_of_reach.ensures.heap c.out_of_reach.ensures.rest
     c.out_of_reach.ensures.judged
     (λ shown.
-    read_away number_in records_in (had s) shown s.below c.args.actor c.args.handle c.args.index
+    read_away number_in records_in (had_in s) shown s.below c.args.actor c.args.handle c.args.index
     (sym c.holds.ensures ∙ c.if-not-holds.true))
 
-pub invariant_of-self : goal.invariant_of-self
-invariant_of-self g c =
-    let s = c.args.self.now in
-    let e = c.read.ensures.held (sym c.holds.ensures ∙ c.if-not-holds.false) in
+pub invariant_of-inner : goal.invariant_of-inner
+invariant_of-inner g c =
+    let s = c.deref_mut-inner.result.now in
+    let e = c.read.ensures.held (held_by _ c.deref_mut-inner.ensures.value (sym c.holds.ensures ∙ c.if-not-holds.false)) in
     record {
-      serves = s.serves;
       sound = s.sound;
       below = s.below;
       words = s.words;
       of = stepped_of s c.read.new.self c.args.handle.place e.0 e.0 e.1;
+      together = stepped_together s c.read.new.self c.args.handle.place e.0 e.0 e.1;
       reach = s.reach;
       known = stepped_known s c.read.new.self c.args.handle.place e.0 e.0 e.1;
     }
 
 pub returns-clause-read : goal.returns-clause-read
 returns-clause-read g c =
-    let held = sym c.holds.ensures ∙ c.if-not-holds.false in
+    rw (sym c.deref_mut-inner.ensures.value) (let held = held_by _ c.deref_mut-inner.ensures.value (sym c.holds.ensures ∙ c.if-not-holds.false) in
     let e = c.read.ensures.held held in
-    held_call c.args.self.now c.read.new.self c.args.handle.place c.settled.ensures.each
-    c.settled.ensures.once held e.0 e.1
+    held_call c.deref_mut-inner.result.now c.read.new.self c.args.handle.place c.settled-2.ensures.each
+    c.settled-2.ensures.once held e.0 e.1
     (event.Read c.args.actor c.args.handle c.args.index) c.read_answer.result
-    (rw c.read_answer.ensures e.2)
+    (rw c.read_answer.ensures e.2))
 
 pub returns-then-not-holds-clause-judged : goal.returns-then-not-holds-clause-judged
 returns-then-not-holds-clause-judged g c =
-    let s = c.args.self.now in
+    let s = c.args.self.now.inner.value in
     let e = c.out_of_reach.ensures.judged in (
       e.0,
       e.1,
-      judged_by number_in part_of_seat s.policy c.args.actor.0 right.Read c.args.handle e.0 (had s)
+      judged_by number_in part_of_seat s.policy c.args.actor.0 right.Read c.args.handle e.0 (had_in s)
           (had c.out_of_reach.new.self) (rule_of c.out_of_reach.result) e.1
           (sym (ap rule_of e.2 ∙ rule_away _)),
     )
@@ -73,33 +74,36 @@ returns-then-not-holds-clause-home g c =
 
 pub returns-clause-judged : goal.returns-clause-judged
 returns-clause-judged g c =
-    let held = sym c.holds.ensures ∙ c.if-not-holds.false in
+    rw (sym c.deref_mut-inner.ensures.value) (let held = held_by _ c.deref_mut-inner.ensures.value (sym c.holds.ensures ∙ c.if-not-holds.false) in
     let e = c.read.ensures.judged held in (
       shown_at c.args.handle.place e.0,
-      held_looks c.args.self.now c.read.new.self c.args.handle.place c.settled.ensures.each
-          c.settled.ensures.once held e.0 e.1,
+      held_looks c.deref_mut-inner.result.now c.read.new.self c.args.handle.place c.settled-2.ensures.each
+          c.settled-2.ensures.once held e.0 e.1,
       rw (ap rule_of c.read_answer.ensures ∙ rule_read c.read.result) e.2,
-    )
+    ))
 
 pub returns-clause-home : goal.returns-clause-home
-returns-clause-home g c = all_goes number_in records_in _ _ c.read.ensures.kept
+returns-clause-home g c =
+    rw (sym c.deref_mut-inner.ensures.value) (all_goes number_in records_in _ _ c.read.ensures.kept)
 
 pub returns-then-not-holds-clause-any_hand : goal.returns-then-not-holds-clause-any_hand
-returns-then-not-holds-clause-any_hand g c = λ held.
+returns-then-not-holds-clause-any_hand g c =
+    λ held.
     absurd (true≢false (sym held ∙ (sym c.holds.ensures ∙ c.if-not-holds.true)))
 
 pub returns-clause-any_hand : goal.returns-clause-any_hand
-returns-clause-any_hand g c = λ held.
+returns-clause-any_hand g c =
+    rw (sym c.deref_mut-inner.ensures.value) (λ held.
     let e = c.read.ensures.held held in (
       e.0,
-      held_looks c.args.self.now c.read.new.self c.args.handle.place c.settled.ensures.each
-          c.settled.ensures.once held e.0 e.1,
+      held_looks c.deref_mut-inner.result.now c.read.new.self c.args.handle.place c.settled-2.ensures.each
+          c.settled-2.ensures.once held e.0 e.1,
       rw c.read_answer.ensures e.2,
-    )
+    ))
 
 pub returns-clause-once : goal.returns-clause-once
 returns-clause-once g c =
-    let held = sym c.holds.ensures ∙ c.if-not-holds.false in
+    rw (sym c.deref_mut-inner.ensures.value) (let held = held_by _ c.deref_mut-inner.ensures.value (sym c.holds.ensures ∙ c.if-not-holds.false) in
     let e = c.read.ensures.held held in
-    held_tries c.args.self.now c.read.new.self c.args.handle.place c.settled.ensures.each
-    c.settled.ensures.once held e.0 e.1
+    held_tries c.deref_mut-inner.result.now c.read.new.self c.args.handle.place c.settled-2.ensures.each
+    c.settled-2.ensures.once held e.0 e.1)

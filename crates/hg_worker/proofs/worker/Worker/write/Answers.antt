@@ -2,12 +2,13 @@ use Rattle.std.proofs.Common.{sym, ap, ◌∙◌}
 use Rattle.hg_heap.specs.Ties.{shown_at}
 use Rattle.hg_machine.specs.declared.Event.TheVariants as event
 use Rattle.hg_worker.specs.Seats.{number_in, records_in, part_of_seat}
-use Rattle.hg_worker.specs.Workers.{had}
+use Rattle.hg_worker.specs.Workers.{had, had_in}
 use Rattle.hg_worker.proofs.Away.{write_away}
 use Rattle.hg_place.specs.declared.Right.TheVariants as right
 use Rattle.hg_worker.proofs.Judged.{judged_by, rule_away, rule_done, not_away, not_refused}
 use Rattle.hg_worker.proofs.Records.{all_goes, wrote_goes}
-use Rattle.hg_worker.proofs.Workers.{stepped_of, stepped_known, held_looks, held_tries, held_call}
+use Rattle.hg_worker.proofs.Workers.{stepped_of, stepped_together, stepped_known, held_by}
+use Rattle.hg_worker.proofs.Workers.{held_looks, held_tries, held_call}
 use Rattle.hg_worker.proofs.Workers.{away_call}
 use Rattle.hg_worker.specs.Judged.{rule_of}
 use Rattle.hg_worker.specs.Answers.{is_done}
@@ -36,55 +37,57 @@ either (Err why) p q f h = h q
 
 pub returns-then-not-holds-clause-write : goal.returns-then-not-holds-clause-write
 returns-then-not-holds-clause-write g c =
-    let s = c.args.self.now in
-    away_call s c.out_of_reach.new.self c.args.handle.place
+    let s = c.args.self.now.inner.value in
+    away_call s c.out_of_reach.new.self.inner.value c.args.handle.place
     (event.Write c.args.actor c.args.handle c.args.index c.args.value) c.out_of_reach.result _
-    c.settled.ensures.each c.out_of_reach.ensures.heap c.out_of_reach.ensures.rest
+    c.settled.ensures c.out_of_reach.ensures.heap c.out_of_reach.ensures.rest
     c.out_of_reach.ensures.judged
     (λ shown.
-    write_away number_in records_in (had s) shown s.below c.args.actor c.args.handle c.args.index c.args.value
+    write_away number_in records_in (had_in s) shown s.below c.args.actor c.args.handle c.args.index c.args.value
     (sym c.holds.ensures ∙ c.if-not-holds.true))
 
-pub invariant_of-self : goal.invariant_of-self
-invariant_of-self g c =
-    let s = c.args.self.now in
-    let e = c.write.ensures.held (sym c.holds.ensures ∙ c.if-not-holds.false) in
+pub invariant_of-inner : goal.invariant_of-inner
+invariant_of-inner g c =
+    let s = c.deref_mut-inner.result.now in
+    let e = c.write.ensures.held (held_by _ c.deref_mut-inner.ensures.value (sym c.holds.ensures ∙ c.if-not-holds.false)) in
     record {
-      serves = s.serves;
       sound = s.sound;
       below = s.below;
       words = s.words;
       of = stepped_of s c.write.new.self c.args.handle.place e.0 e.0 e.1;
+      together = stepped_together s c.write.new.self c.args.handle.place e.0 e.0 e.1;
       reach = s.reach;
       known = stepped_known s c.write.new.self c.args.handle.place e.0 e.0 e.1;
     }
 
 pub returns-clause-write : goal.returns-clause-write
 returns-clause-write g c =
-    let held = sym c.holds.ensures ∙ c.if-not-holds.false in
+    rw (sym c.deref_mut-inner.ensures.value) (let held = held_by _ c.deref_mut-inner.ensures.value (sym c.holds.ensures ∙ c.if-not-holds.false) in
     let e = c.write.ensures.held held in
-    held_call c.args.self.now c.write.new.self c.args.handle.place c.settled.ensures.each
-    c.settled.ensures.once held e.0 e.1
+    held_call c.deref_mut-inner.result.now c.write.new.self c.args.handle.place c.settled-2.ensures.each
+    c.settled-2.ensures.once held e.0 e.1
     (event.Write c.args.actor c.args.handle c.args.index c.args.value) c.done_answer.result
-    (rw c.done_answer.ensures e.2)
+    (rw c.done_answer.ensures e.2))
 
 pub returns-then-not-holds-clause-judged : goal.returns-then-not-holds-clause-judged
 returns-then-not-holds-clause-judged g c =
-    let s = c.args.self.now in
+    let s = c.args.self.now.inner.value in
     let e = c.out_of_reach.ensures.judged in (
       e.0,
       e.1,
-      judged_by number_in part_of_seat s.policy c.args.actor.0 right.Write c.args.handle e.0 (had s)
+      judged_by number_in part_of_seat s.policy c.args.actor.0 right.Write c.args.handle e.0 (had_in s)
           (had c.out_of_reach.new.self) (rule_of c.out_of_reach.result) e.1
           (sym (ap rule_of e.2 ∙ rule_away _)),
     )
 
 pub returns-then-not-holds-clause-kept : goal.returns-then-not-holds-clause-kept
-returns-then-not-holds-clause-kept g c = λ _.
+returns-then-not-holds-clause-kept g c =
+    λ _.
     ap (λ (h : Held _). map (rest_of number_in records_in) h.segments) c.out_of_reach.ensures.heap
 
 pub returns-then-not-holds-clause-wrote : goal.returns-then-not-holds-clause-wrote
-returns-then-not-holds-clause-wrote g c = λ is.
+returns-then-not-holds-clause-wrote g c =
+    λ is.
     absurd (true≢false (sym is ∙ ap is_done c.out_of_reach.ensures.judged.2 ∙ not_away _))
 
 pub returns-then-not-holds-clause-home : goal.returns-then-not-holds-clause-home
@@ -95,45 +98,49 @@ returns-then-not-holds-clause-home g c =
 
 pub returns-clause-judged : goal.returns-clause-judged
 returns-clause-judged g c =
-    let held = sym c.holds.ensures ∙ c.if-not-holds.false in
+    rw (sym c.deref_mut-inner.ensures.value) (let held = held_by _ c.deref_mut-inner.ensures.value (sym c.holds.ensures ∙ c.if-not-holds.false) in
     let e = c.write.ensures.judged held in (
       shown_at c.args.handle.place e.0,
-      held_looks c.args.self.now c.write.new.self c.args.handle.place c.settled.ensures.each
-          c.settled.ensures.once held e.0 e.1,
+      held_looks c.deref_mut-inner.result.now c.write.new.self c.args.handle.place c.settled-2.ensures.each
+          c.settled-2.ensures.once held e.0 e.1,
       rw (ap rule_of c.done_answer.ensures ∙ rule_done c.write.result) e.2,
-    )
+    ))
 
 pub returns-clause-kept : goal.returns-clause-kept
-returns-clause-kept g c = λ is.
+returns-clause-kept g c =
+    rw (sym c.deref_mut-inner.ensures.value) (λ is.
     where_refused c.write.result c.write.ensures.kept
-    (subst (λ a. IsFalse (is_done a)) c.done_answer.ensures is)
+    (subst (λ a. IsFalse (is_done a)) c.done_answer.ensures is))
 
 pub returns-clause-wrote : goal.returns-clause-wrote
-returns-clause-wrote g c = λ is.
+returns-clause-wrote g c =
+    rw (sym c.deref_mut-inner.ensures.value) (λ is.
     where_done c.write.result c.write.ensures.wrote
-    (subst (λ a. IsTrue (is_done a)) c.done_answer.ensures is)
+    (subst (λ a. IsTrue (is_done a)) c.done_answer.ensures is))
 
 pub returns-clause-home : goal.returns-clause-home
 returns-clause-home g c =
-    either c.write.result c.write.ensures.wrote c.write.ensures.kept
-    (wrote_goes number_in records_in) (all_goes number_in records_in _ _)
+    rw (sym c.deref_mut-inner.ensures.value) (either c.write.result c.write.ensures.wrote c.write.ensures.kept
+    (wrote_goes number_in records_in) (all_goes number_in records_in _ _))
 
 pub returns-then-not-holds-clause-any_hand : goal.returns-then-not-holds-clause-any_hand
-returns-then-not-holds-clause-any_hand g c = λ held.
+returns-then-not-holds-clause-any_hand g c =
+    λ held.
     absurd (true≢false (sym held ∙ (sym c.holds.ensures ∙ c.if-not-holds.true)))
 
 pub returns-clause-any_hand : goal.returns-clause-any_hand
-returns-clause-any_hand g c = λ held.
+returns-clause-any_hand g c =
+    rw (sym c.deref_mut-inner.ensures.value) (λ held.
     let e = c.write.ensures.held held in (
       e.0,
-      held_looks c.args.self.now c.write.new.self c.args.handle.place c.settled.ensures.each
-          c.settled.ensures.once held e.0 e.1,
+      held_looks c.deref_mut-inner.result.now c.write.new.self c.args.handle.place c.settled-2.ensures.each
+          c.settled-2.ensures.once held e.0 e.1,
       rw c.done_answer.ensures e.2,
-    )
+    ))
 
 pub returns-clause-once : goal.returns-clause-once
 returns-clause-once g c =
-    let held = sym c.holds.ensures ∙ c.if-not-holds.false in
+    rw (sym c.deref_mut-inner.ensures.value) (let held = held_by _ c.deref_mut-inner.ensures.value (sym c.holds.ensures ∙ c.if-not-holds.false) in
     let e = c.write.ensures.held held in
-    held_tries c.args.self.now c.write.new.self c.args.handle.place c.settled.ensures.each
-    c.settled.ensures.once held e.0 e.1
+    held_tries c.deref_mut-inner.result.now c.write.new.self c.args.handle.place c.settled-2.ensures.each
+    c.settled-2.ensures.once held e.0 e.1)

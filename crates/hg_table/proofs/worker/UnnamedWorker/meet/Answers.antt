@@ -1,0 +1,35 @@
+use Rattle.std.proofs.Common.{rules, arith, ◌+◌, ◌≡◌, ◌∷◌, [], ap}
+use Rattle.hg_table.specs.Steps.{second_part}
+use Rattle.hg_table.proofs.Allowed.{meetings}
+use Rattle.hg_table.proofs.Cuts.{cuts, joins_as}
+use Rattle.hg_table.proofs.Told.{out_of}
+use Rattle.hg_table.proofs.Meeting.{after_is, both_met_of}
+use Rattle.hg_table.proofs.worker.UnnamedWorker.meet.Goals as goal
+
+pub join_seat-requires : goal.join_seat-requires
+join_seat-requires c =
+    let is : c.args.self.now.badge.views ≡ c.into_seat-seat.result.me.0 ∷ [] = search rules in
+    let other_is : c.args.other.now.badge.views ≡ c.into_seat-theirs.result.me.0 ∷ [] = search rules in
+    let wide : c.deref.result.now.shared.table_id.words ≡ c.deref.result.now.shared.key + 1 = search rules in
+    (search rules, search rules, search rules, omega arith, joins_as _ _ _ _ _ (out_of _ _ c.args.self.now.one is).0 (out_of _ _ c.args.other.now.one other_is).0)
+
+pub load-found-requires : goal.load-found-requires
+load-found-requires c = (search rules, search rules, meetings _ _ _ _ _ (search rules))
+
+pub split_seat-back-requires : goal.split_seat-back-requires
+split_seat-back-requires c =
+    let is : c.args.self.now.badge.views ≡ c.into_seat-seat.result.me.0 ∷ [] = search rules in
+    let other_is : c.args.other.now.badge.views ≡ c.into_seat-theirs.result.me.0 ∷ [] = search rules in
+    let joined = ap (λ m. m.0) c.join_seat.ensures.2 in
+    let e = c.load-found.ensures.2 in
+    let wide : c.deref.result.now.shared.table_id.words ≡ c.deref.result.now.shared.key + 1 = search rules in
+    (search rules, omega arith, cuts _ _ second_part _ (_, _, after_is _ _ _ _ _ _ (out_of _ _ c.args.self.now.one is).0 (out_of _ _ c.args.other.now.one other_is).0 joined e.0.1 e.1))
+
+pub returns-clause-met : goal.returns-clause-met
+returns-clause-met c =
+    let is : c.args.self.now.badge.views ≡ c.into_seat-seat.result.me.0 ∷ [] = search rules in
+    let other_is : c.args.other.now.badge.views ≡ c.into_seat-theirs.result.me.0 ∷ [] = search rules in
+    let joined = ap (λ m. m.0) c.join_seat.ensures.2 in
+    let e = c.load-found.ensures.2 in
+    let cut = c.split_seat-back.ensures in
+    search (rules, both_met_of _ _ c.args.self.now.badge.views c.args.other.now.badge.views _ _ _ _ _ _ c.into_badge-2.result.views c.into_badge.result.views (out_of _ _ c.args.self.now.one is) (out_of _ _ c.args.other.now.one other_is) joined e.0.1 e.1 e.0.0 (ap (λ m. m.0) cut.2) (ap (λ m. m.0) cut.4) c.into_badge-2.ensures.2 c.into_badge.ensures.2)
