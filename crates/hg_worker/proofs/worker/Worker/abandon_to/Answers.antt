@@ -63,7 +63,8 @@ invariant_of-pool g c =
     let there = (found_one number_in records_in s.heap.segments c.args.segment one
     (sym c.in-Some.ensures.released)).0 in
     let here : IsOf number_in g.N.ServiceName.policy one =
-    subst (λ (q : Policy). IsOf number_in q one) (named_by c.deref_mut-inner.ensures.value c.args.self.now.named).serves
+    subst (λ (q : Policy). IsOf number_in q one) (named_by c.deref_mut-inner.ensures.value
+    c.args.self.now.named).serves
     (s.of.arena one there, s.of.greatest one there) in
     let of : AreOf number_in g.N.ServiceName.policy
     ((p.pool.orphans ++ one ∷ []) ++ p.pool.fresh) =
@@ -71,7 +72,8 @@ invariant_of-pool g c =
     let named : AreOnTable g.N.TableName.table ((p.pool.orphans ++ one ∷ []) ++ p.pool.fresh) =
     λ k there'.
     more_on_table (p.pool.orphans ++ p.pool.fresh) one p.named
-    (s.together one there ∙ (named_by c.deref_mut-inner.ensures.value c.args.self.now.named).seated) k
+    (s.together one there ∙ (named_by c.deref_mut-inner.ensures.value
+    c.args.self.now.named).seated) k
     (with_there p.pool.orphans p.pool.fresh one k there') in
     record {
       each = rw (
@@ -88,9 +90,12 @@ invariant_of-pool g c =
 
 pub returns-clause-lives : goal.returns-clause-lives
 returns-clause-lives g c =
-    rw (sym c.deref_mut-inner.ensures.value) (lives_go number_in records_in part_of_seat (had_in c.deref_mut-inner.result.now) _ c.args.segment refl
+    rw (sym c.deref_mut-inner.ensures.value)
+    (lives_go number_in records_in part_of_seat (had_in c.deref_mut-inner.result.now) _
+    c.args.segment refl
     c.release.ensures.gone c.release.ensures.others)
 
 pub returns-clause-home : goal.returns-clause-home
 returns-clause-home g c =
-    rw (sym c.deref_mut-inner.ensures.value) (left_goes number_in records_in _ _ _ c.release.ensures.gone c.release.ensures.others)
+    rw (sym c.deref_mut-inner.ensures.value)
+    (left_goes number_in records_in _ _ _ c.release.ensures.gone c.release.ensures.others)

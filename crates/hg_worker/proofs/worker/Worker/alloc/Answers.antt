@@ -62,7 +62,8 @@ invariant_of-inner g c =
 
 pub returns-in-Ok-clause-alloc : goal.returns-in-Ok-clause-alloc
 returns-in-Ok-clause-alloc g c =
-    rw (sym c.deref_mut-inner.ensures.value) (let s = c.deref_mut-inner.result.now in
+    rw (sym c.deref_mut-inner.ensures.value)
+    (let s = c.deref_mut-inner.result.now in
     let old = had_in s in
     let handle = c.in-Ok.handle in
     let place = handle.place in
@@ -90,7 +91,8 @@ returns-in-Ok-clause-alloc g c =
 
 pub returns-in-Err-clause-alloc : goal.returns-in-Err-clause-alloc
 returns-in-Err-clause-alloc g c =
-    rw (sym c.deref_mut-inner.ensures.value) (let s = c.deref_mut-inner.result.now in
+    rw (sym c.deref_mut-inner.ensures.value)
+    (let s = c.deref_mut-inner.result.now in
     let old = had_in s in
     let e = c.in-Err.ensures.refused in
     let new = record old { heap = c.alloc.new.self } in
@@ -108,23 +110,28 @@ refusal why answer is = ap block_in is ∙ no_block why
 
 pub returns-in-Err-clause-given : goal.returns-in-Err-clause-given
 returns-in-Err-clause-given g c =
-    rw (sym c.deref_mut-inner.ensures.value) (if_no_block _ _ (refusal c.in-Err.refused c.refused_answer.result c.refused_answer.ensures))
+    rw (sym c.deref_mut-inner.ensures.value)
+    (if_no_block _ _ (refusal c.in-Err.refused c.refused_answer.result c.refused_answer.ensures))
 
 pub returns-in-Err-clause-chosen : goal.returns-in-Err-clause-chosen
 returns-in-Err-clause-chosen g c =
-    rw (sym c.deref_mut-inner.ensures.value) (if_no_block _ _ (refusal c.in-Err.refused c.refused_answer.result c.refused_answer.ensures))
+    rw (sym c.deref_mut-inner.ensures.value)
+    (if_no_block _ _ (refusal c.in-Err.refused c.refused_answer.result c.refused_answer.ensures))
 
 pub returns-in-Ok-clause-given : goal.returns-in-Ok-clause-given
 returns-in-Ok-clause-given g c =
-    rw (sym c.deref_mut-inner.ensures.value) (c.in-Ok.ensures.given.0)
+    rw (sym c.deref_mut-inner.ensures.value)
+    (c.in-Ok.ensures.given.0)
 
 pub returns-in-Err-clause-lists : goal.returns-in-Err-clause-lists
 returns-in-Err-clause-lists g c =
-    rw (sym c.deref_mut-inner.ensures.value) (if_no_block _ _ (refusal c.in-Err.refused c.refused_answer.result c.refused_answer.ensures))
+    rw (sym c.deref_mut-inner.ensures.value)
+    (if_no_block _ _ (refusal c.in-Err.refused c.refused_answer.result c.refused_answer.ensures))
 
 pub returns-in-Err-clause-queues : goal.returns-in-Err-clause-queues
 returns-in-Err-clause-queues g c =
-    rw (sym c.deref_mut-inner.ensures.value) (if_no_block _ _ (refusal c.in-Err.refused c.refused_answer.result c.refused_answer.ensures))
+    rw (sym c.deref_mut-inner.ensures.value)
+    (if_no_block _ _ (refusal c.in-Err.refused c.refused_answer.result c.refused_answer.ensures))
 
 only_no_room : (why : Refused) → refused_answer why ≡ answer.NoRoom → why ≡ refused.NoRoom
 only_no_room (refused.Denied rule) e = absurd (cc)
@@ -139,18 +146,21 @@ where_none (Some x) P p = tt
 
 pub returns-in-Err-clause-no_room : goal.returns-in-Err-clause-no_room
 returns-in-Err-clause-no_room g c =
-    rw (sym c.deref_mut-inner.ensures.value) (λ is.
+    rw (sym c.deref_mut-inner.ensures.value)
+    (λ is.
     c.alloc.ensures.no_room
     (c.in-Err.is
     ∙ ap Err (only_no_room c.in-Err.refused (sym c.refused_answer.ensures ∙ is))))
 
 pub returns-in-Err-clause-unchanged : goal.returns-in-Err-clause-unchanged
 returns-in-Err-clause-unchanged g c =
-    rw (sym c.deref_mut-inner.ensures.value) (where_none (block_in c.refused_answer.result) _ c.in-Err.ensures.refused.0)
+    rw (sym c.deref_mut-inner.ensures.value)
+    (where_none (block_in c.refused_answer.result) _ c.in-Err.ensures.refused.0)
 
 pub returns-in-Err-clause-any : goal.returns-in-Err-clause-any
 returns-in-Err-clause-any g c =
-    rw (sym c.deref_mut-inner.ensures.value) (let s = c.deref_mut-inner.result.now in
+    rw (sym c.deref_mut-inner.ensures.value)
+    (let s = c.deref_mut-inner.result.now in
     let old = had_in s in
     let e = c.in-Err.ensures.refused in
     let new = record old { heap = c.alloc.new.self } in
@@ -163,22 +173,26 @@ returns-in-Err-clause-any g c =
 
 pub returns-in-Err-clause-home : goal.returns-in-Err-clause-home
 returns-in-Err-clause-home g c =
-    rw (sym c.deref_mut-inner.ensures.value) (same_goes number_in records_in _ _
+    rw (sym c.deref_mut-inner.ensures.value)
+    (same_goes number_in records_in _ _
     (λ place.
     ap (λ (h : Held _). record_in number_in records_in h.segments place)
     c.in-Err.ensures.refused.0))
 
 pub returns-in-Ok-clause-no_room : goal.returns-in-Ok-clause-no_room
 returns-in-Ok-clause-no_room g c =
-    rw (sym c.deref_mut-inner.ensures.value) (λ is. absurd (cc))
+    rw (sym c.deref_mut-inner.ensures.value)
+    (λ is. absurd (cc))
 
 pub returns-in-Ok-clause-home : goal.returns-in-Ok-clause-home
 returns-in-Ok-clause-home g c =
-    rw (sym c.deref_mut-inner.ensures.value) (given_goes number_in records_in part_of_seat c.settled.ensures.once
+    rw (sym c.deref_mut-inner.ensures.value)
+    (given_goes number_in records_in part_of_seat c.settled.ensures.once
     (allotted_as c.in-Ok.ensures.given.0))
 
 pub returns-in-Err-clause-any_hand : goal.returns-in-Err-clause-any_hand
 returns-in-Err-clause-any_hand g c =
-    rw (sym c.deref_mut-inner.ensures.value) (where_none (block_in c.refused_answer.result) _
+    rw (sym c.deref_mut-inner.ensures.value)
+    (where_none (block_in c.refused_answer.result) _
     (λ shown. rw (c.refused_answer.ensures, c.in-Err.ensures.refused.0)
     (c.in-Err.ensures.refused.1 shown)))

@@ -31,7 +31,8 @@ invariant_of-inner g c =
 
 pub returns-clause-collect : goal.returns-clause-collect
 returns-clause-collect g c =
-    rw (sym c.deref_mut-inner.ensures.value) (let s = c.deref_mut-inner.result.now in
+    rw (sym c.deref_mut-inner.ensures.value)
+    (let s = c.deref_mut-inner.result.now in
     let old = had_in s in
     machines_unseen old (record old { heap = c.collect.new.self }) event.Collect
     (answer.Pages c.collect.result) None (whole_of s c.settled.ensures.each)
@@ -40,7 +41,8 @@ returns-clause-collect g c =
 
 pub returns-clause-seats : goal.returns-clause-seats
 returns-clause-seats g c =
-    rw (sym c.deref_mut-inner.ensures.value) (record {
+    rw (sym c.deref_mut-inner.ensures.value)
+    (record {
       own = refl;
       segments = slots_in number_in part_of_seat c.deref_mut-inner.result.now.heap.segments
           c.collect.new.self.segments c.collect.ensures.collected.rest;
@@ -48,7 +50,8 @@ returns-clause-seats g c =
 
 pub returns-clause-any : goal.returns-clause-any
 returns-clause-any g c =
-    rw (sym c.deref_mut-inner.ensures.value) (λ shown may.
+    rw (sym c.deref_mut-inner.ensures.value)
+    (λ shown may.
     let s = c.deref_mut-inner.result.now in
     let old = had_in s in
     machines_any old (record old { heap = c.collect.new.self }) shown event.Collect
@@ -58,9 +61,12 @@ returns-clause-any g c =
 
 pub returns-clause-home : goal.returns-clause-home
 returns-clause-home g c =
-    rw (sym c.deref_mut-inner.ensures.value) (bare_goes number_in records_in _ _ c.collect.ensures.collected.rest)
+    rw (sym c.deref_mut-inner.ensures.value)
+    (bare_goes number_in records_in _ _ c.collect.ensures.collected.rest)
 
 pub returns-clause-any_hand : goal.returns-clause-any_hand
 returns-clause-any_hand g c =
-    rw (sym c.deref_mut-inner.ensures.value) (λ shown.
-    c.collect.ensures.ties c.deref_mut-inner.result.now.policy shown c.deref_mut-inner.result.now.of)
+    rw (sym c.deref_mut-inner.ensures.value)
+    (λ shown.
+    c.collect.ensures.ties c.deref_mut-inner.result.now.policy shown
+    c.deref_mut-inner.result.now.of)

@@ -28,7 +28,8 @@ use Rattle.hg_worker.proofs.Workers.{held_by, whole_of}
 
 pub returns-then-is_none-clause-refused : goal.returns-then-is_none-clause-refused
 returns-then-is_none-clause-refused g c =
-    rw (sym c.deref_mut-inner.ensures.value) (λ _.
+    rw (sym c.deref_mut-inner.ensures.value)
+    (λ _.
     let s = c.deref_mut-inner.result.now in
     let old = had_in s in
     let e = c.denied_answer.ensures in
@@ -51,7 +52,8 @@ look-word-requires g c =
 
 pub returns-in-Denied-clause-refused : goal.returns-in-Denied-clause-refused
 returns-in-Denied-clause-refused g c =
-    rw (sym c.deref_mut-inner.ensures.value) (λ _.
+    rw (sym c.deref_mut-inner.ensures.value)
+    (λ _.
     let s = c.deref_mut-inner.result.now in
     let old = had_in s in
     let place = c.args.handle.place in
@@ -65,7 +67,8 @@ returns-in-Denied-clause-refused g c =
     let looked : Looked number_in part_of_seat place (shown_at place word) old new = (
       some,
       refl,
-      own_looks number_in part_of_seat place word old new (held_by _ c.deref_mut-inner.ensures.value c.requires) refl
+      own_looks number_in part_of_seat place word old new (held_by _
+          c.deref_mut-inner.ensures.value c.requires) refl
           c.look-word.ensures.shown c.look-word.ensures.step,
     ) in (
       shown_at place word,
@@ -77,7 +80,8 @@ returns-in-Denied-clause-refused g c =
 
 pub returns-then-is_some-clause-refused : goal.returns-then-is_some-clause-refused
 returns-then-is_some-clause-refused g c =
-    rw (sym c.deref_mut-inner.ensures.value) (λ _.
+    rw (sym c.deref_mut-inner.ensures.value)
+    (λ _.
     let s = c.deref_mut-inner.result.now in
     let old = had_in s in
     let place = c.args.handle.place in
@@ -85,13 +89,15 @@ returns-then-is_some-clause-refused g c =
     let some : is_some (arena_of s.policy place.segment) ≡ true =
     ap is_some (sym c.arena_of.ensures) ∙ (c.is_none.ensures ∙ ap not c.if-is_none.false) in
     let ties = free_busy number_in records_in old (shown_at place word) s.below c.args.actor
-    c.args.handle refl (held_by _ c.deref_mut-inner.ensures.value c.requires) (allowed_by _ c.in_default.ensures)
+    c.args.handle refl (held_by _ c.deref_mut-inner.ensures.value c.requires) (allowed_by _
+    c.in_default.ensures)
     (hand_full s.hand (sym c.if-is_some.ensures)) in
     let new = record old { own = part_on c.look-word.new.self.badge } in
     let looked : Looked number_in part_of_seat place (shown_at place word) old new = (
       some,
       refl,
-      own_looks number_in part_of_seat place word old new (held_by _ c.deref_mut-inner.ensures.value c.requires) refl
+      own_looks number_in part_of_seat place word old new (held_by _
+          c.deref_mut-inner.ensures.value c.requires) refl
           c.look-word.ensures.shown c.look-word.ensures.step,
     ) in (
       shown_at place word,
@@ -150,7 +156,8 @@ denied_answer-requires-in-Err g c = λ e.
 
 pub returns-in-Err-clause-refused : goal.returns-in-Err-clause-refused
 returns-in-Err-clause-refused g c =
-    rw (sym c.deref_mut-inner.ensures.value) (λ _.
+    rw (sym c.deref_mut-inner.ensures.value)
+    (λ _.
     let s = c.deref_mut-inner.result.now in
     let old = had_in s in
     let place = c.args.handle.place in
@@ -165,7 +172,8 @@ returns-in-Err-clause-refused g c =
       some,
       refl,
       own_decides_twice number_in part_of_seat place word found found [] old new
-          (part_on c.look-word.new.self.badge) (held_by _ c.deref_mut-inner.ensures.value c.requires) refl s.seat.plain
+          (part_on c.look-word.new.self.badge) (held_by _ c.deref_mut-inner.ensures.value
+          c.requires) refl s.seat.plain
           c.look-word.ensures.step err.1 err.2 (itself found) (looked_ends (word_of place) found),
     ) in
     let ties = free_denied number_in records_in old (shown_at place found) s.below c.args.actor
@@ -185,7 +193,8 @@ invariant_of-inner-in-Err-1 g c =
       below = s.below;
       words = same_words (c.part.ensures.same ∙ c.look-word.ensures.same) s.words;
       of = s.of;
-      together = same_together s.heap.segments (c.part.ensures.same ∙ c.look-word.ensures.same) s.together;
+      together = same_together s.heap.segments (c.part.ensures.same ∙
+          c.look-word.ensures.same) s.together;
       reach = s.reach;
       known = own_saw number_in part_of_seat
           {own = part_on c.look-word.new.self.badge}
@@ -202,7 +211,8 @@ invariant_of-inner-2 g c =
       below = s.below;
       words = same_words (c.part.ensures.same ∙ c.look-word.ensures.same) s.words;
       of = s.of;
-      together = same_together s.heap.segments (c.part.ensures.same ∙ c.look-word.ensures.same) s.together;
+      together = same_together s.heap.segments (c.part.ensures.same ∙
+          c.look-word.ensures.same) s.together;
       reach = within_reach s.policy c.args.handle
           (ap is_some (sym c.arena_of.ensures) ∙ (c.is_none.ensures ∙ ap not c.if-is_none.false));
       known =
@@ -218,7 +228,8 @@ invariant_of-inner-2 g c =
 
 pub returns-clause-freed : goal.returns-clause-freed
 returns-clause-freed g c =
-    rw (sym c.deref_mut-inner.ensures.value) (λ _.
+    rw (sym c.deref_mut-inner.ensures.value)
+    (λ _.
     let s = c.deref_mut-inner.result.now in
     let old = had_in s in
     let place = c.args.handle.place in
@@ -240,7 +251,8 @@ returns-clause-freed g c =
     ((word_of place, word_generation word) ∷ []) old new =
     own_decides_twice number_in part_of_seat place word word (word - 1)
     ((word_of place, word_generation word) ∷ []) old new
-    (part_on c.look-word.new.self.badge) (held_by _ c.deref_mut-inner.ensures.value c.requires) refl s.seat.plain
+    (part_on c.look-word.new.self.badge) (held_by _ c.deref_mut-inner.ensures.value c.requires)
+    refl s.seat.plain
     c.look-word.ensures.step ok.0 ok.1 (freed_word_after word live).0
     (λ es. is_ended (word_of place) word es live) in
     let ties = free_parted number_in records_in old word c.args.actor c.args.handle s.below
@@ -254,7 +266,8 @@ returns-clause-freed g c =
 
 pub returns-then-is_none-clause-judged : goal.returns-then-is_none-clause-judged
 returns-then-is_none-clause-judged g c =
-    rw (sym c.deref_mut-inner.ensures.value) (λ _.
+    rw (sym c.deref_mut-inner.ensures.value)
+    (λ _.
     let s = c.deref_mut-inner.result.now in
     let old = had_in s in
     let e = c.denied_answer.ensures in
@@ -271,7 +284,8 @@ returns-then-is_none-clause-judged g c =
 
 pub returns-in-Denied-clause-judged : goal.returns-in-Denied-clause-judged
 returns-in-Denied-clause-judged g c =
-    rw (sym c.deref_mut-inner.ensures.value) (λ _.
+    rw (sym c.deref_mut-inner.ensures.value)
+    (λ _.
     let s = c.deref_mut-inner.result.now in
     let old = had_in s in
     let place = c.args.handle.place in
@@ -282,7 +296,8 @@ returns-in-Denied-clause-judged g c =
     let looked : Looked number_in part_of_seat place (shown_at place word) old new = (
       some,
       refl,
-      own_looks number_in part_of_seat place word old new (held_by _ c.deref_mut-inner.ensures.value c.requires) refl
+      own_looks number_in part_of_seat place word old new (held_by _
+          c.deref_mut-inner.ensures.value c.requires) refl
           c.look-word.ensures.shown c.look-word.ensures.step,
     ) in (
       shown_at place word,
@@ -294,7 +309,8 @@ returns-in-Denied-clause-judged g c =
 
 pub returns-then-is_some-clause-judged : goal.returns-then-is_some-clause-judged
 returns-then-is_some-clause-judged g c =
-    rw (sym c.deref_mut-inner.ensures.value) (λ _.
+    rw (sym c.deref_mut-inner.ensures.value)
+    (λ _.
     let s = c.deref_mut-inner.result.now in
     let old = had_in s in
     let place = c.args.handle.place in
@@ -305,7 +321,8 @@ returns-then-is_some-clause-judged g c =
     let looked : Looked number_in part_of_seat place (shown_at place word) old new = (
       some,
       refl,
-      own_looks number_in part_of_seat place word old new (held_by _ c.deref_mut-inner.ensures.value c.requires) refl
+      own_looks number_in part_of_seat place word old new (held_by _
+          c.deref_mut-inner.ensures.value c.requires) refl
           c.look-word.ensures.shown c.look-word.ensures.step,
     ) in (
       shown_at place word,
@@ -316,7 +333,8 @@ returns-then-is_some-clause-judged g c =
 
 pub returns-in-Err-clause-judged : goal.returns-in-Err-clause-judged
 returns-in-Err-clause-judged g c =
-    rw (sym c.deref_mut-inner.ensures.value) (λ _.
+    rw (sym c.deref_mut-inner.ensures.value)
+    (λ _.
     let s = c.deref_mut-inner.result.now in
     let old = had_in s in
     let place = c.args.handle.place in
@@ -331,7 +349,8 @@ returns-in-Err-clause-judged g c =
       some,
       refl,
       own_decides_twice number_in part_of_seat place word found found [] old new
-          (part_on c.look-word.new.self.badge) (held_by _ c.deref_mut-inner.ensures.value c.requires) refl s.seat.plain
+          (part_on c.look-word.new.self.badge) (held_by _ c.deref_mut-inner.ensures.value
+          c.requires) refl s.seat.plain
           c.look-word.ensures.step err.1 err.2 (itself found) (looked_ends (word_of place) found),
     ) in (
       shown_at place found,
@@ -343,7 +362,8 @@ returns-in-Err-clause-judged g c =
 
 pub returns-clause-served : goal.returns-clause-served
 returns-clause-served g c =
-    rw (sym c.deref_mut-inner.ensures.value) (λ _.
+    rw (sym c.deref_mut-inner.ensures.value)
+    (λ _.
     let s = c.deref_mut-inner.result.now in
     let old = had_in s in
     let place = c.args.handle.place in
@@ -360,7 +380,8 @@ returns-clause-served g c =
     ((word_of place, word_generation word) ∷ []) old new =
     own_decides_twice number_in part_of_seat place word word (word - 1)
     ((word_of place, word_generation word) ∷ []) old new
-    (part_on c.look-word.new.self.badge) (held_by _ c.deref_mut-inner.ensures.value c.requires) refl s.seat.plain
+    (part_on c.look-word.new.self.badge) (held_by _ c.deref_mut-inner.ensures.value c.requires)
+    refl s.seat.plain
     c.look-word.ensures.step ok.0 ok.1 (freed_word_after word live.0).0
     (λ es. is_ended (word_of place) word es live.0) in (
       word,
@@ -370,25 +391,31 @@ returns-clause-served g c =
 
 pub returns-then-is_none-clause-few : goal.returns-then-is_none-clause-few
 returns-then-is_none-clause-few g c =
-    rw (sym c.deref_mut-inner.ensures.value) (no_step number_in part_of_seat 2 c.args.handle.place (had_in c.deref_mut-inner.result.now))
+    rw (sym c.deref_mut-inner.ensures.value)
+    (no_step number_in part_of_seat 2 c.args.handle.place (had_in c.deref_mut-inner.result.now))
 
 pub returns-in-Denied-clause-few : goal.returns-in-Denied-clause-few
 returns-in-Denied-clause-few g c =
-    rw (sym c.deref_mut-inner.ensures.value) (own_steps number_in part_of_seat 2 c.args.handle.place (c.look-word.result ∷ [])
+    rw (sym c.deref_mut-inner.ensures.value)
+    (own_steps number_in part_of_seat 2 c.args.handle.place (c.look-word.result ∷ [])
     (had_in c.deref_mut-inner.result.now)
     (record (had_in c.deref_mut-inner.result.now) { own = part_on c.look-word.new.self.badge })
-    (held_by _ c.deref_mut-inner.ensures.value c.requires) refl (omega arith) c.look-word.ensures.step.1)
+    (held_by _ c.deref_mut-inner.ensures.value c.requires) refl (omega arith)
+    c.look-word.ensures.step.1)
 
 pub returns-then-is_some-clause-few : goal.returns-then-is_some-clause-few
 returns-then-is_some-clause-few g c =
-    rw (sym c.deref_mut-inner.ensures.value) (own_steps number_in part_of_seat 2 c.args.handle.place (c.look-word.result ∷ [])
+    rw (sym c.deref_mut-inner.ensures.value)
+    (own_steps number_in part_of_seat 2 c.args.handle.place (c.look-word.result ∷ [])
     (had_in c.deref_mut-inner.result.now)
     (record (had_in c.deref_mut-inner.result.now) { own = part_on c.look-word.new.self.badge })
-    (held_by _ c.deref_mut-inner.ensures.value c.requires) refl (omega arith) c.look-word.ensures.step.1)
+    (held_by _ c.deref_mut-inner.ensures.value c.requires) refl (omega arith)
+    c.look-word.ensures.step.1)
 
 pub returns-in-Err-clause-few : goal.returns-in-Err-clause-few
 returns-in-Err-clause-few g c =
-    rw (sym c.deref_mut-inner.ensures.value) (own_steps_twice number_in part_of_seat c.args.handle.place c.look-word.result c.in-Err.found
+    rw (sym c.deref_mut-inner.ensures.value)
+    (own_steps_twice number_in part_of_seat c.args.handle.place c.look-word.result c.in-Err.found
     (had_in c.deref_mut-inner.result.now)
     (record (had_in c.deref_mut-inner.result.now) { own = part_on c.part.new.self.badge })
     (part_on c.look-word.new.self.badge) (held_by _ c.deref_mut-inner.ensures.value c.requires) refl
@@ -396,10 +423,12 @@ returns-in-Err-clause-few g c =
 
 pub returns-clause-few : goal.returns-clause-few
 returns-clause-few g c =
-    rw (sym c.deref_mut-inner.ensures.value) (own_steps_twice number_in part_of_seat c.args.handle.place c.look-word.result
+    rw (sym c.deref_mut-inner.ensures.value)
+    (own_steps_twice number_in part_of_seat c.args.handle.place c.look-word.result
     (c.look-word.result - 1) (had_in c.deref_mut-inner.result.now)
     (record (had_in c.deref_mut-inner.result.now) {
       own = part_on c.part.new.self.badge;
       hand = Some c.args.handle;
     })
-    (part_on c.look-word.new.self.badge) (held_by _ c.deref_mut-inner.ensures.value c.requires) refl c.look-word.ensures.step.1 c.in_default-part.ensures.ok.1.1)
+    (part_on c.look-word.new.self.badge) (held_by _ c.deref_mut-inner.ensures.value c.requires)
+    refl c.look-word.ensures.step.1 c.in_default-part.ensures.ok.1.1)

@@ -43,7 +43,8 @@ invariant_of-inner g c =
       words = s.words;
       of = of;
       together = either_end c.free_here.result _ _ c.free_here.ensures.freed
-          (c.free_here.ensures.denied (held_by _ c.deref_mut-inner.ensures.value c.requires)) (λ e. stepped_on_table e.2 s.together)
+          (c.free_here.ensures.denied (held_by _ c.deref_mut-inner.ensures.value
+          c.requires)) (λ e. stepped_on_table e.2 s.together)
           (λ _ e. stepped_on_table e.3 s.together);
       reach = s.reach;
       known = either_end c.free_here.result _ _ c.free_here.ensures.freed
@@ -56,7 +57,8 @@ invariant_of-inner g c =
 
 pub returns-in-Err-clause-refused : goal.returns-in-Err-clause-refused
 returns-in-Err-clause-refused g c =
-    rw (sym c.deref_mut-inner.ensures.value) (λ _.
+    rw (sym c.deref_mut-inner.ensures.value)
+    (λ _.
     let s = c.deref_mut-inner.result.now in
     let old = had_in s in
     let place = c.args.handle.place in
@@ -64,22 +66,26 @@ returns-in-Err-clause-refused g c =
     let e = c.in-Err.ensures.denied (held_by _ c.deref_mut-inner.ensures.value c.requires) in
     let ties = e.4 s.number (hand_place s.hand) (hand_generation s.hand) s.below in (
       shown_at place e.0,
-      looked_held old _ place e.0 whole c.settled.ensures.once (held_by _ c.deref_mut-inner.ensures.value c.requires) e.3 refl,
-      machines_held old _ place e.0 whole c.settled.ensures.once (held_by _ c.deref_mut-inner.ensures.value c.requires) e.3 refl
+      looked_held old _ place e.0 whole c.settled.ensures.once (held_by _
+          c.deref_mut-inner.ensures.value c.requires) e.3 refl,
+      machines_held old _ place e.0 whole c.settled.ensures.once (held_by _
+          c.deref_mut-inner.ensures.value c.requires) e.3 refl
           (event.Free c.args.actor c.args.handle) c.refused_answer.result
           (rw (c.refused_answer.ensures, e.2) ties),
     ))
 
 pub returns-clause-freed : goal.returns-clause-freed
 returns-clause-freed g c =
-    rw (sym c.deref_mut-inner.ensures.value) (λ _.
+    rw (sym c.deref_mut-inner.ensures.value)
+    (λ _.
     let s = c.deref_mut-inner.result.now in
     let old = had_in s in
     let place = c.args.handle.place in
     let whole = whole_of s c.settled.ensures.each in
     let e = c.in_default.ensures.freed in
     let ties = e.3 s.number (hand_place s.hand) (hand_generation s.hand) s.below in
-    let arena = arena_held old place.segment s.of (held_by _ c.deref_mut-inner.ensures.value c.requires) in
+    let arena = arena_held old place.segment s.of (held_by _ c.deref_mut-inner.ensures.value
+    c.requires) in
     let new = record old { heap = c.free_here.new.self } in
     let decided : Decided number_in part_of_seat place e.0 (e.0 - 1)
     ((word_of place, word_generation e.0) ∷ []) old new =
@@ -94,7 +100,8 @@ returns-clause-freed g c =
 
 pub returns-in-Err-clause-judged : goal.returns-in-Err-clause-judged
 returns-in-Err-clause-judged g c =
-    rw (sym c.deref_mut-inner.ensures.value) (λ _.
+    rw (sym c.deref_mut-inner.ensures.value)
+    (λ _.
     let s = c.deref_mut-inner.result.now in
     let e = c.in-Err.ensures.judged (held_by _ c.deref_mut-inner.ensures.value c.requires) in (
       shown_at c.args.handle.place e.0,
@@ -105,36 +112,42 @@ returns-in-Err-clause-judged g c =
 
 pub returns-in-Err-clause-records : goal.returns-in-Err-clause-records
 returns-in-Err-clause-records g c =
-    rw (sym c.deref_mut-inner.ensures.value) (λ is.
+    rw (sym c.deref_mut-inner.ensures.value)
+    (λ is.
     absurd
     (true≢false
     (sym is ∙ ap is_done c.refused_answer.ensures ∙ not_refused c.in-Err.refused)))
 
 pub returns-in-Err-clause-lists : goal.returns-in-Err-clause-lists
 returns-in-Err-clause-lists g c =
-    rw (sym c.deref_mut-inner.ensures.value) (λ is.
+    rw (sym c.deref_mut-inner.ensures.value)
+    (λ is.
     absurd
     (true≢false
     (sym is ∙ ap is_done c.refused_answer.ensures ∙ not_refused c.in-Err.refused)))
 
 pub returns-in-Err-clause-queues : goal.returns-in-Err-clause-queues
 returns-in-Err-clause-queues g c =
-    rw (sym c.deref_mut-inner.ensures.value) (λ is.
+    rw (sym c.deref_mut-inner.ensures.value)
+    (λ is.
     absurd
     (true≢false
     (sym is ∙ ap is_done c.refused_answer.ensures ∙ not_refused c.in-Err.refused)))
 
 pub returns-in-Err-clause-kept : goal.returns-in-Err-clause-kept
 returns-in-Err-clause-kept g c =
-    rw (sym c.deref_mut-inner.ensures.value) (λ _. (c.in-Err.ensures.kept, c.in-Err.ensures.same_queues))
+    rw (sym c.deref_mut-inner.ensures.value)
+    (λ _. (c.in-Err.ensures.kept, c.in-Err.ensures.same_queues))
 
 pub returns-in-Err-clause-home : goal.returns-in-Err-clause-home
 returns-in-Err-clause-home g c =
-    rw (sym c.deref_mut-inner.ensures.value) (none_goes number_in records_in _ _ _ (all_goes number_in records_in _ _ c.in-Err.ensures.kept))
+    rw (sym c.deref_mut-inner.ensures.value)
+    (none_goes number_in records_in _ _ _ (all_goes number_in records_in _ _ c.in-Err.ensures.kept))
 
 pub returns-clause-served : goal.returns-clause-served
 returns-clause-served g c =
-    rw (sym c.deref_mut-inner.ensures.value) (λ _.
+    rw (sym c.deref_mut-inner.ensures.value)
+    (λ _.
     let s = c.deref_mut-inner.result.now in
     let old = had_in s in
     let place = c.args.handle.place in
@@ -150,7 +163,8 @@ returns-clause-served g c =
 
 pub returns-clause-records : goal.returns-clause-records
 returns-clause-records g c =
-    rw (sym c.deref_mut-inner.ensures.value) (λ _.
+    rw (sym c.deref_mut-inner.ensures.value)
+    (λ _.
     let s = c.deref_mut-inner.result.now in
     let e = c.in_default.ensures.served in
     let f = c.in_default.ensures.freed in
@@ -160,7 +174,8 @@ returns-clause-records g c =
 
 pub returns-clause-home : goal.returns-clause-home
 returns-clause-home g c =
-    rw (sym c.deref_mut-inner.ensures.value) (let s = c.deref_mut-inner.result.now in
+    rw (sym c.deref_mut-inner.ensures.value)
+    (let s = c.deref_mut-inner.result.now in
     let e = c.in_default.ensures.served in
     let f = c.in_default.ensures.freed in
     alone_goes number_in records_in refl
@@ -170,7 +185,8 @@ returns-clause-home g c =
 
 pub returns-clause-any_hand : goal.returns-clause-any_hand
 returns-clause-any_hand g c =
-    rw (sym c.deref_mut-inner.ensures.value) (λ _.
+    rw (sym c.deref_mut-inner.ensures.value)
+    (λ _.
     let old = had_in c.deref_mut-inner.result.now in
     let place = c.args.handle.place in
     let e = c.in_default.ensures.freed in
@@ -184,21 +200,26 @@ returns-clause-any_hand g c =
 
 pub returns-in-Err-clause-any_hand : goal.returns-in-Err-clause-any_hand
 returns-in-Err-clause-any_hand g c =
-    rw (sym c.deref_mut-inner.ensures.value) (λ is.
+    rw (sym c.deref_mut-inner.ensures.value)
+    (λ is.
     absurd
     (true≢false
     (sym is ∙ ap is_done c.refused_answer.ensures ∙ not_refused c.in-Err.refused)))
 
 pub returns-in-Err-clause-once : goal.returns-in-Err-clause-once
 returns-in-Err-clause-once g c =
-    rw (sym c.deref_mut-inner.ensures.value) (let e = c.in-Err.ensures.denied (held_by _ c.deref_mut-inner.ensures.value c.requires) in
-    held_once number_in part_of_seat c.args.handle.place e.0 e.0 (had_in c.deref_mut-inner.result.now)
+    rw (sym c.deref_mut-inner.ensures.value)
+    (let e = c.in-Err.ensures.denied (held_by _ c.deref_mut-inner.ensures.value c.requires) in
+    held_once number_in part_of_seat c.args.handle.place e.0 e.0 (had_in
+    c.deref_mut-inner.result.now)
     (record (had_in c.deref_mut-inner.result.now) { heap = c.free_here.new.self })
     c.settled.ensures.once (stepped_as e.3))
 
 pub returns-clause-once : goal.returns-clause-once
 returns-clause-once g c =
-    rw (sym c.deref_mut-inner.ensures.value) (let e = c.in_default.ensures.freed in
-    held_once number_in part_of_seat c.args.handle.place e.0 (e.0 - 1) (had_in c.deref_mut-inner.result.now)
+    rw (sym c.deref_mut-inner.ensures.value)
+    (let e = c.in_default.ensures.freed in
+    held_once number_in part_of_seat c.args.handle.place e.0 (e.0 - 1) (had_in
+    c.deref_mut-inner.result.now)
     (record (had_in c.deref_mut-inner.result.now) { heap = c.free_here.new.self })
     c.settled.ensures.once (stepped_as e.2))

@@ -43,7 +43,8 @@ no_row (Some rule) = refl
 pub returns-then-not-holds-clause-look : goal.returns-then-not-holds-clause-look
 returns-then-not-holds-clause-look g c =
     let s = c.args.self.now.inner.value in
-    away_call s c.out_of_sight.new.self.inner.value c.args.place (event.Look c.args.actor c.args.place)
+    away_call s c.out_of_sight.new.self.inner.value c.args.place (event.Look c.args.actor
+    c.args.place)
     c.out_of_sight.result _ c.settled.ensures c.out_of_sight.ensures.heap
     c.out_of_sight.ensures.rest c.out_of_sight.ensures.judged
     (λ shown.
@@ -57,25 +58,32 @@ invariant_of-inner g c =
       sound = s.sound;
       below = s.below;
       words = s.words;
-      of = stepped_of s c.look.new.self c.args.place c.look.new.shown c.look.new.shown c.look.ensures.step;
-      together = stepped_together s c.look.new.self c.args.place c.look.new.shown c.look.new.shown c.look.ensures.step;
+      of = stepped_of s c.look.new.self c.args.place c.look.new.shown c.look.new.shown
+          c.look.ensures.step;
+      together = stepped_together s c.look.new.self c.args.place c.look.new.shown c.look.new.shown
+          c.look.ensures.step;
       reach = s.reach;
-      known = stepped_known s c.look.new.self c.args.place c.look.new.shown c.look.new.shown c.look.ensures.step;
+      known = stepped_known s c.look.new.self c.args.place c.look.new.shown c.look.new.shown
+          c.look.ensures.step;
     }
 
 pub returns-in-Some-clause-look : goal.returns-in-Some-clause-look
 returns-in-Some-clause-look g c =
-    rw (sym c.deref_mut-inner.ensures.value) (held_call c.deref_mut-inner.result.now c.look.new.self c.args.place c.settled-2.ensures.each
-    c.settled-2.ensures.once (held_by _ c.deref_mut-inner.ensures.value (sym c.holds.ensures ∙ c.if-not-holds.false)) c.look.new.shown
+    rw (sym c.deref_mut-inner.ensures.value)
+    (held_call c.deref_mut-inner.result.now c.look.new.self c.args.place c.settled-2.ensures.each
+    c.settled-2.ensures.once (held_by _ c.deref_mut-inner.ensures.value (sym c.holds.ensures ∙
+    c.if-not-holds.false)) c.look.new.shown
     c.look.ensures.step (event.Look c.args.actor c.args.place) (answer.Listed c.in-Some.row)
     c.in-Some.ensures.ties)
 
 pub returns-in-None-clause-look : goal.returns-in-None-clause-look
 returns-in-None-clause-look g c =
-    rw (sym c.deref_mut-inner.ensures.value) (let s = c.deref_mut-inner.result.now in
+    rw (sym c.deref_mut-inner.ensures.value)
+    (let s = c.deref_mut-inner.result.now in
     let shown = shown_at c.args.place c.look.new.shown in
     held_call s c.look.new.self c.args.place c.settled-2.ensures.each c.settled-2.ensures.once
-    (held_by _ c.deref_mut-inner.ensures.value (sym c.holds.ensures ∙ c.if-not-holds.false)) c.look.new.shown c.look.ensures.step
+    (held_by _ c.deref_mut-inner.ensures.value (sym c.holds.ensures ∙ c.if-not-holds.false))
+    c.look.new.shown c.look.ensures.step
     (event.Look c.args.actor c.args.place) c.unlisted_answer.result
     (subst (λ (a : Answer). HeapTies number_in records_in s.policy shown shown
     (event.Look c.args.actor c.args.place) a s.heap.segments c.look.new.self.segments)
@@ -106,21 +114,27 @@ returns-then-not-holds-clause-home g c =
 
 pub returns-in-Some-clause-judged : goal.returns-in-Some-clause-judged
 returns-in-Some-clause-judged g c =
-    rw (sym c.deref_mut-inner.ensures.value) (let s = c.deref_mut-inner.result.now in
-    let held = held_by _ c.deref_mut-inner.ensures.value (sym c.holds.ensures ∙ c.if-not-holds.false) in (
+    rw (sym c.deref_mut-inner.ensures.value)
+    (let s = c.deref_mut-inner.result.now in
+    let held = held_by _ c.deref_mut-inner.ensures.value (sym c.holds.ensures ∙
+    c.if-not-holds.false) in (
       shown_at c.args.place c.look.new.shown,
-      held_looks s c.look.new.self c.args.place c.settled-2.ensures.each c.settled-2.ensures.once held
+      held_looks s c.look.new.self c.args.place c.settled-2.ensures.each
+          c.settled-2.ensures.once held
           c.look.new.shown c.look.ensures.step,
       c.in-Some.ensures.allowed,
     ))
 
 pub returns-in-Some-clause-row : goal.returns-in-Some-clause-row
 returns-in-Some-clause-row g c =
-    rw (sym c.deref_mut-inner.ensures.value) (λ row is.
+    rw (sym c.deref_mut-inner.ensures.value)
+    (λ row is.
     let s = c.deref_mut-inner.result.now in
-    let held = held_by _ c.deref_mut-inner.ensures.value (sym c.holds.ensures ∙ c.if-not-holds.false) in (
+    let held = held_by _ c.deref_mut-inner.ensures.value (sym c.holds.ensures ∙
+    c.if-not-holds.false) in (
       c.look.new.shown,
-      held_looks s c.look.new.self c.args.place c.settled-2.ensures.each c.settled-2.ensures.once held
+      held_looks s c.look.new.self c.args.place c.settled-2.ensures.each
+          c.settled-2.ensures.once held
           c.look.new.shown c.look.ensures.step,
       c.in-Some.ensures.live,
       subst (IsRowOf c.args.place c.look.new.shown
@@ -130,26 +144,32 @@ returns-in-Some-clause-row g c =
 
 pub returns-in-Some-clause-home : goal.returns-in-Some-clause-home
 returns-in-Some-clause-home g c =
-    rw (sym c.deref_mut-inner.ensures.value) (all_goes number_in records_in _ _ c.look.ensures.kept)
+    rw (sym c.deref_mut-inner.ensures.value)
+    (all_goes number_in records_in _ _ c.look.ensures.kept)
 
 pub returns-in-None-clause-judged : goal.returns-in-None-clause-judged
 returns-in-None-clause-judged g c =
-    rw (sym c.deref_mut-inner.ensures.value) (let s = c.deref_mut-inner.result.now in
-    let held = held_by _ c.deref_mut-inner.ensures.value (sym c.holds.ensures ∙ c.if-not-holds.false) in (
+    rw (sym c.deref_mut-inner.ensures.value)
+    (let s = c.deref_mut-inner.result.now in
+    let held = held_by _ c.deref_mut-inner.ensures.value (sym c.holds.ensures ∙
+    c.if-not-holds.false) in (
       shown_at c.args.place c.look.new.shown,
-      held_looks s c.look.new.self c.args.place c.settled-2.ensures.each c.settled-2.ensures.once held
+      held_looks s c.look.new.self c.args.place c.settled-2.ensures.each
+          c.settled-2.ensures.once held
           c.look.new.shown c.look.ensures.step,
       sym (ap rule_of c.unlisted_answer.ensures ∙ rule_away _),
     ))
 
 pub returns-in-None-clause-row : goal.returns-in-None-clause-row
 returns-in-None-clause-row g c =
-    rw (sym c.deref_mut-inner.ensures.value) (λ row is.
+    rw (sym c.deref_mut-inner.ensures.value)
+    (λ row is.
     absurd (no_row_away _ row (sym c.unlisted_answer.ensures ∙ is)))
 
 pub returns-in-None-clause-home : goal.returns-in-None-clause-home
 returns-in-None-clause-home g c =
-    rw (sym c.deref_mut-inner.ensures.value) (all_goes number_in records_in _ _ c.look.ensures.kept)
+    rw (sym c.deref_mut-inner.ensures.value)
+    (all_goes number_in records_in _ _ c.look.ensures.kept)
 
 pub returns-then-not-holds-clause-any_hand : goal.returns-then-not-holds-clause-any_hand
 returns-then-not-holds-clause-any_hand g c =
@@ -158,7 +178,8 @@ returns-then-not-holds-clause-any_hand g c =
 
 pub returns-in-Some-clause-any_hand : goal.returns-in-Some-clause-any_hand
 returns-in-Some-clause-any_hand g c =
-    rw (sym c.deref_mut-inner.ensures.value) (λ held. (
+    rw (sym c.deref_mut-inner.ensures.value)
+    (λ held. (
       c.look.new.shown,
       held_looks c.deref_mut-inner.result.now c.look.new.self c.args.place c.settled-2.ensures.each
           c.settled-2.ensures.once held c.look.new.shown c.look.ensures.step,
@@ -167,11 +188,13 @@ returns-in-Some-clause-any_hand g c =
 
 pub returns-in-None-clause-any_hand : goal.returns-in-None-clause-any_hand
 returns-in-None-clause-any_hand g c =
-    rw (sym c.deref_mut-inner.ensures.value) (λ held.
+    rw (sym c.deref_mut-inner.ensures.value)
+    (λ held.
     let s = c.deref_mut-inner.result.now in
     let shown = shown_at c.args.place c.look.new.shown in (
       c.look.new.shown,
-      held_looks s c.look.new.self c.args.place c.settled-2.ensures.each c.settled-2.ensures.once held
+      held_looks s c.look.new.self c.args.place c.settled-2.ensures.each
+          c.settled-2.ensures.once held
           c.look.new.shown c.look.ensures.step,
       subst (λ (a : Answer). HeapTies number_in records_in s.policy shown shown
           (event.Look c.args.actor c.args.place) a s.heap.segments c.look.new.self.segments)
@@ -181,12 +204,16 @@ returns-in-None-clause-any_hand g c =
 
 pub returns-in-Some-clause-once : goal.returns-in-Some-clause-once
 returns-in-Some-clause-once g c =
-    rw (sym c.deref_mut-inner.ensures.value) (held_tries c.deref_mut-inner.result.now c.look.new.self c.args.place c.settled-2.ensures.each
-    c.settled-2.ensures.once (held_by _ c.deref_mut-inner.ensures.value (sym c.holds.ensures ∙ c.if-not-holds.false)) c.look.new.shown
+    rw (sym c.deref_mut-inner.ensures.value)
+    (held_tries c.deref_mut-inner.result.now c.look.new.self c.args.place c.settled-2.ensures.each
+    c.settled-2.ensures.once (held_by _ c.deref_mut-inner.ensures.value (sym c.holds.ensures ∙
+    c.if-not-holds.false)) c.look.new.shown
     c.look.ensures.step)
 
 pub returns-in-None-clause-once : goal.returns-in-None-clause-once
 returns-in-None-clause-once g c =
-    rw (sym c.deref_mut-inner.ensures.value) (held_tries c.deref_mut-inner.result.now c.look.new.self c.args.place c.settled-2.ensures.each
-    c.settled-2.ensures.once (held_by _ c.deref_mut-inner.ensures.value (sym c.holds.ensures ∙ c.if-not-holds.false)) c.look.new.shown
+    rw (sym c.deref_mut-inner.ensures.value)
+    (held_tries c.deref_mut-inner.result.now c.look.new.self c.args.place c.settled-2.ensures.each
+    c.settled-2.ensures.once (held_by _ c.deref_mut-inner.ensures.value (sym c.holds.ensures ∙
+    c.if-not-holds.false)) c.look.new.shown
     c.look.ensures.step)

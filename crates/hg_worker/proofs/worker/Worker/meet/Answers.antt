@@ -19,7 +19,8 @@ use Rattle.hg_worker.proofs.worker.Worker.meet.Goals as goal
 
 pub returns-then-not-holds-2-clause-met : goal.returns-then-not-holds-2-clause-met
 returns-then-not-holds-2-clause-met g c =
-    rw (sym c.deref_mut-inner.ensures.value, sym c.deref_mut-theirs.ensures.value) (let s = c.deref_mut-inner.result.now in
+    rw (sym c.deref_mut-inner.ensures.value, sym c.deref_mut-theirs.ensures.value)
+    (let s = c.deref_mut-inner.result.now in
     let o = c.deref_mut-theirs.result.now in
     let place = c.args.handle.place in
     let there : is_some (arena_of s.policy place.segment) ≡ true =
@@ -60,7 +61,8 @@ invariant_of-theirs-then-not-holds g c =
 
 pub returns-then-not-holds-clause-met : goal.returns-then-not-holds-clause-met
 returns-then-not-holds-clause-met g c =
-    rw (sym c.deref_mut-inner.ensures.value, sym c.deref_mut-theirs.ensures.value) (let s = c.deref_mut-inner.result.now in
+    rw (sym c.deref_mut-inner.ensures.value, sym c.deref_mut-theirs.ensures.value)
+    (let s = c.deref_mut-inner.result.now in
     let o = c.deref_mut-theirs.result.now in
     let place = c.args.handle.place in
     let word = c.meet-then-not-holds.result in
@@ -103,7 +105,8 @@ invariant_of-inner-then-not-holds-3 g c =
 
 pub returns-then-not-holds-3-clause-met : goal.returns-then-not-holds-3-clause-met
 returns-then-not-holds-3-clause-met g c =
-    rw (sym c.deref_mut-inner.ensures.value, sym c.deref_mut-theirs.ensures.value) (let s = c.deref_mut-inner.result.now in
+    rw (sym c.deref_mut-inner.ensures.value, sym c.deref_mut-theirs.ensures.value)
+    (let s = c.deref_mut-inner.result.now in
     let o = c.deref_mut-theirs.result.now in
     let place = c.args.handle.place in
     let word = c.meet-then-not-holds-3.result in
@@ -120,14 +123,18 @@ returns-then-not-holds-3-clause-met g c =
 
 pub returns-then-not-holds-clause-other_heap : goal.returns-then-not-holds-clause-other_heap
 returns-then-not-holds-clause-other_heap g c =
-    rw (sym c.deref_mut-theirs.ensures.value) (met_keeps c.args.handle.place c.meet-then-not-holds.result c.deref_mut-theirs.result.now.heap
-    c.meet-then-not-holds.new.self c.deref_mut-inner.result.now.seat _ c.meet-then-not-holds.ensures.met
+    rw (sym c.deref_mut-theirs.ensures.value)
+    (met_keeps c.args.handle.place c.meet-then-not-holds.result c.deref_mut-theirs.result.now.heap
+    c.meet-then-not-holds.new.self c.deref_mut-inner.result.now.seat _
+    c.meet-then-not-holds.ensures.met
     c.meet-then-not-holds.ensures.queues)
 
 pub returns-then-not-holds-3-clause-heap : goal.returns-then-not-holds-3-clause-heap
 returns-then-not-holds-3-clause-heap g c =
-    rw (sym c.deref_mut-inner.ensures.value) (met_keeps c.args.handle.place c.meet-then-not-holds-3.result c.deref_mut-inner.result.now.heap
-    c.meet-then-not-holds-3.new.self c.deref_mut-theirs.result.now.seat _ c.meet-then-not-holds-3.ensures.met
+    rw (sym c.deref_mut-inner.ensures.value)
+    (met_keeps c.args.handle.place c.meet-then-not-holds-3.result c.deref_mut-inner.result.now.heap
+    c.meet-then-not-holds-3.new.self c.deref_mut-theirs.result.now.seat _
+    c.meet-then-not-holds-3.ensures.met
     c.meet-then-not-holds-3.ensures.queues)
 
 pub invariant_of-inner-clause-known : goal.invariant_of-inner-clause-known
@@ -158,16 +165,20 @@ invariant_of-theirs-then-not-holds-3-clause-known g c =
 
 pub returns-then-not-holds-clause-other_home : goal.returns-then-not-holds-clause-other_home
 returns-then-not-holds-clause-other_home g c =
-    rw (sym c.deref_mut-theirs.ensures.value) (all_goes number_in records_in _ _
+    rw (sym c.deref_mut-theirs.ensures.value)
+    (all_goes number_in records_in _ _
     (met_keeps c.args.handle.place c.meet-then-not-holds.result c.deref_mut-theirs.result.now.heap
-    c.meet-then-not-holds.new.self c.deref_mut-inner.result.now.seat _ c.meet-then-not-holds.ensures.met
+    c.meet-then-not-holds.new.self c.deref_mut-inner.result.now.seat _
+    c.meet-then-not-holds.ensures.met
     c.meet-then-not-holds.ensures.queues).0)
 
 pub returns-then-not-holds-3-clause-home : goal.returns-then-not-holds-3-clause-home
 returns-then-not-holds-3-clause-home g c =
-    rw (sym c.deref_mut-inner.ensures.value) (all_goes number_in records_in _ _
+    rw (sym c.deref_mut-inner.ensures.value)
+    (all_goes number_in records_in _ _
     (met_keeps c.args.handle.place c.meet-then-not-holds-3.result c.deref_mut-inner.result.now.heap
-    c.meet-then-not-holds-3.new.self c.deref_mut-theirs.result.now.seat _ c.meet-then-not-holds-3.ensures.met
+    c.meet-then-not-holds-3.new.self c.deref_mut-theirs.result.now.seat _
+    c.meet-then-not-holds-3.ensures.met
     c.meet-then-not-holds-3.ensures.queues).0)
 
 pub invariant_of-inner-clause-together : goal.invariant_of-inner-clause-together

@@ -13,7 +13,8 @@ use Rattle.hg_worker.proofs.worker.Worker.out_of_sight.Goals as goal
 
 pub returns-clause-judged : goal.returns-clause-judged
 returns-clause-judged g c =
-    rw (sym c.deref_mut-inner.ensures.value) (let place = c.args.place in
+    rw (sym c.deref_mut-inner.ensures.value)
+    (let place = c.args.place in
     let word = c.look-word.result in
     let some : is_some (arena_of c.deref_mut-inner.result.now.policy place.segment) ≡ true =
     ap is_some (sym c.arena_of.ensures)
@@ -22,7 +23,8 @@ returns-clause-judged g c =
       (
         some,
         refl,
-        own_looks number_in part_of_seat place word (had_in c.deref_mut-inner.result.now) _ (held_by _ c.deref_mut-inner.ensures.value c.requires) refl
+        own_looks number_in part_of_seat place word (had_in c.deref_mut-inner.result.now) _
+            (held_by _ c.deref_mut-inner.ensures.value c.requires) refl
             c.look-word.ensures.shown c.look-word.ensures.step,
       ),
       c.unlisted_answer-2.ensures,
@@ -35,13 +37,17 @@ invariant_of-inner-clause-known g c =
 
 pub returns-then-is_none-clause-once : goal.returns-then-is_none-clause-once
 returns-then-is_none-clause-once g c =
-    rw (sym c.deref_mut-inner.ensures.value) (no_step number_in part_of_seat 1 c.args.place (had_in c.deref_mut-inner.result.now))
+    rw (sym c.deref_mut-inner.ensures.value)
+    (no_step number_in part_of_seat 1 c.args.place (had_in c.deref_mut-inner.result.now))
 
 pub returns-clause-once : goal.returns-clause-once
 returns-clause-once g c =
-    rw (sym c.deref_mut-inner.ensures.value) (own_steps number_in part_of_seat 1 c.args.place (c.look-word.result ∷ [])
-    (had_in c.deref_mut-inner.result.now) (record (had_in c.deref_mut-inner.result.now) { own = part_on c.look-word.new.self.badge })
-    (held_by _ c.deref_mut-inner.ensures.value c.requires) refl (omega arith) c.look-word.ensures.step.1)
+    rw (sym c.deref_mut-inner.ensures.value)
+    (own_steps number_in part_of_seat 1 c.args.place (c.look-word.result ∷ [])
+    (had_in c.deref_mut-inner.result.now) (record (had_in
+    c.deref_mut-inner.result.now) { own = part_on c.look-word.new.self.badge })
+    (held_by _ c.deref_mut-inner.ensures.value c.requires) refl (omega arith)
+    c.look-word.ensures.step.1)
 
 pub invariant_of-inner-clause-together : goal.invariant_of-inner-clause-together
 invariant_of-inner-clause-together g c =

@@ -31,7 +31,8 @@ returns-then-not-holds-clause-read g c =
 pub invariant_of-inner : goal.invariant_of-inner
 invariant_of-inner g c =
     let s = c.deref_mut-inner.result.now in
-    let e = c.read.ensures.held (held_by _ c.deref_mut-inner.ensures.value (sym c.holds.ensures ∙ c.if-not-holds.false)) in
+    let e = c.read.ensures.held (held_by _ c.deref_mut-inner.ensures.value (sym c.holds.ensures ∙
+    c.if-not-holds.false)) in
     record {
       sound = s.sound;
       below = s.below;
@@ -44,9 +45,12 @@ invariant_of-inner g c =
 
 pub returns-clause-read : goal.returns-clause-read
 returns-clause-read g c =
-    rw (sym c.deref_mut-inner.ensures.value) (let held = held_by _ c.deref_mut-inner.ensures.value (sym c.holds.ensures ∙ c.if-not-holds.false) in
+    rw (sym c.deref_mut-inner.ensures.value)
+    (let held = held_by _ c.deref_mut-inner.ensures.value (sym c.holds.ensures ∙
+    c.if-not-holds.false) in
     let e = c.read.ensures.held held in
-    held_call c.deref_mut-inner.result.now c.read.new.self c.args.handle.place c.settled-2.ensures.each
+    held_call c.deref_mut-inner.result.now c.read.new.self c.args.handle.place
+    c.settled-2.ensures.each
     c.settled-2.ensures.once held e.0 e.1
     (event.Read c.args.actor c.args.handle c.args.index) c.read_answer.result
     (rw c.read_answer.ensures e.2))
@@ -57,7 +61,8 @@ returns-then-not-holds-clause-judged g c =
     let e = c.out_of_reach.ensures.judged in (
       e.0,
       e.1,
-      judged_by number_in part_of_seat s.policy c.args.actor.0 right.Read c.args.handle e.0 (had_in s)
+      judged_by number_in part_of_seat s.policy c.args.actor.0 right.Read c.args.handle e.0
+          (had_in s)
           (had c.out_of_reach.new.self) (rule_of c.out_of_reach.result) e.1
           (sym (ap rule_of e.2 ∙ rule_away _)),
     )
@@ -74,17 +79,21 @@ returns-then-not-holds-clause-home g c =
 
 pub returns-clause-judged : goal.returns-clause-judged
 returns-clause-judged g c =
-    rw (sym c.deref_mut-inner.ensures.value) (let held = held_by _ c.deref_mut-inner.ensures.value (sym c.holds.ensures ∙ c.if-not-holds.false) in
+    rw (sym c.deref_mut-inner.ensures.value)
+    (let held = held_by _ c.deref_mut-inner.ensures.value (sym c.holds.ensures ∙
+    c.if-not-holds.false) in
     let e = c.read.ensures.judged held in (
       shown_at c.args.handle.place e.0,
-      held_looks c.deref_mut-inner.result.now c.read.new.self c.args.handle.place c.settled-2.ensures.each
+      held_looks c.deref_mut-inner.result.now c.read.new.self c.args.handle.place
+          c.settled-2.ensures.each
           c.settled-2.ensures.once held e.0 e.1,
       rw (ap rule_of c.read_answer.ensures ∙ rule_read c.read.result) e.2,
     ))
 
 pub returns-clause-home : goal.returns-clause-home
 returns-clause-home g c =
-    rw (sym c.deref_mut-inner.ensures.value) (all_goes number_in records_in _ _ c.read.ensures.kept)
+    rw (sym c.deref_mut-inner.ensures.value)
+    (all_goes number_in records_in _ _ c.read.ensures.kept)
 
 pub returns-then-not-holds-clause-any_hand : goal.returns-then-not-holds-clause-any_hand
 returns-then-not-holds-clause-any_hand g c =
@@ -93,17 +102,22 @@ returns-then-not-holds-clause-any_hand g c =
 
 pub returns-clause-any_hand : goal.returns-clause-any_hand
 returns-clause-any_hand g c =
-    rw (sym c.deref_mut-inner.ensures.value) (λ held.
+    rw (sym c.deref_mut-inner.ensures.value)
+    (λ held.
     let e = c.read.ensures.held held in (
       e.0,
-      held_looks c.deref_mut-inner.result.now c.read.new.self c.args.handle.place c.settled-2.ensures.each
+      held_looks c.deref_mut-inner.result.now c.read.new.self c.args.handle.place
+          c.settled-2.ensures.each
           c.settled-2.ensures.once held e.0 e.1,
       rw c.read_answer.ensures e.2,
     ))
 
 pub returns-clause-once : goal.returns-clause-once
 returns-clause-once g c =
-    rw (sym c.deref_mut-inner.ensures.value) (let held = held_by _ c.deref_mut-inner.ensures.value (sym c.holds.ensures ∙ c.if-not-holds.false) in
+    rw (sym c.deref_mut-inner.ensures.value)
+    (let held = held_by _ c.deref_mut-inner.ensures.value (sym c.holds.ensures ∙
+    c.if-not-holds.false) in
     let e = c.read.ensures.held held in
-    held_tries c.deref_mut-inner.result.now c.read.new.self c.args.handle.place c.settled-2.ensures.each
+    held_tries c.deref_mut-inner.result.now c.read.new.self c.args.handle.place
+    c.settled-2.ensures.each
     c.settled-2.ensures.once held e.0 e.1)

@@ -48,7 +48,8 @@ adopt-requires-clause-arena g c =
     let there = next_contained number_in p.pool c.args.arena one (sym c.in-Some.ensures.next) in
     subst (λ n. n < 16) (sym (ap (λ r. r.arena) c.see_hand.ensures.comes.rest))
     (arena_low g.N.ServiceName.policy (number_in one.slots) one.arena
-    (subst IsSoundPolicy (named_by c.deref_mut-inner.ensures.value c.args.self.now.named).serves s.sound) (p.each.arena one there))
+    (subst IsSoundPolicy (named_by c.deref_mut-inner.ensures.value
+    c.args.self.now.named).serves s.sound) (p.each.arena one there))
 
 pub invariant_of-inner : goal.invariant_of-inner
 invariant_of-inner g c =
@@ -67,7 +68,8 @@ invariant_of-inner g c =
     ) in
     let of : AreOf number_in s.policy (s.heap.segments ++ one' ∷ []) =
     are_of_more number_in s.policy s.heap.segments one' s.of
-    (subst (λ (q : Policy). IsOf number_in q one') (sym (named_by c.deref_mut-inner.ensures.value c.args.self.now.named).serves) here) in
+    (subst (λ (q : Policy). IsOf number_in q one') (sym (named_by c.deref_mut-inner.ensures.value
+    c.args.self.now.named).serves) here) in
     let known : KnowsHand number_in part_of_seat s.hand
     (part_on c.see_hand.new.seat.badge) (s.heap.segments ++ one' ∷ []) =
     comes_knows number_in records_in part_of_seat s.hand one one' (had_in s).own
@@ -88,7 +90,8 @@ invariant_of-inner g c =
 
 pub returns-clause-refilled : goal.returns-clause-refilled
 returns-clause-refilled g c =
-    rw (sym c.deref_mut-inner.ensures.value) (let one' = c.see_hand.new.one in
+    rw (sym c.deref_mut-inner.ensures.value)
+    (let one' = c.see_hand.new.one in
     let same = c.in_default-release.ensures.unchanged in
     rw (sym c.in-Some.ensures.next) (
       ap answer.Refilled c.number-segment.ensures,
@@ -103,7 +106,8 @@ returns-clause-refilled g c =
 
 pub returns-clause-lives : goal.returns-clause-lives
 returns-clause-lives g c =
-    rw (sym c.deref_mut-inner.ensures.value) (let s = c.deref_mut-inner.result.now in
+    rw (sym c.deref_mut-inner.ensures.value)
+    (let s = c.deref_mut-inner.result.now in
     let one' = c.see_hand.new.one in
     lives_come number_in records_in part_of_seat (had_in s) _ one'
     (comes_ends number_in records_in part_of_seat s.hand c.in-Some.one one' (had_in s).own
@@ -113,15 +117,18 @@ returns-clause-lives g c =
 
 pub returns-clause-home : goal.returns-clause-home
 returns-clause-home g c =
-    rw (sym c.deref_mut-inner.ensures.value) (let one' = c.see_hand.new.one in
+    rw (sym c.deref_mut-inner.ensures.value)
+    (let one' = c.see_hand.new.one in
     come_goes number_in records_in _ _ _
     (c.adopt.ensures.segments
     ∙ ap (λ (h : Held _). h.segments ++ one' ∷ []) c.in_default-release.ensures.unchanged))
 
 pub returns-clause-unheld : goal.returns-clause-unheld
 returns-clause-unheld g c =
-    rw (sym c.deref_mut-inner.ensures.value) (let one = c.in-Some.one in
-    let away : is_held number_in c.deref_mut-inner.result.now.heap.segments (number_in one.slots) ≡ false =
+    rw (sym c.deref_mut-inner.ensures.value)
+    (let one = c.in-Some.one in
+    let away : is_held number_in
+    c.deref_mut-inner.result.now.heap.segments (number_in one.slots) ≡ false =
     ap (λ (h : Held _). is_held number_in h.segments (number_in one.slots))
     (sym c.in_default-release.ensures.unchanged)
     ∙ ap (is_held number_in c.release.new.self.segments) (sym c.number-segment.ensures)

@@ -35,7 +35,8 @@ invariant_of-inner g c =
 
 pub returns-clause-lives : goal.returns-clause-lives
 returns-clause-lives g c =
-    rw (sym c.deref_mut-inner.ensures.value) (let s = c.deref_mut-inner.result.now in
+    rw (sym c.deref_mut-inner.ensures.value)
+    (let s = c.deref_mut-inner.result.now in
     taking_leaves_lives c.args.segment c.take.result (drained c.args.list.now) (had_in s) _ refl
     (c.take.ensures.taken (sym c.holds.ensures ∙ c.if-not-holds.false)))
 
@@ -44,15 +45,18 @@ taken_so n count e = cc
 
 pub returns-then-not-holds-clause-whole : goal.returns-then-not-holds-clause-whole
 returns-then-not-holds-clause-whole g c =
-    rw (sym c.deref_mut-inner.ensures.value) (λ count is. absurd (cc))
+    rw (sym c.deref_mut-inner.ensures.value)
+    (λ count is. absurd (cc))
 
 pub returns-then-not-holds-clause-home : goal.returns-then-not-holds-clause-home
 returns-then-not-holds-clause-home g c =
-    rw (sym c.deref_mut-inner.ensures.value) (none_goes number_in records_in _ _ _ (stay_goes number_in records_in _))
+    rw (sym c.deref_mut-inner.ensures.value)
+    (none_goes number_in records_in _ _ _ (stay_goes number_in records_in _))
 
 pub returns-clause-whole : goal.returns-clause-whole
 returns-clause-whole g c =
-    rw (sym c.deref_mut-inner.ensures.value) (λ count is.
+    rw (sym c.deref_mut-inner.ensures.value)
+    (λ count is.
     let same = taken_so c.take.result count is in (
       subst (λ n. n ≤ 8192) same c.take.ensures.few,
       subst (λ n. HaveComeHome number_in records_in c.args.segment (contents c.args.list.now)
@@ -62,5 +66,6 @@ returns-clause-whole g c =
 
 pub returns-clause-home : goal.returns-clause-home
 returns-clause-home g c =
-    rw (sym c.deref_mut-inner.ensures.value) (taken_goes number_in records_in
+    rw (sym c.deref_mut-inner.ensures.value)
+    (taken_goes number_in records_in
     (c.take.ensures.whole (sym c.holds.ensures ∙ c.if-not-holds.false)))

@@ -43,13 +43,15 @@ returns-then-not-holds-clause-write g c =
     c.settled.ensures c.out_of_reach.ensures.heap c.out_of_reach.ensures.rest
     c.out_of_reach.ensures.judged
     (λ shown.
-    write_away number_in records_in (had_in s) shown s.below c.args.actor c.args.handle c.args.index c.args.value
+    write_away number_in records_in (had_in s) shown s.below c.args.actor c.args.handle
+    c.args.index c.args.value
     (sym c.holds.ensures ∙ c.if-not-holds.true))
 
 pub invariant_of-inner : goal.invariant_of-inner
 invariant_of-inner g c =
     let s = c.deref_mut-inner.result.now in
-    let e = c.write.ensures.held (held_by _ c.deref_mut-inner.ensures.value (sym c.holds.ensures ∙ c.if-not-holds.false)) in
+    let e = c.write.ensures.held (held_by _ c.deref_mut-inner.ensures.value (sym c.holds.ensures ∙
+    c.if-not-holds.false)) in
     record {
       sound = s.sound;
       below = s.below;
@@ -62,9 +64,12 @@ invariant_of-inner g c =
 
 pub returns-clause-write : goal.returns-clause-write
 returns-clause-write g c =
-    rw (sym c.deref_mut-inner.ensures.value) (let held = held_by _ c.deref_mut-inner.ensures.value (sym c.holds.ensures ∙ c.if-not-holds.false) in
+    rw (sym c.deref_mut-inner.ensures.value)
+    (let held = held_by _ c.deref_mut-inner.ensures.value (sym c.holds.ensures ∙
+    c.if-not-holds.false) in
     let e = c.write.ensures.held held in
-    held_call c.deref_mut-inner.result.now c.write.new.self c.args.handle.place c.settled-2.ensures.each
+    held_call c.deref_mut-inner.result.now c.write.new.self c.args.handle.place
+    c.settled-2.ensures.each
     c.settled-2.ensures.once held e.0 e.1
     (event.Write c.args.actor c.args.handle c.args.index c.args.value) c.done_answer.result
     (rw c.done_answer.ensures e.2))
@@ -75,7 +80,8 @@ returns-then-not-holds-clause-judged g c =
     let e = c.out_of_reach.ensures.judged in (
       e.0,
       e.1,
-      judged_by number_in part_of_seat s.policy c.args.actor.0 right.Write c.args.handle e.0 (had_in s)
+      judged_by number_in part_of_seat s.policy c.args.actor.0 right.Write c.args.handle e.0
+          (had_in s)
           (had c.out_of_reach.new.self) (rule_of c.out_of_reach.result) e.1
           (sym (ap rule_of e.2 ∙ rule_away _)),
     )
@@ -98,29 +104,35 @@ returns-then-not-holds-clause-home g c =
 
 pub returns-clause-judged : goal.returns-clause-judged
 returns-clause-judged g c =
-    rw (sym c.deref_mut-inner.ensures.value) (let held = held_by _ c.deref_mut-inner.ensures.value (sym c.holds.ensures ∙ c.if-not-holds.false) in
+    rw (sym c.deref_mut-inner.ensures.value)
+    (let held = held_by _ c.deref_mut-inner.ensures.value (sym c.holds.ensures ∙
+    c.if-not-holds.false) in
     let e = c.write.ensures.judged held in (
       shown_at c.args.handle.place e.0,
-      held_looks c.deref_mut-inner.result.now c.write.new.self c.args.handle.place c.settled-2.ensures.each
+      held_looks c.deref_mut-inner.result.now c.write.new.self c.args.handle.place
+          c.settled-2.ensures.each
           c.settled-2.ensures.once held e.0 e.1,
       rw (ap rule_of c.done_answer.ensures ∙ rule_done c.write.result) e.2,
     ))
 
 pub returns-clause-kept : goal.returns-clause-kept
 returns-clause-kept g c =
-    rw (sym c.deref_mut-inner.ensures.value) (λ is.
+    rw (sym c.deref_mut-inner.ensures.value)
+    (λ is.
     where_refused c.write.result c.write.ensures.kept
     (subst (λ a. IsFalse (is_done a)) c.done_answer.ensures is))
 
 pub returns-clause-wrote : goal.returns-clause-wrote
 returns-clause-wrote g c =
-    rw (sym c.deref_mut-inner.ensures.value) (λ is.
+    rw (sym c.deref_mut-inner.ensures.value)
+    (λ is.
     where_done c.write.result c.write.ensures.wrote
     (subst (λ a. IsTrue (is_done a)) c.done_answer.ensures is))
 
 pub returns-clause-home : goal.returns-clause-home
 returns-clause-home g c =
-    rw (sym c.deref_mut-inner.ensures.value) (either c.write.result c.write.ensures.wrote c.write.ensures.kept
+    rw (sym c.deref_mut-inner.ensures.value)
+    (either c.write.result c.write.ensures.wrote c.write.ensures.kept
     (wrote_goes number_in records_in) (all_goes number_in records_in _ _))
 
 pub returns-then-not-holds-clause-any_hand : goal.returns-then-not-holds-clause-any_hand
@@ -130,17 +142,22 @@ returns-then-not-holds-clause-any_hand g c =
 
 pub returns-clause-any_hand : goal.returns-clause-any_hand
 returns-clause-any_hand g c =
-    rw (sym c.deref_mut-inner.ensures.value) (λ held.
+    rw (sym c.deref_mut-inner.ensures.value)
+    (λ held.
     let e = c.write.ensures.held held in (
       e.0,
-      held_looks c.deref_mut-inner.result.now c.write.new.self c.args.handle.place c.settled-2.ensures.each
+      held_looks c.deref_mut-inner.result.now c.write.new.self c.args.handle.place
+          c.settled-2.ensures.each
           c.settled-2.ensures.once held e.0 e.1,
       rw c.done_answer.ensures e.2,
     ))
 
 pub returns-clause-once : goal.returns-clause-once
 returns-clause-once g c =
-    rw (sym c.deref_mut-inner.ensures.value) (let held = held_by _ c.deref_mut-inner.ensures.value (sym c.holds.ensures ∙ c.if-not-holds.false) in
+    rw (sym c.deref_mut-inner.ensures.value)
+    (let held = held_by _ c.deref_mut-inner.ensures.value (sym c.holds.ensures ∙
+    c.if-not-holds.false) in
     let e = c.write.ensures.held held in
-    held_tries c.deref_mut-inner.result.now c.write.new.self c.args.handle.place c.settled-2.ensures.each
+    held_tries c.deref_mut-inner.result.now c.write.new.self c.args.handle.place
+    c.settled-2.ensures.each
     c.settled-2.ensures.once held e.0 e.1)
