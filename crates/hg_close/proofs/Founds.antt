@@ -1,5 +1,5 @@
 -- What stands in lists, and what is found there.
-use Rattle.std.proofs.Common.{◌≡◌, ◌≢◌, ◌⊎◌, ℕ, ◌<◌, ◌==◌, Bool, true, false, not, cond, List, []}
+use Rattle.std.proofs.Common.{◌≡◌, ◌≢◌, ◌⊎◌, ℕ, ◌<◌, Bool, true, not, cond, List, []}
 use Rattle.std.proofs.Common.{◌∷◌, ◌++◌, length, filter, find, Option, Some, None, refl, sym, ap, subst}
 use Rattle.std.proofs.Common.{◌∙◌, arith, inl, inr, ⊎_elim, ◌+◌, slice_index_or}
 use Rattle.std.specs.Prelude.{Contains}

@@ -1,5 +1,5 @@
 -- The segment that stands first has its words copied, and then comes over.
-use Rattle.std.proofs.Common.{◌≡◌, ◌≢◌, ℕ, List, [], Option, Some, sym, ap, subst, ◌∙◌}
+use Rattle.std.proofs.Common.{◌≡◌, ℕ, List, Some, sym, ap, subst, ◌∙◌}
 use Rattle.std.specs.Option.{option_map}
 use Rattle.std.proofs.lemmas.Option.{same_Some}
 use Rattle.hg_place.specs.declared.plain.PlainWords.{PlainWords}
@@ -10,7 +10,7 @@ use Rattle.hg_segment.specs.Kept.{Kept}
 use Rattle.hg_segment.specs.Parted.{plain_number}
 use Rattle.hg_pool.specs.Moving.{CopiedIn, AreForFirst, IsMoved}
 use Rattle.hg_pool.specs.Pooled.{Pooled, IsPooled, IsRight, first_in, without_segment}
-use Rattle.hg_close.specs.Moved.{IsPlainOf, HasMoved}
+use Rattle.hg_close.specs.Moved.{HasMoved}
 use Rattle.hg_close.proofs.First.{first_of, first_then, none_replaced, some_replaced, without_then}
 use Rattle.hg_close.proofs.Founds.{mapped_some}
 

@@ -1,5 +1,5 @@
 -- What a call behind a lock does, and where it needs none.
-use Rattle.std.proofs.Common.{◌≡◌, ℕ, ◌+◌, ◌*◌, ◌<◌, ◌==◌, ◌++◌, Bool, true, false, cond, List, [], ◌∷◌}
+use Rattle.std.proofs.Common.{◌≡◌, ℕ, ◌<◌, ◌++◌, Bool, true, false, cond, List, [], ◌∷◌}
 use Rattle.std.proofs.Common.{Option, Some, None, length, find, is_some, refl, sym, ap, subst, ◌∙◌}
 use Rattle.std.proofs.Common.{arith, inl, inr}
 use Rattle.std.specs.Prelude.{option_map, Contains, IfSome}
@@ -22,7 +22,7 @@ use Rattle.hg_pool.specs.Pooled.{Pooled, next_in, is_of_arena}
 use Rattle.hg_remote.specs.Remote.{nothing_sent}
 use Rattle.hg_table.specs.declared.view.Part.{Part}
 use Rattle.hg_worker.specs.CallerLocked.{IsTakenFrom, IsRefilled, IsAbandoned}
-use Rattle.hg_worker.specs.Had.{Had, hand_place}
+use Rattle.hg_worker.specs.Had.{Had}
 use Rattle.hg_worker.specs.Seats.{IsInReach}
 use Rattle.hg_worker.proofs.Pools.{next_contained}
 use Rattle.hg_service.specs.Behind.{Delivers, Takes, Abandons}

@@ -7,7 +7,6 @@ use Rattle.hg_place.specs.declared.standing.Standing.{Standing}
 use Rattle.hg_machine.specs.declared.Answer.{Answer}
 use Rattle.hg_machine.specs.declared.Answer.TheVariants as answer
 use Rattle.hg_machine.specs.Policy.{Policy}
-use Rattle.hg_segment.specs.Kept.{Kept}
 use Rattle.hg_heap.specs.Held.{Held, is_held, segment_in}
 use Rattle.hg_heap.specs.Homecoming.{HaveComeHome}
 use Rattle.hg_heap.specs.Policies.{AreOf}

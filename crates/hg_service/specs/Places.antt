@@ -1,5 +1,5 @@
 -- Workers in the places of their numbers.
-use Rattle.std.specs.Prelude.{◌≡◌, ◌≢◌, ◌<◌, ℕ, Bool, true, false, List, Option, None, Some, slice_get, length}
+use Rattle.std.specs.Prelude.{◌≡◌, ℕ, List, Option, Some, slice_get}
 use Rattle.hg_worker.specs.declared.worker.Worker.{Worker as Own}
 
 module _ {N : _} {own : _} {table : _} where

@@ -1,5 +1,5 @@
 -- Why a service doesn't close.
-use Rattle.std.specs.Prelude.{◌≡◌, ℕ, ◌<◌, false, List, length}
+use Rattle.std.specs.Prelude.{◌≡◌, ◌<◌, false, List, length}
 use Rattle.std.specs.Box.{boxed_slice_items}
 use Rattle.hg_machine.specs.Policy.{Policy}
 use Rattle.hg_pool.specs.Pooled.{Pooled}

@@ -1,5 +1,4 @@
 use Rattle.std.proofs.Common.{◌+◌, length, length-append, ap, subst, sym, ◌∙◌, arith}
-use Rattle.std.proofs.Common.{◌≡◌}
 use Rattle.hg_close.specs.Rooms.{HasWords}
 use Rattle.hg_close.proofs.Ready.{more_ready}
 use Rattle.hg_close.proofs.opening.unused_words.Goals as goal

@@ -1,4 +1,4 @@
-use Rattle.std.proofs.Common.{◌≡◌, ℕ, ◌+◌, suc, length, subst, sym, ◌∙◌, Some, arith}
+use Rattle.std.proofs.Common.{suc, length, subst, sym, ◌∙◌, Some, arith}
 use Rattle.std.proofs.lemmas.List.Elements.{All-pop}
 use Rattle.std.specs.Box.{boxed_slice_items}
 use Rattle.hg_table.specs.Seats.{AreHome, KnowsNothing, part_in}

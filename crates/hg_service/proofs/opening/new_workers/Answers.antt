@@ -1,4 +1,4 @@
-use Rattle.std.proofs.Common.{◌≡◌, ◌+◌, arith}
+use Rattle.std.proofs.Common.{arith}
 use Rattle.std.proofs.lemmas.List.Elements.{All-pop}
 use Rattle.hg_table.specs.Seats.{KnowsNothing, part_on}
 use Rattle.hg_service.proofs.Opened.{new_more}

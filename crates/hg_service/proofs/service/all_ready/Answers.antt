@@ -1,5 +1,5 @@
-use Rattle.std.proofs.Common.{◌≡◌, ℕ, ◌+◌, ◌<◌, suc, subst, sym, ap, ◌∙◌, arith, length, length-append}
-use Rattle.std.proofs.Common.{slice_get, ◌++◌, ◌∷◌, [], Some, true}
+use Rattle.std.proofs.Common.{◌≡◌, suc, subst, sym, ap, ◌∙◌, arith, length, length-append}
+use Rattle.std.proofs.Common.{slice_get, true}
 use Rattle.hg_service.specs.New.{IsNew}
 use Rattle.hg_service.specs.Ready.{AreReady, is_ready}
 use Rattle.hg_service.proofs.Places.{more_ready, more_there}

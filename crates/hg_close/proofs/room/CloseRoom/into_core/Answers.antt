@@ -1,5 +1,4 @@
 use Rattle.hg_audit.specs.Handed.{core_in, parts_in}
-use Rattle.hg_close.specs.Closed.{IsQuiet}
 use Rattle.hg_close.proofs.Quiet.{is_place, quiet}
 use Rattle.hg_close.proofs.room.CloseRoom.into_core.Goals as goal
 

@@ -1,4 +1,4 @@
-use Rattle.std.proofs.Common.{◌≡◌, ◌<◌, ℕ, length, sym, ap, ◌∙◌, subst, None, slice_index_or, arith}
+use Rattle.std.proofs.Common.{length, sym, ap, ◌∙◌, None, slice_index_or, arith}
 use Rattle.hg_close.proofs.room.CloseRoom.new.Goals as goal
 
 pub returns-clause-room : goal.returns-clause-room

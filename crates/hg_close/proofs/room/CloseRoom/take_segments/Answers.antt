@@ -1,4 +1,4 @@
-use Rattle.std.proofs.Common.{◌≡◌, ℕ, length, ap, refl, sym, arith, Some, ◌∙◌}
+use Rattle.std.proofs.Common.{length, ap, refl, sym, arith}
 use Rattle.hg_segment.specs.Kept.{Kept}
 use Rattle.hg_worker.specs.Seats.{number_in, records_in}
 use Rattle.hg_close.proofs.Filled.{filled, still_rest}
