@@ -62,3 +62,27 @@ impl Trial for Lent {
 fn lent_forms(rt: HostRuntime) {
     tried(&rt, rt.alloc(), DOCUMENT, &Lent).expect(&rt, "memory");
 }
+
+/// A worker with a block in hand, kept without its service's name meanwhile.
+#[derive(Clone, Copy)]
+struct Named;
+
+impl Trial for Named {
+    fn go<N: ServiceName, R: Abort>(&self, rt: &R, alloc: Global, all: &mut Service<N>) {
+        all.begin(rt);
+        let (worker, other) = all.two(rt, 0, 1);
+        parted(rt, worker, other);
+        all.name_again(rt);
+        let (worker, other) = all.two(rt, 0, 1);
+        assert_eq!(rt; (worker.number(), other.number()), (0, 1));
+        let mut list = RemoteList::new(alloc).expect(rt, "a list");
+        delivered(rt, other, &mut list);
+        taken(rt, worker, &mut list);
+        drop(list);
+    }
+}
+
+#[test]
+fn a_name_changes_nothing(rt: HostRuntime) {
+    tried(&rt, rt.alloc(), DOCUMENT, &Named).expect(&rt, "memory");
+}

@@ -237,6 +237,15 @@ impl<N: ServiceName> Service<N> {
         assert_eq!(rt; self.answer(rt, 0, event), Answer::Refilled(0));
     }
 
+    /// The last worker, kept without its service's name meanwhile.
+    pub fn name_again<R: Abort>(&mut self, rt: &R) {
+        let Some(worker) = self.workers.pop() else {
+            return;
+        };
+        let again = self.workers.push(Worker::with_name(worker.without_name()));
+        again.expect(rt, "the room that it had");
+    }
+
     /// Two workers, the lower number first.
     pub fn two<R: Abort>(
         &mut self,
