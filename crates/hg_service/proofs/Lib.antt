@@ -1,3 +1,4 @@
 pub mod Opened
 pub mod Places
 pub mod Behind
+pub mod Leaving

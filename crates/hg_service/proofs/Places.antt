@@ -18,27 +18,27 @@ set_each P (z ∷ zs) (suc n) y all one zero x e = all 0 x e
 set_each P (z ∷ zs) (suc n) y all one (suc k) x e =
     set_each (λ j. P (suc j)) zs n y (λ j. all (suc j)) one k x e
 
-module _ {X : Type 0} (number : X → ℕ) where
-  -- each that is there is of the number of its place
-  abbrev Theirs : List (Option X) → Type 0
-  Theirs xs = (k : ℕ) (x : X) → slice_get xs k ≡ Some (Some x) → number x ≡ k
+module _ {X : Type 0} (P : ℕ → X → Type 0) where
+  -- it is so of each that is there
+  abbrev Each : List (Option X) → Type 0
+  Each xs = (k : ℕ) (x : X) → slice_get xs k ≡ Some (Some x) → P k x
 
   abbrev At : ℕ → Option X → Type 0
-  At k o = (x : X) → o ≡ Some x → number x ≡ k
+  At k o = (x : X) → o ≡ Some x → P k x
 
-  each_of : (xs : List (Option X)) → Theirs xs → (k : ℕ) (o : Option X)
+  each_of : (xs : List (Option X)) → Each xs → (k : ℕ) (o : Option X)
       → slice_get xs k ≡ Some o → At k o
-  each_of xs theirs k o at x is = theirs k x (at ∙ ap Some is)
+  each_of xs each k o at x is = each k x (at ∙ ap Some is)
 
-  pub put_theirs : (xs : List (Option X)) (n : ℕ) (one : X) → number one ≡ n → Theirs xs
-      → Theirs (slice_set xs n (Some one))
-  put_theirs xs n one own theirs k x e =
-      set_each At xs n (Some one) (each_of xs theirs)
-      (λ y is. sym (ap number (same_Some _ _ is)) ∙ own) k (Some x) e x refl
+  pub put_each : (xs : List (Option X)) (n : ℕ) (one : X) → P n one → Each xs
+      → Each (slice_set xs n (Some one))
+  put_each xs n one is_so each k x e =
+      set_each At xs n (Some one) (each_of xs each)
+      (λ y is. subst (P n) (same_Some _ _ is) is_so) k (Some x) e x refl
 
-  pub more_theirs : (xs : List (Option X)) → Theirs xs → Theirs (xs ++ None ∷ [])
-  more_theirs xs theirs k x e =
-      each_more At xs None (each_of xs theirs) (λ y is. absurd (none-some _ is)) k (Some x) e x
+  pub more_each : (xs : List (Option X)) → Each xs → Each (xs ++ None ∷ [])
+  more_each xs each k x e =
+      each_more At xs None (each_of xs each) (λ y is. absurd (none-some _ is)) k (Some x) e x
       refl
 
 module _ {N : _} {own : _} {table : _} where

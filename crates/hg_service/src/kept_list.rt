@@ -78,6 +78,7 @@ impl<N: ServiceName> KeptList<N> {
         ensures whole { (count : ℕ) → result ≡ Answer.Taken count → (count ≤ SEGMENT_PLACES)
             × HaveComeHome number_in records_in self.old.segment (contents self.old.list)
             worker.old.inner.value.heap.segments worker.new.inner.value.heap.segments count }
+        ensures own { worker.new.inner.value.seat ≡ worker.old.inner.value.seat }
         ensures segment { self.new.segment ≡ self.old.segment }
         ensures lives { LeavesLives worker.old worker.new }
         ensures home { SendsHome (λ place. (segment_of place ≡ self.old.segment)

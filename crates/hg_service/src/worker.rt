@@ -1,4 +1,4 @@
-ghost use Rattle.std.specs.Prelude.{◌≡◌, ◌≢◌, ◌↔◌, ℕ, true, false, Some, None};
+ghost use Rattle.std.specs.Prelude.{◌≡◌, ◌≢◌, ◌↔◌, ℕ, true, false, [], Some, None};
 ghost use Rattle.hg_machine.specs.Policy.{arena_of};
 ghost use Rattle.hg_machine.specs.declared.Answer.TheVariants as Answer;
 ghost use Rattle.hg_heap.specs.Held.{is_held, segment_in};
@@ -6,7 +6,9 @@ ghost use Rattle.hg_worker.specs.Seats.{number_in, records_in, part_of_seat};
 ghost use Rattle.hg_worker.specs.Seats.{seat_shows, seat_steps};
 ghost use Rattle.hg_worker.specs.Workers.{had, Keeps, LeavesLives, SendsNoneHome, StaysUnseen};
 ghost use Rattle.hg_service.specs.Behind.{Abandons, Delivers, Refills, Takes};
+ghost use Rattle.hg_service.specs.Leaving.{AbandonsEach, all_segments};
 
+use crate::left::Leaver;
 use crate::shared::Shared;
 use hg_machine::Answer;
 use hg_place::MAX_SEGMENTS;
@@ -37,6 +39,7 @@ impl<N: ServiceName> Worker<N> {
         ensures home { SendsNoneHome self.old.own self.new.own }
         ensures rest { (self.new.own.inner.value.policy ≡ self.old.own.inner.value.policy)
             × (self.new.own.inner.value.number ≡ self.old.own.inner.value.number) }
+        ensures shared { self.new.shared ≡ self.old.shared }
     {
         let Some(place) = self.own.hand() else {
             return Answer::NothingInHand;
@@ -54,8 +57,10 @@ impl<N: ServiceName> Worker<N> {
             self.old.own.inner.value.heap self.new.own.inner.value.heap }
         ensures unheld { result ≡ Answer.NotHeld
             ↔ is_held number_in self.old.own.inner.value.heap.segments segment ≡ false }
+        ensures own { self.new.own.inner.value.seat ≡ self.old.own.inner.value.seat }
         ensures lives { LeavesLives self.old.own self.new.own }
         ensures rest { Keeps self.old.own self.new.own }
+        ensures shared { self.new.shared ≡ self.old.shared }
     {
         if !self.own.holds(segment) {
             return Answer::NotHeld;
@@ -78,6 +83,7 @@ impl<N: ServiceName> Worker<N> {
         ensures lives { LeavesLives self.old.own self.new.own }
         ensures home { SendsNoneHome self.old.own self.new.own }
         ensures rest { Keeps self.old.own self.new.own }
+        ensures shared { self.new.shared ≡ self.old.shared }
     {
         let shared = &self.shared;
         let mut pool = shared.pool.lock(rt);
@@ -96,9 +102,11 @@ impl<N: ServiceName> Worker<N> {
         ensures others { (other : ℕ) → other ≢ segment
             → segment_in number_in self.new.own.inner.value.heap.segments other
             ≡ segment_in number_in self.old.own.inner.value.heap.segments other }
+        ensures own { self.new.own.inner.value.seat ≡ self.old.own.inner.value.seat }
         ensures lives { LeavesLives self.old.own self.new.own }
         ensures home { SendsNoneHome self.old.own self.new.own }
         ensures rest { Keeps self.old.own self.new.own }
+        ensures shared { self.new.shared ≡ self.old.shared }
     {
         if !self.own.holds(segment) {
             return Answer::NotHeld;
@@ -113,12 +121,43 @@ impl<N: ServiceName> Worker<N> {
     /// worker back. Where the list of its segment has the block in hand already, that is given up
     /// with the hand.
     pub fn leave<R: Wait>(self, rt: &R) {
+        let (leaver, shared) = self.into_leaver(rt);
+        shared.left.lock(rt).put(leaver);
+    }
+
+    /// The worker, once it has given up what it has, and where it goes.
+    fn into_leaver<R: Wait>(self, rt: &R) -> (Leaver<N>, Arc<Shared<N>, Global>)
+        ensures sent { Delivers self.own.inner.value.hand result.0.delivery result.0.own.inner.value.hand }
+        ensures abandoned { AbandonsEach number_in all_segments self.own.inner.value.heap
+            result.0.own.inner.value.heap }
+        ensures lives { LeavesLives self.own result.0.own }
+        ensures rest { (result.0.own.inner.value.policy ≡ self.own.inner.value.policy)
+            × (result.0.own.inner.value.number ≡ self.own.inner.value.number) }
+        ensures shared { result.1 ≡ self.shared }
+    {
         let mut worker = self;
-        let _ = worker.deliver(rt);
-        for segment in 0..MAX_SEGMENTS as u8 {
-            let _ = worker.abandon(rt, segment);
-        }
+        let delivery = worker.empty(rt);
         let Worker { own, shared } = worker;
-        shared.left.lock(rt).put(own);
+        (Leaver::new(own, delivery), shared)
+    }
+
+    /// Delivers what is in hand and abandons each segment that the worker holds, rising. The answer
+    /// is that of the delivery.
+    fn empty<R: Wait>(&mut self, rt: &R) -> Answer
+        ensures sent { Delivers self.old.own.inner.value.hand result self.new.own.inner.value.hand }
+        ensures given { result ≢ Answer.Busy → self.new.own.inner.value.hand ≡ None }
+        ensures abandoned { AbandonsEach number_in all_segments self.old.own.inner.value.heap
+            self.new.own.inner.value.heap }
+        ensures nothing { self.new.own.inner.value.heap.segments ≡ [] }
+        ensures lives { LeavesLives self.old.own self.new.own }
+        ensures rest { (self.new.own.inner.value.policy ≡ self.old.own.inner.value.policy)
+            × (self.new.own.inner.value.number ≡ self.old.own.inner.value.number) }
+        ensures shared { self.new.shared ≡ self.old.shared }
+    {
+        let delivery = self.deliver(rt);
+        for segment in 0..MAX_SEGMENTS as u8 {
+            let _ = self.abandon(rt, segment);
+        }
+        delivery
     }
 }
