@@ -7,9 +7,8 @@
 #include "heapguard.h"
 #include "counted.h"
 #include "holding.h"
+#include "printed.h"
 #include "seeded.h"
-#include <inttypes.h>
-#include <stdio.h>
 #include <stdlib.h>
 #include <string.h>
 
@@ -41,39 +40,11 @@ static FILE *trace, *answers;
 
 static uint32_t number(uint32_t at, uint32_t known) { return at < known ? at : 255; }
 
-static void put_handle(FILE *out, hg_handle block)
-{
-    fprintf(out, "@%" PRIu32 ".%" PRIu32 ".%" PRIu32 ".%" PRIu32, hg_segment_of(block),
-            hg_page_of(block), hg_index_of(block), hg_generation_of(block));
-}
-
-/* A row of a listing: the handle left in 21 places, the owner in 16, the bytes right in 5. */
-static void put_row(hg_reply reply)
-{
-    char handle[32], name[16];
-    hg_reply named = hg_tenant_name(&core, reply.owner, name, sizeof name);
-    snprintf(handle, sizeof handle, "@%" PRIu32 ".%" PRIu32 ".%" PRIu32 ".%" PRIu32,
-             hg_segment_of(reply.value), hg_page_of(reply.value), hg_index_of(reply.value),
-             hg_generation_of(reply.value));
-    fprintf(answers, "%-21s %-16.*s %5" PRIu32 "\n", handle, (int)named.value, name, reply.detail);
-}
-
-static void put_answer(hg_reply reply)
+static void note_answer(hg_reply reply)
 {
     answered[reply.status % STATUSES]++;
-    if (reply.status == HG_LISTED) {
-        put_row(reply);
-        return;
-    }
-    fputs(hg_status_text(reply.status), answers);
-    if (reply.status == HG_BLOCK) {
-        fputc(' ', answers);
-        put_handle(answers, reply.value);
-        kept[count++ % KEPT] = reply.value;
-    } else if (reply.status >= HG_VALUE && reply.status <= HG_REFILLED) {
-        fprintf(answers, " %" PRIu64, reply.value);
-    }
-    fputc('\n', answers);
+    if (reply.status == HG_BLOCK) kept[count++ % KEPT] = reply.value;
+    put_answer(answers, &core, reply);
 }
 
 /* One that was given out, or now and then one that was guessed. */
@@ -196,7 +167,7 @@ int main(int words, char **word)
     nobody_holds();
     unsigned wrong = 0;
     for (long left = strtol(word[1], NULL, 10); left > 0; left--) {
-        put_answer(some_event());
+        note_answer(some_event());
         wrong += told_wrongly(&core, WORKERS, TENANTS, SEGMENTS);
     }
     wrong += wrongly_taken;

@@ -1,8 +1,10 @@
 mod checks;
 mod fakes;
+mod hostile;
 mod inputs;
 mod outputs;
 mod refusals;
 mod running;
 mod stopping;
 mod texts;
+mod worked;

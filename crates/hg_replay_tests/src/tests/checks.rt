@@ -6,7 +6,7 @@ use hg_replay::{Status, run_check};
 use std::alloc::Global;
 use std::process::Abort;
 
-const COUNTS: &str = "ok workers 1 tenants 1 arenas 1 segments 1\n";
+pub const COUNTS: &str = "ok workers 1 tenants 1 arenas 1 segments 1\n";
 
 /// The check ends with this status, output and line on standard error.
 fn ends(rt: &impl Abort, alloc: Global, policy: &str, want: Ends) {

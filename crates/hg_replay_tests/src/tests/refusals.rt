@@ -1,9 +1,10 @@
 //! Tests that hold whichever request for memory is refused: the right answer, or want of memory
 //! and nothing written. Each is run with each of its requests refused in turn.
 
+use crate::tests::checks::COUNTS;
 use crate::tests::running::{ANSWERS, JOINED, POLICY, TRACE};
 use hg_policy::{Policy, PolicyFault, read_policy};
-use hg_replay::{ReplayFault, Status, replay, run_joined, run_texts};
+use hg_replay::{ReplayFault, Status, replay, run_check, run_joined, run_texts};
 use hg_trace::{Trace, TraceFault, read_trace};
 use std::alloc::Global;
 use std::process::Abort;
@@ -59,10 +60,10 @@ fn replay_refused_in_turn(rt: HostRuntime) {
     replays(&rt, rt.alloc(), TRACE.as_bytes(), ANSWERS.as_bytes());
 }
 
-/// The answers, or want of memory and nothing written.
-fn answers_or_no_memory(rt: &impl Abort, status: Status, out: &[u8], err: &[u8]) {
+/// This text, or want of memory and nothing written.
+fn text_or_no_memory(rt: &impl Abort, text: &str, status: Status, out: &[u8], err: &[u8]) {
     if status == Status::Done {
-        assert!(rt; out == ANSWERS.as_bytes());
+        assert!(rt; out == text.as_bytes());
         assert!(rt; err.len() == 0);
     } else {
         assert!(rt; status == Status::Failed);
@@ -82,7 +83,7 @@ fn run_texts_refused_in_turn(rt: HostRuntime) {
         &mut out,
         &mut err,
     );
-    answers_or_no_memory(&rt, status, out.as_slice(), err.as_slice());
+    text_or_no_memory(&rt, ANSWERS, status, out.as_slice(), err.as_slice());
 }
 
 #[test]
@@ -90,5 +91,13 @@ fn run_joined_refused_in_turn(rt: HostRuntime) {
     let mut out = Held::new();
     let mut err = Held::new();
     let status = run_joined(rt.alloc(), &mut JOINED.as_bytes(), &mut out, &mut err);
-    answers_or_no_memory(&rt, status, out.as_slice(), err.as_slice());
+    text_or_no_memory(&rt, ANSWERS, status, out.as_slice(), err.as_slice());
+}
+
+#[test]
+fn run_check_refused_in_turn(rt: HostRuntime) {
+    let mut out = Held::new();
+    let mut err = Held::new();
+    let status = run_check(rt.alloc(), POLICY.as_bytes(), &mut out, &mut err);
+    text_or_no_memory(&rt, COUNTS, status, out.as_slice(), err.as_slice());
 }

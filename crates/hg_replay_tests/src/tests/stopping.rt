@@ -2,7 +2,10 @@
 
 use crate::tests::fakes::{Full, Limited};
 use crate::tests::running::{ANSWERS, POLICY, TRACE};
-use hg_replay::{Status, run_texts};
+use crate::tests::worked::{DELIVERED, SHARED};
+use hg_policy::read_policy;
+use hg_replay::{ReplayFault, Status, replay, run_texts};
+use hg_trace::{Trace, read_trace};
 use std::alloc::Global;
 use std::process::Abort;
 
@@ -14,18 +17,23 @@ fn front(text: &str, bytes: usize) -> &[u8] {
 
 /// On a writer that stops after so many bytes a front of the text is written, and no write is tried
 /// after the one that stopped.
-pub fn stops(
+pub fn stops(rt: &impl Abort, alloc: Global, trace: &str, text: &str, out: Limited, left: usize) {
+    stops_under(rt, alloc, POLICY, (trace, text), out, left);
+}
+
+/// The same under another policy.
+fn stops_under(
     rt: &impl Abort,
     alloc: Global,
-    trace: &str,
-    text: &str,
+    policy: &str,
+    (trace, text): (&str, &str),
     mut out: Limited,
     left: usize,
 ) {
     let mut err = Vec::new(alloc);
     let status = run_texts(
         alloc,
-        POLICY.as_bytes(),
+        policy.as_bytes(),
         trace.as_bytes(),
         &mut out,
         &mut err,
@@ -74,4 +82,35 @@ fn failed_write_is_the_last(rt: HostRuntime) {
         let out = Limited::new(rt.alloc(), 0, usize::MAX, fails);
         stops(&rt, rt.alloc(), TRACE, ANSWERS, out, 0);
     }
+}
+
+/// The lines of a trace.
+fn read<'a>(rt: &impl Abort, alloc: Global, text: &'a str) -> Trace<'a> {
+    read_trace(alloc, text.as_bytes()).expect(rt, "a trace")
+}
+
+/// On a writer that stops after so many bytes a replay tells so, and has written these.
+fn replay_stops(rt: &impl Abort, alloc: Global, trace: &Trace, text: &str, left: usize) {
+    let policy = read_policy(alloc, SHARED.as_bytes()).expect(rt, "a policy");
+    let mut out = Limited::new(alloc, left, 1, true);
+    let ended = replay(alloc, policy, trace, &mut out);
+    assert!(rt; matches!(ended, Err(ReplayFault::Write)), "at {left}");
+    assert!(rt; out.held.as_slice() == front(text, left), "at {left}");
+    assert!(rt; out.late == 0, "at {left}");
+    drop(out);
+}
+
+/// A writer that takes a byte a call and fails after each number of bytes: a replay and a run stop
+/// there.
+#[test]
+fn write_stops(rt: HostRuntime) {
+    let (lines, text) = DELIVERED;
+    let trace = read(&rt, rt.alloc(), lines);
+    assert!(&rt; text.len() == 67);
+    for left in 0..67usize {
+        replay_stops(&rt, rt.alloc(), &trace, text, left);
+        let out = Limited::new(rt.alloc(), left, 1, true);
+        stops_under(&rt, rt.alloc(), SHARED, DELIVERED, out, left);
+    }
+    drop(trace);
 }
