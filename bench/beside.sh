@@ -73,6 +73,7 @@ prove() {
 # NAME COMMAND..: one more program.
 names=()
 declare -A command
+# shellcheck disable=SC2034 # for the commands
 program() { names+=("$1") && command[$1]="${*:2}"; }
 
 # Builds what a program is timed beside: glibc's malloc and mimalloc want `cc` (and Debian's

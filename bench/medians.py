@@ -58,6 +58,6 @@ print("\ncase      beside              ratio   least    most    must         aim
 for case, name, peer_case, peer, sign, must, *aim in goals:
     if (case, name) in times and (peer_case, peer) in times:
         found = ratios(case, name, peer_case, peer)
-        beside = peer if peer_case == case else peer_case if peer == name else f"{peer} {peer_case}"
+        beside = peer if peer_case == case else f"{peer} {peer_case}"
         print(f"{case:10}{beside:16}{statistics.median(found):9.2f}"
               f"{min(found):8.2f}{max(found):8.2f}   {sign} {must:>6}   {' '.join(aim):>6}")
