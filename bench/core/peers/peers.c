@@ -32,25 +32,26 @@
 #define FREE free
 #endif
 
-enum { LIVE = 2000, ORDER = 4096, LIFO = 100, ROUND = 2000, MEMORY = 174080 };
+enum { LIVE = 2000, ORDER = 4096, LIFO = 100, ROUND = 2000, MEMORY = 174080, BESIDE = 2500, MOST = 16 };
 
-static uint64_t state = 0x2545f4914f6cdd1du;
+#define SEED 0x2545f4914f6cdd1du
+static uint64_t state = SEED;
 static uint64_t *live[LIVE];
 static uint64_t *kept[MEMORY];
 static uint16_t order[ORDER];
 
 // xorshift, the same numbers as in the other programs
-static uint64_t next(void) {
-    state ^= state << 13;
-    state ^= state >> 7;
-    state ^= state << 17;
-    return state;
+static uint64_t next(uint64_t *from) {
+    *from ^= *from << 13;
+    *from ^= *from >> 7;
+    *from ^= *from << 17;
+    return *from;
 }
 
-static size_t block(void) { return (next() >> 32) % LIVE; }
+static size_t block(void) { return (next(&state) >> 32) % LIVE; }
 
-static size_t bytes(void) {
-    uint64_t number = next(), low = 8u << ((number >> 48) % 6);
+static size_t bytes(uint64_t *from) {
+    uint64_t number = next(from), low = 8u << ((number >> 48) % 6);
     return low + ((number >> 20) & (low - 1));
 }
 
@@ -70,7 +71,7 @@ static uint64_t now(void) { return clock_of(CLOCK_THREAD_CPUTIME_ID); }
 
 static void fill(bool mixed) {
     for (size_t i = 0; i < LIVE; i++) {
-        live[i] = give(mixed ? bytes() : 24);
+        live[i] = give(mixed ? bytes(&state) : 24);
         *live[i] = i;
     }
     for (size_t i = 0; i < ORDER; i++) order[i] = (uint16_t)block();
@@ -120,7 +121,7 @@ static uint64_t churn(uint64_t count) {
     for (uint64_t i = 0; i < count; i++) {
         size_t at = block();
         FREE(live[at]);
-        live[at] = give(bytes());
+        live[at] = give(bytes(&state));
     }
     return count;
 }
@@ -169,6 +170,33 @@ static uint64_t remote(uint64_t count, size_t batch) {
     return giving + freeing - before;
 }
 
+// A thread's own blocks, and what it did.
+struct churner {
+    pthread_t thread;
+    pthread_barrier_t *gate;
+    uint64_t state, span, done, time, spent;
+    uint64_t *live[BESIDE];
+    char apart[128];
+};
+
+static void *churner(void *given) {
+    struct churner *own = given;
+    for (size_t i = 0; i < BESIDE; i++) *(own->live[i] = give(bytes(&own->state))) = i;
+    pthread_barrier_wait(own->gate);
+    uint64_t start = clock_of(CLOCK_MONOTONIC), begun = now();
+    do {
+        for (int i = 0; i < ORDER; i++) {
+            size_t at = (next(&own->state) >> 32) % BESIDE;
+            FREE(own->live[at]);
+            own->live[at] = give(bytes(&own->state));
+        }
+        own->done += ORDER;
+        own->time = clock_of(CLOCK_MONOTONIC) - start;
+    } while (own->time < own->span);
+    own->spent = now() - begun;
+    return own;
+}
+
 static uint64_t resident(void) {
     long all, pages;
     FILE *f = fopen("/proc/self/statm", "r");
@@ -208,9 +236,31 @@ static void run_remote(const char *name, size_t batch, uint64_t span, uint64_t o
     tell(name, (double)spent / (double)done, done);
 }
 
+// The churn in so many threads: the nanoseconds in which all of them together do one operation, by
+// the clock, and those that one operation takes a processor.
+static void run_scale(unsigned threads, uint64_t span) {
+    static struct churner all[MOST];
+    pthread_barrier_t gate;
+    if (threads < 1 || threads > MOST || pthread_barrier_init(&gate, NULL, threads)) exit(1);
+    uint64_t done = 0, time = 0, spent = 0;
+    for (unsigned i = 0; i < threads; i++) {
+        all[i].gate = &gate, all[i].state = SEED, all[i].span = span;
+        if (pthread_create(&all[i].thread, NULL, churner, &all[i])) exit(1);
+    }
+    for (unsigned i = 0; i < threads; i++) {
+        pthread_join(all[i].thread, NULL);
+        done += all[i].done, time += all[i].time, spent += all[i].spent;
+    }
+    printf("%s scale %u %.2f %llu\n", NAME, threads, (double)time / threads / (double)done,
+           (unsigned long long)done);
+    printf("%s scalecpu %u %.2f %llu\n", NAME, threads, (double)spent / (double)done,
+           (unsigned long long)done);
+}
+
 int main(int count, char **words) {
-    if (count < 4 || strcmp(words[2], "1")) {
-        fputs("usage: peers CASE 1 MS [OPS]\n", stderr);
+    bool scales = count > 3 && !strcmp(words[1], "scale");
+    if (count < 4 || (strcmp(words[2], "1") && !scales)) {
+        fputs("usage: peers CASE THREADS MS [OPS]\n", stderr);
         return 2;
     }
     const char *name = words[1];
@@ -219,6 +269,7 @@ int main(int count, char **words) {
     if (!strcmp(name, "large16")) return run(name, large16, 64, span, ops), 0;
     if (!strcmp(name, "large64")) return run(name, large64, 64, span, ops), 0;
     if (!strcmp(NAME, "memset")) return 3;
+    if (scales) return run_scale((unsigned)strtoul(words[2], NULL, 10), span), 0;
     if (!strcmp(name, "mem")) {
         memset(kept, 1, sizeof kept);
         uint64_t before = resident();
@@ -235,6 +286,7 @@ int main(int count, char **words) {
     else if (!strcmp(name, "write")) run(name, writes, ORDER, span, ops);
     else if (!strcmp(name, "remote")) run_remote(name, ROUND, span, ops);
     else if (!strcmp(name, "remote64")) run_remote(name, 64, span, ops);
+    else if (!strcmp(name, "remote256")) run_remote(name, 256, span, ops);
     else return 3;
     return 0;
 }

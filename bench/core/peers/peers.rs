@@ -6,10 +6,12 @@
 use sharded_slab::Slab;
 use slotmap::{DefaultKey, SlotMap};
 use std::hint::black_box;
+use std::sync::Barrier;
 use std::sync::atomic::{AtomicU64, AtomicUsize, Ordering};
 use std::time::{Duration, Instant};
 
 const LIVE: usize = 2_000;
+const BESIDE: usize = 2_500;
 const ORDER: usize = 4_096;
 const LIFO: usize = 100;
 const ROUND: usize = 2_000;
@@ -58,6 +60,12 @@ trait Store: Sync {
 
 struct Sharded<const WORDS: usize>(Slab<[AtomicU64; WORDS]>);
 
+impl<const WORDS: usize> Sharded<WORDS> {
+    fn insert(&self) -> usize {
+        self.0.insert([const { AtomicU64::new(0) }; WORDS]).unwrap()
+    }
+}
+
 impl<const WORDS: usize> Store for Sharded<WORDS> {
     type Key = usize;
 
@@ -66,7 +74,7 @@ impl<const WORDS: usize> Store for Sharded<WORDS> {
     }
 
     fn give(&mut self) -> usize {
-        self.0.insert([const { AtomicU64::new(0) }; WORDS]).unwrap()
+        self.insert()
     }
 
     fn free(&mut self, key: usize) -> bool {
@@ -332,6 +340,49 @@ fn remote(span: Span, batch: usize) -> (Duration, u64) {
     })
 }
 
+/// What a thread did, by the clock and by the processor.
+struct Ended {
+    done: u64,
+    time: Duration,
+    spent: Duration,
+}
+
+/// A thread's own blocks of slabs that all share, until the span is over.
+fn churn_shared(slabs: &ShardedSizes, gate: &Barrier, span: Span) -> Ended {
+    let mut random = Random::new();
+    let mut live: Vec<_> = (0..BESIDE).map(|_| slabs.insert(random.bytes())).collect();
+    gate.wait();
+    let (start, begun, mut done) = (Instant::now(), now(), 0);
+    loop {
+        for _ in 0..ORDER {
+            let block = &mut live[(random.next() >> 32) as usize % BESIDE];
+            assert!(slabs.remove(*block));
+            *block = slabs.insert(random.bytes());
+        }
+        done += ORDER as u64;
+        let time = start.elapsed();
+        if span.is_over(time, done) {
+            return Ended { done, time, spent: now() - begun };
+        }
+    }
+}
+
+/// The churn in so many threads: the nanoseconds in which all of them together do one operation, by
+/// the clock, and those that one operation takes a processor.
+fn scale(threads: usize, span: Span) {
+    let (slabs, gate) = (ShardedSizes::new(), Barrier::new(threads));
+    let ended: Vec<Ended> = std::thread::scope(|scope| {
+        let run = || scope.spawn(|| churn_shared(&slabs, &gate, span));
+        let running: Vec<_> = (0..threads).map(|_| run()).collect();
+        running.into_iter().map(|thread| thread.join().unwrap()).collect()
+    });
+    let done = ended.iter().map(|it| it.done).sum::<u64>();
+    let time = ended.iter().map(|it| it.time).sum::<Duration>().as_nanos() as f64;
+    let spent = ended.iter().map(|it| it.spent).sum::<Duration>().as_nanos() as f64;
+    println!("sharded-slab scale {threads} {:.2} {done}", time / threads as f64 / done as f64);
+    println!("sharded-slab scalecpu {threads} {:.2} {done}", spent / done as f64);
+}
+
 fn of_store<S: Store, M: Mixed>(case: &str, span: Span) -> Option<(Duration, u64)> {
     match case {
         "pair" => Some(pair::<S>(span)),
@@ -352,17 +403,49 @@ type ShardedSizes = Sizes<
     Sharded<32>,
     Sharded<64>,
 >;
+
+impl ShardedSizes {
+    fn insert(&self, bytes: u64) -> (u32, usize) {
+        let power = power(bytes);
+        let key = match power {
+            0 => self.0.insert(),
+            1 => self.1.insert(),
+            2 => self.2.insert(),
+            3 => self.3.insert(),
+            4 => self.4.insert(),
+            5 => self.5.insert(),
+            _ => self.6.insert(),
+        };
+        (power, key)
+    }
+
+    fn remove(&self, (power, key): (u32, usize)) -> bool {
+        match power {
+            0 => self.0.0.remove(key),
+            1 => self.1.0.remove(key),
+            2 => self.2.0.remove(key),
+            3 => self.3.0.remove(key),
+            4 => self.4.0.remove(key),
+            5 => self.5.0.remove(key),
+            _ => self.6.0.remove(key),
+        }
+    }
+}
+
 type SlotSizes = Sizes<Slots<1>, Slots<2>, Slots<4>, Slots<8>, Slots<16>, Slots<32>, Slots<64>>;
 
 fn main() {
     let words: Vec<String> = std::env::args().skip(1).collect();
     let [program, case, threads, millis, rest @ ..] = &words[..] else {
-        eprintln!("usage: peers PROGRAM CASE 1 MS [OPS]");
+        eprintln!("usage: peers PROGRAM CASE THREADS MS [OPS]");
         std::process::exit(2);
     };
     let ops = rest.first().map_or(0, |ops| ops.parse().unwrap());
     let span = Span { time: Duration::from_millis(millis.parse().unwrap()), ops };
     let is_sharded = program == "sharded-slab";
+    if case == "scale" && is_sharded {
+        return scale(threads.parse().unwrap(), span);
+    }
     if case == "mem" {
         let (bytes, blocks) = if is_sharded { mem::<Sharded<3>>() } else { mem::<Slots<3>>() };
         println!("{program} {case} {threads} {bytes:.2} {blocks}");
@@ -371,6 +454,7 @@ fn main() {
     let ran = match (is_sharded, case.as_str()) {
         (true, "remote") => Some(remote(span, ROUND)),
         (true, "remote64") => Some(remote(span, 64)),
+        (true, "remote256") => Some(remote(span, 256)),
         (true, case) => of_store::<Sharded<3>, ShardedSizes>(case, span),
         (false, case) => of_store::<Slots<3>, SlotSizes>(case, span),
     };
