@@ -1,6 +1,6 @@
 -- Workers in the places of their numbers: one more, and one put there.
 use Rattle.std.proofs.Common.{◌≡◌, ℕ, zero, suc, ◌+◌, ◌<◌, true, List, [], ◌∷◌, ◌++◌, Option, Some, None}
-use Rattle.std.proofs.Common.{length, refl, sym, ap, subst, ◌∙◌, arith, slice_get, slice_set}
+use Rattle.std.proofs.Common.{length, refl, ap, subst, ◌∙◌, arith, slice_get, slice_set}
 use Rattle.std.proofs.lemmas.Option.{same_Some, none-some}
 use Rattle.hg_service.specs.declared.worker.Worker.{Worker}
 use Rattle.hg_service.specs.Ready.{AreReady, IsNewOwn, is_ready}

@@ -1,4 +1,4 @@
-use Rattle.std.proofs.Common.{◌≡◌, ◌∙◌, [], sym, Some}
+use Rattle.std.proofs.Common.{◌≡◌, ◌∙◌, [], sym}
 use Rattle.std.proofs.lemmas.List.{length-set}
 use Rattle.hg_service.proofs.Places.{put_each}
 use Rattle.hg_service.proofs.left.Left.put.Goals as goal
