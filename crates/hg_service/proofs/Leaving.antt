@@ -66,13 +66,14 @@ module _ {S : Type 0} (number : S → ℕ) where
       → ((k : ℕ) → k < n → is_held number old k ≡ false) → is_held number new n ≡ false
       → ((other : ℕ) → other ≢ n → segment_in number new other ≡ segment_in number old other)
       → (k : ℕ) → k < n + 1 → is_held number new k ≡ false
-  gone_more n old new so_far gone others k below = elim (cases_Bool (k == n)) as (λ _. is_held number new k ≡ false) [
-    | inl same ↦ subst (λ j. is_held number new j ≡ false) (sym (eqb-true k n same)) gone
-    | inr differs ↦
-        let apart : k ≢ n = λ same.
-        let bad : true ≡ false = sym (eq-eqb k n same) ∙ differs in absurd (cc) in
-        ap is_some (others k apart) ∙ so_far k (omega (arith, below, apart))
-  ]
+  gone_more n old new so_far gone others k below =
+      elim (cases_Bool (k == n)) as (λ _. is_held number new k ≡ false) [
+        | inl same ↦ subst (λ j. is_held number new j ≡ false) (sym (eqb-true k n same)) gone
+        | inr differs ↦
+            let apart : k ≢ n = λ same.
+            let bad : true ≡ false = sym (eq-eqb k n same) ∙ differs in absurd (cc) in
+            ap is_some (others k apart) ∙ so_far k (omega (arith, below, apart))
+      ]
 
   first_held : (one : Kept S) (segments : List (Kept S))
       → is_held number (one ∷ segments) (number one.slots) ≡ true
