@@ -3,3 +3,4 @@ mod damaged_parts;
 mod each_step;
 mod policies;
 mod refused;
+mod seeded;

@@ -15,7 +15,7 @@ fn holds<R: Abort, T: PartsTrial>(rt: &R, alloc: Global, trial: &T) {
 }
 
 /// The core that the parts become.
-fn closed<N: ServiceName, R: Abort>(rt: &R, alloc: Global, parts: CallerLocked<N>) -> Core {
+pub fn closed<N: ServiceName, R: Abort>(rt: &R, alloc: Global, parts: CallerLocked<N>) -> Core {
     let Ok(core) = parts.close(alloc) else {
         panic!(rt; "they don't close")
     };

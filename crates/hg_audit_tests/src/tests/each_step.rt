@@ -1,9 +1,11 @@
 //! Lists of events of two workers, given to two cores from their opening. One of them is taken
 //! apart after each event, and made again.
 
+ghost use Rattle.hg_audit.specs.Handed.{IsComplete};
+
 use crate::tests::asked::{Asked, Block, Row, Told, answer, event};
 use crate::tests::policies::{LARGE_BLOCKS, ONE_LIFE, TWO_WORKERS, policy_of};
-use hg_core::{AuditRoom, Core};
+use hg_core::{AuditRoom, Core, Parts};
 use hg_machine::{Answer, Event, Rule};
 use hg_place::Actor;
 use std::alloc::Global;
@@ -30,7 +32,14 @@ fn opened(rt: &impl Abort, alloc: Global, text: &str) -> Core {
 
 /// The core that is made of a core's parts, in room that is asked for.
 fn audited(rt: &impl Abort, alloc: Global, core: Core) -> Core {
-    match Core::audit(alloc, core.into_parts()) {
+    made_of(rt, alloc, core.into_parts())
+}
+
+/// The core that is made of parts.
+pub fn made_of(rt: &impl Abort, alloc: Global, parts: Parts) -> Core
+    requires { IsComplete parts }
+{
+    match Core::audit(alloc, parts) {
         Ok(core) => core,
         Err(refused) => {
             drop(refused);
@@ -53,7 +62,7 @@ fn audited_in(rt: &impl Abort, alloc: Global, core: Core) -> Core {
 }
 
 /// What a core answers to an event of one of its workers.
-fn step(rt: &impl Abort, core: &mut Core, worker: u8, event: Event) -> Answer {
+pub fn step(rt: &impl Abort, core: &mut Core, worker: u8, event: Event) -> Answer {
     assert!(rt; worker < core.policy().workers());
     core.step(worker, event)
 }
