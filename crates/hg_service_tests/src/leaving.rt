@@ -1,6 +1,9 @@
 //! Workers that are taken, that leave, and that are dropped.
 
-use crate::services::{ALICE, MAIN, Trial, block, both, tried};
+use crate::services::{
+    ALICE, MAIN, Trial, answers, block, both, free, is_gone, read, refill, take, tried, worker,
+    write,
+};
 use hg_machine::Answer;
 use hg_service::Service;
 use hg_worker::ServiceName;
@@ -11,15 +14,15 @@ struct TakenOnce;
 
 impl Trial for TakenOnce {
     fn go<N: ServiceName, R: Wait + Abort>(&self, rt: &R, service: &mut Service<N>) {
-        assert!(rt; service.worker(2).is_none());
-        assert!(rt; service.worker(255).is_none());
-        let one = service.worker(0).expect(rt, "worker 0");
-        assert!(rt; service.worker(0).is_none());
+        assert!(rt; is_gone(service, 2));
+        assert!(rt; is_gone(service, 255));
+        let one = worker(rt, service, 0);
+        assert!(rt; is_gone(service, 0));
         one.leave(rt);
-        assert!(rt; service.worker(0).is_none());
+        assert!(rt; is_gone(service, 0));
         assert_eq!(rt; service.policy().workers(), 2);
-        drop(service.worker(1));
-        assert!(rt; service.worker(1).is_none());
+        drop(worker(rt, service, 1));
+        assert!(rt; is_gone(service, 1));
     }
 }
 
@@ -36,10 +39,10 @@ impl Trial for LeftSent {
         let (mut one, mut other) = both(rt, service);
         let x = block(rt, &mut one);
         let y = block(rt, &mut one);
-        assert_eq!(rt; other.own.free(ALICE, x), Answer::Parted);
+        answers(rt, &mut other, free(ALICE, x), Answer::Parted);
         other.leave(rt);
-        assert_eq!(rt; one.take(rt, 0), Answer::Taken(1));
-        assert_eq!(rt; one.own.free(ALICE, y), Answer::Done);
+        answers(rt, &mut one, take(0), Answer::Taken(1));
+        answers(rt, &mut one, free(ALICE, y), Answer::Done);
         drop(one);
     }
 }
@@ -56,13 +59,13 @@ impl Trial for LeftSegments {
     fn go<N: ServiceName, R: Wait + Abort>(&self, rt: &R, service: &mut Service<N>) {
         let (mut one, mut other) = both(rt, service);
         let x = block(rt, &mut one);
-        assert_eq!(rt; one.own.write(ALICE, x, 0, 7), Answer::Done);
-        assert_eq!(rt; one.refill(rt, MAIN), Answer::Refilled(1));
+        answers(rt, &mut one, write(ALICE, x, 7), Answer::Done);
+        answers(rt, &mut one, refill(MAIN), Answer::Refilled(1));
         one.leave(rt);
-        assert_eq!(rt; other.refill(rt, MAIN), Answer::Refilled(0));
-        assert_eq!(rt; other.own.read(ALICE, x, 0), Answer::Value(7));
-        assert_eq!(rt; other.refill(rt, MAIN), Answer::Refilled(1));
-        assert_eq!(rt; other.refill(rt, MAIN), Answer::NoSegment);
+        answers(rt, &mut other, refill(MAIN), Answer::Refilled(0));
+        answers(rt, &mut other, read(ALICE, x), Answer::Value(7));
+        answers(rt, &mut other, refill(MAIN), Answer::Refilled(1));
+        answers(rt, &mut other, refill(MAIN), Answer::NoSegment);
         drop(other);
     }
 }

@@ -2,6 +2,8 @@
 #![tactic(auto)]
 
 #[cfg(test)]
+mod in_threads;
+#[cfg(test)]
 mod kept_lists;
 #[cfg(test)]
 mod leaving;

@@ -2,7 +2,9 @@
 
 ghost use Rattle.std.specs.Prelude.{◌≤◌, ◌<◌};
 
-use crate::services::{ALICE, BOB, MAIN, NOWHERE, Trial, answer, tried};
+use crate::services::{
+    ALICE, BOB, MAIN, NOWHERE, Trial, answers, free, read, refill, take, tried, worker, write,
+};
 use hg_machine::{Answer, Event, Rule};
 use hg_place::{Actor, Handle, Place};
 use hg_service::Service;
@@ -35,35 +37,6 @@ fn alloc(actor: Actor, bytes: u64) -> Event {
     }
 }
 
-fn free(actor: Actor, handle: Handle) -> Event {
-    Event::Free { actor, handle }
-}
-
-fn read(actor: Actor, handle: Handle) -> Event {
-    Event::Read {
-        actor,
-        handle,
-        index: 0,
-    }
-}
-
-fn write(actor: Actor, handle: Handle, value: u64) -> Event {
-    Event::Write {
-        actor,
-        handle,
-        index: 0,
-        value,
-    }
-}
-
-fn refill(arena: u8) -> Event {
-    Event::Refill { arena }
-}
-
-fn take(segment: u8) -> Event {
-    Event::Take { segment }
-}
-
 fn abandon(segment: u8) -> Event {
     Event::Abandon { segment }
 }
@@ -76,14 +49,13 @@ struct Rows<'a> {
 
 impl<'a> Trial for Rows<'a> {
     fn go<N: ServiceName, R: Wait + Abort>(&self, rt: &R, service: &mut Service<N>) {
-        let mut one = service.worker(0).expect(rt, "worker 0");
-        let mut other = service.worker(1).expect(rt, "worker 1");
+        let mut one = worker(rt, service, 0);
+        let mut other = worker(rt, service, 1);
         for (number, event, wanted) in self.rows {
-            let told = match *number {
-                0 => answer(rt, &mut one, *event),
-                _ => answer(rt, &mut other, *event),
-            };
-            assert_eq!(rt; told, *wanted);
+            match *number {
+                0 => answers(rt, &mut one, *event, *wanted),
+                _ => answers(rt, &mut other, *event, *wanted),
+            }
         }
         drop(one);
         drop(other);

@@ -1,18 +1,13 @@
 //! What workers in threads send to the holder of a segment: no list refuses it, and all of it comes
 //! home.
 
-ghost use Rattle.std.specs.Prelude.{◌≡◌, length};
-ghost use Rattle.hg_table.specs.Named.{table_of};
-
-use crate::services::{ALICE, MAIN, block, made};
-use hg_machine::Answer;
+use crate::in_threads::{Tried, in_threads};
+use crate::services::{ALICE, MAIN, answers, block, free, refill, worker};
+use hg_machine::{Answer, Event};
 use hg_place::Handle;
-use hg_policy::Policy;
 use hg_service::{Service, Worker};
-use hg_table::LifeTable;
 use hg_worker::ServiceName;
 use std::alloc::Global;
-use std::marker::Brand;
 use std::process::Abort;
 use std::sync::Wait;
 use std::thread::{Threads, join};
@@ -49,19 +44,24 @@ fn free_and_send<N: ServiceName, R: Wait + Abort>(
     blocks: &[Handle],
 ) {
     for block in blocks {
-        assert_eq!(rt; worker.own.free(ALICE, *block), Answer::Parted);
-        assert_eq!(rt; worker.deliver(rt), Answer::Done);
+        answers(rt, worker, free(ALICE, *block), Answer::Parted);
+        answers(rt, worker, Event::Deliver, Answer::Done);
     }
+}
+
+/// The holder takes in; how many came home.
+fn taken<N: ServiceName, R: Wait + Abort>(rt: &R, holder: &mut Worker<N>) -> u32 {
+    let Answer::Taken(count) = holder.take(rt, 0) else {
+        panic!(rt; "not held")
+    };
+    count
 }
 
 /// What comes home while others send.
 fn taken_meanwhile<N: ServiceName, R: Wait + Abort>(rt: &R, holder: &mut Worker<N>) -> u32 {
     let mut count = 0u32;
     for _ in 0..TAKES {
-        let Answer::Taken(n) = holder.take(rt, 0) else {
-            panic!(rt; "not held")
-        };
-        count = count.saturating_add(n);
+        count = count.saturating_add(taken(rt, holder));
     }
     count
 }
@@ -96,15 +96,13 @@ fn take_and_send<N: ServiceName + Send + Sync, R: Threads + Wait + Abort + Sync>
     meanwhile
 }
 
-/// Three workers free blocks of a fourth and send them, while it takes in: as many come home as were
-/// sent, and none is left.
-fn round<N: ServiceName + Send + Sync, R: Threads + Wait + Abort + Sync>(
+/// Three workers free blocks of a fourth and send them, while it takes in; how many came home.
+fn sent_by_three<N: ServiceName + Send + Sync, R: Threads + Wait + Abort + Sync>(
     rt: &R,
     alloc: Global,
     holder: &mut Worker<N>,
     others: (&mut Worker<N>, &mut Worker<N>, &mut Worker<N>),
-) {
-    assert_eq!(rt; holder.refill(rt, MAIN), Answer::Refilled(0));
+) -> u32 {
     let (a, b, c) = others;
     let of_a = blocks(rt, alloc, holder);
     let of_b = blocks(rt, alloc, holder);
@@ -114,33 +112,37 @@ fn round<N: ServiceName + Send + Sync, R: Threads + Wait + Abort + Sync>(
         || take_and_send(rt, holder, a, of_a.as_slice()),
         || both_send(rt, (b, of_b.as_slice()), (c, of_c.as_slice())),
     );
-    let Answer::Taken(then) = holder.take(rt, 0) else {
-        panic!(rt; "not held")
-    };
-    assert_eq!(rt; meanwhile.saturating_add(then), 3 * BLOCKS);
-    assert_eq!(rt; holder.own.collect_own(), Answer::Pages(1));
-    assert_eq!(rt; holder.abandon(rt, 0), Answer::Done);
     drop(of_a);
     drop(of_b);
     drop(of_c);
+    meanwhile
 }
 
-fn by_turns<N: ServiceName + Send + Sync, R: Threads + Wait + Abort + Sync>(
+/// As many come home as were sent, and none is left.
+fn round<N: ServiceName + Send + Sync, R: Threads + Wait + Abort + Sync>(
     rt: &R,
     alloc: Global,
-    policy: Policy,
-    table: LifeTable,
-)
-    requires table { table_of table ≡ N.table }
-    requires policy { policy ≡ N.policy }
-    requires segments { table.segments ≡ length policy.segments }
-    requires workers { table.workers ≡ policy.workers }
-{
-    let mut service = Service::<N>::open(alloc, policy, table).expect(rt, "a service");
-    let mut w0 = service.worker(0).expect(rt, "worker 0");
-    let mut w1 = service.worker(1).expect(rt, "worker 1");
-    let mut w2 = service.worker(2).expect(rt, "worker 2");
-    let mut w3 = service.worker(3).expect(rt, "worker 3");
+    holder: &mut Worker<N>,
+    others: (&mut Worker<N>, &mut Worker<N>, &mut Worker<N>),
+) {
+    answers(rt, holder, refill(MAIN), Answer::Refilled(0));
+    let meanwhile = sent_by_three(rt, alloc, holder, others);
+    let then = taken(rt, holder);
+    assert_eq!(rt; meanwhile.saturating_add(then), 3 * BLOCKS);
+    answers(rt, holder, Event::Collect, Answer::Pages(1));
+    answers(rt, holder, Event::Abandon { segment: 0 }, Answer::Done);
+}
+
+/// Each of four workers holds the segment by turns.
+pub fn by_turns<N: ServiceName + Send + Sync, R: Threads + Wait + Abort + Sync>(
+    rt: &R,
+    alloc: Global,
+    service: &mut Service<N>,
+) {
+    let mut w0 = worker(rt, service, 0);
+    let mut w1 = worker(rt, service, 1);
+    let mut w2 = worker(rt, service, 2);
+    let mut w3 = worker(rt, service, 3);
     for _ in 0..ROUNDS {
         round(rt, alloc, &mut w0, (&mut w1, &mut w2, &mut w3));
         round(rt, alloc, &mut w1, (&mut w2, &mut w3, &mut w0));
@@ -151,14 +153,11 @@ fn by_turns<N: ServiceName + Send + Sync, R: Threads + Wait + Abort + Sync>(
     w1.leave(rt);
     w2.leave(rt);
     w3.leave(rt);
-    drop(service);
 }
 
 /// Whoever holds the segment, and however the threads run: a delivery is never busy, and no place
 /// that was sent is passed over.
 #[test]
 fn all_that_is_sent_comes_home(rt: HostRuntime) {
-    let alloc = rt.alloc();
-    let (policy, table) = made(&rt, alloc, TURNS);
-    by_turns::<Brand, _>(&rt, alloc, policy, table);
+    in_threads(&rt, rt.alloc(), TURNS, Tried::ByTurns);
 }

@@ -1,6 +1,6 @@
 //! A service, and what is tried on it.
 
-ghost use Rattle.std.specs.Prelude.{◌≡◌, length};
+ghost use Rattle.std.specs.Prelude.{◌≡◌, length, IfSome};
 ghost use Rattle.hg_table.specs.Named.{table_of};
 
 use hg_machine::{Answer, Event};
@@ -31,44 +31,70 @@ arena = [ {name = "main", segments = 2}, {name = "vault", segments = 1, exclusiv
 grant = [ {owner = "alice", to = "bob", rights = ["read", "free"]} ]
 "#;
 
-/// The policy of a document, and a table for it.
-pub fn made<R: Abort>(rt: &R, alloc: Global, document: &str) -> (Policy, LifeTable)
-    ensures segments { result.1.segments ≡ length result.0.segments }
-    ensures workers { result.1.workers ≡ result.0.workers }
-{
-    let policy = read_policy(alloc, document.as_bytes())
-        .ok()
-        .expect(rt, "a policy");
-    let table = LifeTable::new(alloc, &policy).expect(rt, "a table");
-    (policy, table)
-}
-
-/// What is tried on a new service by one thread.
+/// What is tried on a new service. It calls a worker by the functions below, which have no clauses,
+/// so that none of what a call does is carried to the next.
 pub trait Trial {
     fn go<N: ServiceName, R: Wait + Abort>(&self, rt: &R, service: &mut Service<N>);
 }
 
-/// Tries it on a new service of the policy above.
-pub fn tried<R: Wait + Abort, T: Trial>(rt: &R, alloc: Global, trial: &T) {
-    let (policy, table) = made(rt, alloc, DOCUMENT);
-    tried_on::<Brand, R, T>(rt, alloc, policy, table, trial);
+/// A document's policy and a table for it, unless memory is refused.
+pub fn made(alloc: Global, document: &str) -> Option<(Policy, LifeTable)>
+    ensures { IfSome result (λ made. (made.1.segments ≡ length made.0.segments)
+        × (made.1.workers ≡ made.0.workers)) }
+{
+    let policy = read_policy(alloc, document.as_bytes()).ok()?;
+    match LifeTable::new(alloc, &policy) {
+        Ok(table) => Some((policy, table)),
+        Err(_) => None,
+    }
 }
 
-fn tried_on<N: ServiceName, R: Wait + Abort, T: Trial>(
+/// Tries it on a new service of a document's policy. Whether there was memory for one.
+pub fn is_tried<R: Wait + Abort, T: Trial>(
+    rt: &R,
+    alloc: Global,
+    document: &str,
+    trial: &T,
+) -> bool {
+    match made(alloc, document) {
+        Some((policy, table)) => is_tried_on::<Brand, R, T>(rt, alloc, policy, table, trial),
+        None => false,
+    }
+}
+
+fn is_tried_on<N: ServiceName, R: Wait + Abort, T: Trial>(
     rt: &R,
     alloc: Global,
     policy: Policy,
     table: LifeTable,
     trial: &T,
-)
+) -> bool
     requires table { table_of table ≡ N.table }
     requires policy { policy ≡ N.policy }
     requires segments { table.segments ≡ length policy.segments }
     requires workers { table.workers ≡ policy.workers }
 {
-    let mut service = Service::<N>::open(alloc, policy, table).expect(rt, "a service");
+    let Ok(mut service) = Service::<N>::open(alloc, policy, table) else {
+        return false;
+    };
     trial.go(rt, &mut service);
     drop(service);
+    true
+}
+
+/// Tries it on a new service of the policy above.
+pub fn tried<R: Wait + Abort, T: Trial>(rt: &R, alloc: Global, trial: &T) {
+    assert!(rt; is_tried(rt, alloc, DOCUMENT, trial));
+}
+
+/// A worker that nobody has taken yet.
+pub fn worker<N: ServiceName, R: Abort>(rt: &R, service: &mut Service<N>, number: u8) -> Worker<N> {
+    service.worker(number).expect(rt, "a worker")
+}
+
+/// Whether nobody can take the worker of a number.
+pub fn is_gone<N: ServiceName>(service: &mut Service<N>, number: u8) -> bool {
+    service.worker(number).is_none()
 }
 
 /// The two workers, of which the first has taken the first segment of the main arena.
@@ -76,9 +102,9 @@ pub fn both<N: ServiceName, R: Wait + Abort>(
     rt: &R,
     service: &mut Service<N>,
 ) -> (Worker<N>, Worker<N>) {
-    let mut one = service.worker(0).expect(rt, "worker 0");
-    let other = service.worker(1).expect(rt, "worker 1");
-    assert_eq!(rt; one.refill(rt, MAIN), Answer::Refilled(0));
+    let mut one = worker(rt, service, 0);
+    let other = worker(rt, service, 1);
+    answers(rt, &mut one, refill(MAIN), Answer::Refilled(0));
     (one, other)
 }
 
@@ -88,6 +114,45 @@ pub fn block<N: ServiceName, R: Abort>(rt: &R, worker: &mut Worker<N>) -> Handle
         panic!(rt; "no block")
     };
     handle
+}
+
+pub fn free(actor: Actor, handle: Handle) -> Event {
+    Event::Free { actor, handle }
+}
+
+pub fn read(actor: Actor, handle: Handle) -> Event {
+    Event::Read {
+        actor,
+        handle,
+        index: 0,
+    }
+}
+
+pub fn write(actor: Actor, handle: Handle, value: u64) -> Event {
+    Event::Write {
+        actor,
+        handle,
+        index: 0,
+        value,
+    }
+}
+
+pub fn refill(arena: u8) -> Event {
+    Event::Refill { arena }
+}
+
+pub fn take(segment: u8) -> Event {
+    Event::Take { segment }
+}
+
+/// A worker must answer an event so.
+pub fn answers<N: ServiceName, R: Wait + Abort>(
+    rt: &R,
+    worker: &mut Worker<N>,
+    event: Event,
+    wanted: Answer,
+) {
+    assert_eq!(rt; answer(rt, worker, event), wanted);
 }
 
 /// What a worker answers to an event, by its call of that name.

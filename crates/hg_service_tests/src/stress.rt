@@ -1,17 +1,14 @@
 //! Four workers in threads, each with a stream of events of its own on blocks that all hand on.
 
-ghost use Rattle.std.specs.Prelude.{◌≡◌, ◌<◌, length};
-ghost use Rattle.hg_table.specs.Named.{table_of};
+ghost use Rattle.std.specs.Prelude.{◌<◌};
 
-use crate::services::{answer, made};
+use crate::in_threads::{Tried, in_threads};
+use crate::services::{answer, worker};
 use hg_machine::{Answer, Event};
 use hg_place::{Actor, Handle};
-use hg_policy::Policy;
 use hg_service::{Service, Worker};
-use hg_table::LifeTable;
 use hg_worker::ServiceName;
 use std::alloc::{AllocError, Global};
-use std::marker::Brand;
 use std::process::Abort;
 use std::sync::Wait;
 use std::sync::atomic::{AtomicU64, Ordering};
@@ -294,22 +291,15 @@ fn four<N: ServiceName + Send + Sync, R: Threads + Wait + Abort + Sync>(
 }
 
 /// Four workers of a new service at once.
-fn crowd<N: ServiceName + Send + Sync, R: Threads + Wait + Abort + Sync>(
+pub fn crowd<N: ServiceName + Send + Sync, R: Threads + Wait + Abort + Sync>(
     rt: &R,
     alloc: Global,
-    policy: Policy,
-    table: LifeTable,
-)
-    requires table { table_of table ≡ N.table }
-    requires policy { policy ≡ N.policy }
-    requires segments { table.segments ≡ length policy.segments }
-    requires workers { table.workers ≡ policy.workers }
-{
-    let mut service = Service::<N>::open(alloc, policy, table).expect(rt, "a service");
-    let mut w0 = service.worker(0).expect(rt, "worker 0");
-    let mut w1 = service.worker(1).expect(rt, "worker 1");
-    let mut w2 = service.worker(2).expect(rt, "worker 2");
-    let mut w3 = service.worker(3).expect(rt, "worker 3");
+    service: &mut Service<N>,
+) {
+    let mut w0 = worker(rt, service, 0);
+    let mut w1 = worker(rt, service, 1);
+    let mut w2 = worker(rt, service, 2);
+    let mut w3 = worker(rt, service, 3);
     let mut all = four(rt, alloc, &mut w0, &mut w1, &mut w2, &mut w3);
     lives_are_ended_once(rt, &mut all);
     lists_what_lives(rt, alloc, &mut w0, &all);
@@ -321,13 +311,10 @@ fn crowd<N: ServiceName + Send + Sync, R: Threads + Wait + Abort + Sync>(
     w2.leave(rt);
     w3.leave(rt);
     drop(all);
-    drop(service);
 }
 
 /// Four workers at once: each life is ended once, and before they leave, each lists what lives.
 #[test]
 fn four_workers_at_once(rt: HostRuntime) {
-    let alloc = rt.alloc();
-    let (policy, table) = made(&rt, alloc, CROWD);
-    crowd::<Brand, _>(&rt, alloc, policy, table);
+    in_threads(&rt, rt.alloc(), CROWD, Tried::Crowd);
 }

@@ -1,17 +1,11 @@
 //! Two workers of a service, each in a thread of its own.
 
-ghost use Rattle.std.specs.Prelude.{◌≡◌, length};
-ghost use Rattle.hg_table.specs.Named.{table_of};
-
-use crate::services::{ALICE, DOCUMENT, Trial, block, both, made, tried};
+use crate::in_threads::{Tried, in_threads};
+use crate::services::{ALICE, DOCUMENT, Trial, answers, block, both, free, read, tried};
 use hg_machine::{Answer, Rule};
 use hg_place::Handle;
-use hg_policy::Policy;
 use hg_service::{Service, Worker};
-use hg_table::LifeTable;
 use hg_worker::ServiceName;
-use std::alloc::Global;
-use std::marker::Brand;
 use std::process::Abort;
 use std::sync::Wait;
 use std::sync::atomic::{AtomicU64, Ordering};
@@ -54,40 +48,33 @@ fn both_free<N: ServiceName + Send + Sync, R: Threads + Sync>(
     )
 }
 
-fn at_once<N: ServiceName + Send + Sync, R: Threads + Wait + Abort + Sync>(
+/// A worker knows that a block of its own is freed.
+fn knows_freed<N: ServiceName, R: Wait + Abort>(rt: &R, holder: &mut Worker<N>, handle: Handle) {
+    let freed = Answer::Denied(Rule::AlreadyFreed);
+    answers(rt, holder, read(ALICE, handle), freed);
+}
+
+/// Two workers free at once, and each is seen by the other.
+pub fn freed_at_once<N: ServiceName + Send + Sync, R: Threads + Wait + Abort + Sync>(
     rt: &R,
-    alloc: Global,
-    policy: Policy,
-    table: LifeTable,
-)
-    requires table { table_of table ≡ N.table }
-    requires policy { policy ≡ N.policy }
-    requires segments { table.segments ≡ length policy.segments }
-    requires workers { table.workers ≡ policy.workers }
-{
-    let mut service = Service::<N>::open(alloc, policy, table).expect(rt, "a service");
-    let (mut one, mut other) = both(rt, &mut service);
+    service: &mut Service<N>,
+) {
+    let (mut one, mut other) = both(rt, service);
     let a = block(rt, &mut one);
     let b = block(rt, &mut one);
     let (own, away) = both_free(rt, &mut one, &mut other, a, b);
     assert_eq!(rt; own, (Answer::Done, true));
     assert_eq!(rt; away, (Answer::Parted, true));
-    assert_eq!(rt;
-        one.own.read(ALICE, b, 0),
-        Answer::Denied(Rule::AlreadyFreed)
-    );
+    knows_freed(rt, &mut one, b);
     drop(one);
     drop(other);
-    drop(service);
 }
 
 /// Neither of two workers waits for the other: both free while the other has freed and goes on. And
 /// what a thread has freed is freed for the holder, once that thread is joined.
 #[test]
 fn both_workers_at_once(rt: HostRuntime) {
-    let alloc = rt.alloc();
-    let (policy, table) = made(&rt, alloc, DOCUMENT);
-    at_once::<Brand, _>(&rt, alloc, policy, table);
+    in_threads(&rt, rt.alloc(), DOCUMENT, Tried::FreedAtOnce);
 }
 
 /// A block is freed in another thread.
@@ -100,36 +87,23 @@ fn freed_there<N: ServiceName + Send + Sync, R: Threads + Sync>(
     answer
 }
 
-fn after_join<N: ServiceName + Send + Sync, R: Threads + Wait + Abort + Sync>(
+/// What is freed in a thread is freed for the holder.
+pub fn seen_after_join<N: ServiceName + Send + Sync, R: Threads + Wait + Abort + Sync>(
     rt: &R,
-    alloc: Global,
-    policy: Policy,
-    table: LifeTable,
-)
-    requires table { table_of table ≡ N.table }
-    requires policy { policy ≡ N.policy }
-    requires segments { table.segments ≡ length policy.segments }
-    requires workers { table.workers ≡ policy.workers }
-{
-    let mut service = Service::<N>::open(alloc, policy, table).expect(rt, "a service");
-    let (mut one, mut other) = both(rt, &mut service);
+    service: &mut Service<N>,
+) {
+    let (mut one, mut other) = both(rt, service);
     let x = block(rt, &mut one);
     assert_eq!(rt; freed_there(rt, &mut other, x), Answer::Parted);
-    assert_eq!(rt;
-        one.own.read(ALICE, x, 0),
-        Answer::Denied(Rule::AlreadyFreed)
-    );
+    knows_freed(rt, &mut one, x);
     drop(one);
     drop(other);
-    drop(service);
 }
 
 /// What a thread has freed is freed for the holder, once that thread is joined.
 #[test]
 fn parted_is_freed_after_join(rt: HostRuntime) {
-    let alloc = rt.alloc();
-    let (policy, table) = made(&rt, alloc, DOCUMENT);
-    after_join::<Brand, _>(&rt, alloc, policy, table);
+    in_threads(&rt, rt.alloc(), DOCUMENT, Tried::SeenAfterJoin);
 }
 
 struct FreedLive;
@@ -138,7 +112,7 @@ impl Trial for FreedLive {
     fn go<N: ServiceName, R: Wait + Abort>(&self, rt: &R, service: &mut Service<N>) {
         let (mut one, mut other) = both(rt, service);
         let x = block(rt, &mut one);
-        assert_eq!(rt; other.own.free(ALICE, x), Answer::Parted);
+        answers(rt, &mut other, free(ALICE, x), Answer::Parted);
         drop(one);
         drop(other);
     }

@@ -1,27 +1,32 @@
 use hg_place::Handle;
-use std::alloc::{AllocError, Global};
+use std::alloc::Global;
 use std::collections::HashMap;
 use std::process::Abort;
-use std::test::Fail;
+
+/// Whether a handle is displayed as this text.
+fn is_shown(rt: &impl Abort, alloc: Global, handle: Handle, text: &str) -> bool {
+    let shown = format!(in alloc; "{handle}").expect(rt, "memory");
+    let is_shown = shown.as_str() == text;
+    drop(shown);
+    is_shown
+}
 
 /// A handle is displayed as this text, and its word is this; and back.
-fn is_named(rt: &impl Abort, alloc: Global, text: &str, word: u64) -> Result<(), AllocError> {
+fn is_named(rt: &impl Abort, alloc: Global, text: &str, word: u64) {
     let handle = text.parse::<Handle>().expect(rt, "a handle's text");
-    assert_eq!(rt; format!(in alloc; "{handle}")?.as_str(), text);
-    assert_eq!(rt; handle.to_u64(), word);
-    assert_eq!(rt; Handle::from_u64(word), Some(handle));
-    Ok(())
+    assert!(rt; is_shown(rt, alloc, handle, text), "{text}");
+    assert!(rt; handle.to_u64() == word, "{text}");
+    assert!(rt; Handle::from_u64(word) == Some(handle), "{text}");
 }
 
 #[test]
-fn texts_and_words(rt: HostRuntime) -> Result<(), Fail> {
+fn texts_and_words(rt: HostRuntime) {
     let alloc = rt.alloc();
-    is_named(&rt, alloc, "@0.0.0.1", 0x0000_0000_0000_0001)?;
-    is_named(&rt, alloc, "@0.1.3.7", 0x0000_0203_0000_0007)?;
-    is_named(&rt, alloc, "@1.0.0.10", 0x0000_2000_0000_000a)?;
-    is_named(&rt, alloc, "@10.15.0.4294967295", 0x0001_5e00_ffff_ffff)?;
-    is_named(&rt, alloc, "@63.15.511.4294967295", 0x0007_ffff_ffff_ffff)?;
-    Ok(())
+    is_named(&rt, alloc, "@0.0.0.1", 0x0000_0000_0000_0001);
+    is_named(&rt, alloc, "@0.1.3.7", 0x0000_0203_0000_0007);
+    is_named(&rt, alloc, "@1.0.0.10", 0x0000_2000_0000_000a);
+    is_named(&rt, alloc, "@10.15.0.4294967295", 0x0001_5e00_ffff_ffff);
+    is_named(&rt, alloc, "@63.15.511.4294967295", 0x0007_ffff_ffff_ffff);
 }
 
 fn is_no_text(rt: &impl Abort, text: &str) {
@@ -89,13 +94,18 @@ fn order(rt: HostRuntime) {
     is_before(&rt, "@2.0.0.1", "@10.0.0.1");
 }
 
+/// The handle of a word.
+fn of_word(rt: &impl Abort, word: u64) -> Handle {
+    Handle::from_u64(word).expect(rt, "a handle's word")
+}
+
 #[test]
-fn keys(rt: HostRuntime) -> Result<(), Fail> {
-    let one = Handle::from_u64(0x0000_0203_0000_0007).expect(&rt, "a handle's word");
-    let next = Handle::from_u64(0x0000_0203_0000_0008).expect(&rt, "a handle's word");
+fn keys(rt: HostRuntime) {
+    let one = of_word(&rt, 0x0000_0203_0000_0007);
+    let next = of_word(&rt, 0x0000_0203_0000_0008);
     let mut names = HashMap::new(rt.alloc());
-    names.insert(one, "one")?;
-    assert_eq!(rt; names.get(&one).copied(), Some("one"));
-    assert!(rt; names.get(&next).is_none());
-    Ok(())
+    assert!(&rt; names.insert(one, "one").is_ok());
+    assert!(&rt; names.get(&one).copied() == Some("one"));
+    assert!(&rt; names.get(&next).is_none());
+    drop(names);
 }

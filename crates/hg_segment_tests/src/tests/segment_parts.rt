@@ -7,14 +7,13 @@ use std::alloc::Global;
 use std::mem::size_of;
 use std::process::Abort;
 
-/// Segment 5 of arena 1 with its greatest generation, 9, of which no page has a class.
-fn is_new(rt: &impl Abort, segment: &Segment<PlainWords>) {
-    assert_eq!(rt; segment.number(), 5);
-    assert_eq!(rt; segment.arena(), 1);
-    assert_eq!(rt; segment.greatest(), 9);
-    assert_eq!(rt; charge(rt, segment, 63), 0);
-    assert_eq!(rt; segment.charge(64), 0);
-    assert!(rt; have_classes(segment, 0, 0));
+/// Whether it is segment 5 of arena 1 with its greatest generation, 9, and nobody is charged.
+fn is_fifth(rt: &impl Abort, segment: &Segment<PlainWords>) -> bool {
+    segment.number() == 5
+        && segment.arena() == 1
+        && segment.greatest() == 9
+        && charge(rt, segment, 63) == 0
+        && segment.charge(64) == 0
 }
 
 // The segment is there, or memory was refused: for a run in which requests are refused in turn.
@@ -24,7 +23,8 @@ fn segment_refused_in_turn(rt: HostRuntime) {
         return;
     };
     if let Ok(segment) = Segment::new(rt.alloc(), 5, 1, 9, slots) {
-        is_new(&rt, &segment);
+        assert!(&rt; is_fifth(&rt, &segment));
+        assert!(&rt; have_classes(&segment, 0, 0));
         drop(segment);
     }
 }

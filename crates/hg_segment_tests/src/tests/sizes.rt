@@ -52,21 +52,29 @@ fn pages(words: u16) -> u8 {
     }
 }
 
+/// Whether so many words take the class of this number, with blocks of so many words.
+fn has_class(wanted: u64, number: usize, size: u16, places: u16) -> bool {
+    match class_of(wanted) {
+        Some(class) => {
+            block_words(class) == size
+                && usize::from(class_number(class)) == number
+                && per_page(class) == places
+                && pages_of(class) == pages(size)
+        }
+        None => false,
+    }
+}
+
 /// Every number of words from 1 on takes the first class that holds it.
 #[test]
 fn classes(rt: HostRuntime) {
     let mut words = 1u64;
     for (number, (size, places)) in CLASS_ROWS.iter().enumerate() {
         for wanted in words..=u64::from(*size) {
-            match class_of(wanted) {
-                Some(class) => {
-                    assert_eq!(rt; block_words(class), *size, "words for {wanted}");
-                    assert_eq!(rt; usize::from(class_number(class)), number, "for {wanted}");
-                    assert_eq!(rt; per_page(class), *places, "places for {wanted}");
-                    assert_eq!(rt; pages_of(class), pages(*size), "pages for {wanted}");
-                }
-                None => assert!(rt; false, "no class for {wanted} words"),
-            }
+            assert!(rt;
+                has_class(wanted, number, *size, *places),
+                "the class of {wanted} words"
+            );
         }
         words = u64::from(*size) + 1;
     }

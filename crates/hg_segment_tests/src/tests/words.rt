@@ -1,47 +1,99 @@
 use hg_place::SEGMENT_WORDS;
 use hg_words::WordMemory;
+use std::alloc::Global;
+use std::process::Abort;
+
+/// A call on the words of a segment, and what it must give.
+enum Call {
+    Set(usize, u64),
+    // from a word on, so many
+    Zero(usize, usize),
+    Get(usize, u64),
+    // from a word on
+    CopyOut(usize, [u64; 4]),
+}
+
+/// Four words from one on.
+fn copied(rt: &impl Abort, memory: &WordMemory, from: usize) -> [u64; 4] {
+    assert!(rt; from < SEGMENT_WORDS - 4);
+    let mut copied = [9; 4];
+    memory.copy_out(from, &mut copied);
+    copied
+}
+
+/// Makes a call. Whether it gave that.
+fn is_met(rt: &impl Abort, memory: &mut WordMemory, call: &Call) -> bool {
+    match call {
+        Call::Set(at, value) => {
+            assert!(rt; *at < SEGMENT_WORDS);
+            memory.set(*at, *value);
+            true
+        }
+        Call::Zero(from, count) => {
+            assert!(rt; *from < SEGMENT_WORDS && *count <= SEGMENT_WORDS - *from);
+            memory.zero(*from, *count);
+            true
+        }
+        Call::Get(at, expected) => {
+            assert!(rt; *at < SEGMENT_WORDS);
+            memory.get(*at) == *expected
+        }
+        Call::CopyOut(from, expected) => copied(rt, memory, *from) == *expected,
+    }
+}
+
+/// The words of a new segment must give what each call says.
+fn meets(rt: &impl Abort, alloc: Global, calls: &[Call]) {
+    let mut memory = WordMemory::new(alloc).expect(rt, "memory");
+    for (number, call) in calls.iter().enumerate() {
+        assert!(rt; is_met(rt, &mut memory, call), "call {number}");
+    }
+    drop(memory);
+}
 
 // Each call changes the words that it names, at both ends of the memory too.
+static NAMED: [Call; 13] = [
+    Call::Set(0, 7),
+    Call::Set(SEGMENT_WORDS - 1, u64::MAX),
+    Call::Set(10, 3),
+    Call::Set(11, 4),
+    Call::Set(12, 5),
+    Call::Get(0, 7),
+    Call::Get(SEGMENT_WORDS - 1, u64::MAX),
+    Call::Zero(11, 1),
+    Call::CopyOut(9, [0, 3, 0, 5]),
+    Call::Zero(0, SEGMENT_WORDS),
+    Call::Get(0, 0),
+    Call::Get(10, 0),
+    Call::Get(SEGMENT_WORDS - 1, 0),
+];
+
 #[test]
 fn words_named(rt: HostRuntime) {
-    let mut memory = WordMemory::new(rt.alloc()).expect(&rt, "memory");
-    memory.set(0, 7);
-    memory.set(SEGMENT_WORDS - 1, u64::MAX);
-    memory.set(10, 3);
-    memory.set(11, 4);
-    memory.set(12, 5);
-    assert_eq!(&rt; memory.get(0), 7);
-    assert_eq!(&rt; memory.get(SEGMENT_WORDS - 1), u64::MAX);
-    memory.zero(11, 1);
-    let mut copied = [9; 4];
-    memory.copy_out(9, &mut copied);
-    assert_eq!(&rt; copied, [0, 3, 0, 5]);
-    memory.zero(0, SEGMENT_WORDS);
-    assert_eq!(&rt; memory.get(0), 0);
-    assert_eq!(&rt; memory.get(10), 0);
-    assert_eq!(&rt; memory.get(SEGMENT_WORDS - 1), 0);
+    meets(&rt, rt.alloc(), &NAMED);
 }
 
 // What was never written reads as zero, behind all that was and beside it.
+static UNWRITTEN: [Call; 7] = [
+    Call::Get(SEGMENT_WORDS - 1, 0),
+    Call::Zero(5, 100),
+    Call::Set(7, 8),
+    Call::CopyOut(6, [0, 8, 0, 0]),
+    Call::Zero(7, 100),
+    Call::Get(7, 0),
+    Call::Get(100, 0),
+];
+
 #[test]
 fn words_unwritten(rt: HostRuntime) {
-    let mut memory = WordMemory::new(rt.alloc()).expect(&rt, "memory");
-    assert_eq!(&rt; memory.get(SEGMENT_WORDS - 1), 0);
-    memory.zero(5, 100);
-    memory.set(7, 8);
-    let mut copied = [9; 4];
-    memory.copy_out(6, &mut copied);
-    assert_eq!(&rt; copied, [0, 8, 0, 0]);
-    memory.zero(7, 100);
-    assert_eq!(&rt; memory.get(7), 0);
-    assert_eq!(&rt; memory.get(100), 0);
+    meets(&rt, rt.alloc(), &UNWRITTEN);
 }
 
 // The words are there, or memory was refused: for a run in which requests are refused in turn.
 #[test]
 fn refused_in_turn(rt: HostRuntime) {
     if let Ok(memory) = WordMemory::new(rt.alloc()) {
-        assert_eq!(&rt; memory.get(0), 0);
-        assert_eq!(&rt; memory.get(SEGMENT_WORDS - 1), 0);
+        assert!(&rt; memory.get(0) == 0 && memory.get(SEGMENT_WORDS - 1) == 0);
+        drop(memory);
     }
 }

@@ -1,9 +1,0 @@
-use Rattle.hg_table.specs.Named.{table_of}
-use Rattle.hg_service_tests.proofs.memory.parts_tried.Given as goal
-
--- the table that was just made, and its policy
-abbrev pub ghosts-parts_opened-N-TableName : goal.ghosts-parts_opened-N-TableName
-ghosts-parts_opened-N-TableName g a = record { table = table_of a.table }
-
-abbrev pub ghosts-parts_opened-N-ServiceName : goal.ghosts-parts_opened-N-ServiceName
-ghosts-parts_opened-N-ServiceName g a = record { policy = a.policy }
