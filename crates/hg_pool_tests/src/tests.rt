@@ -1,6 +1,6 @@
 ghost use Rattle.hg_place.specs.Lives.{IsLiveWord};
 
-use hg_place::{MAX_SEGMENTS, Place, PlainWords, Standing, pack};
+use hg_place::{MAX_SEGMENTS, Place, PlainWords, SEGMENT_PAGES, Standing, pack};
 use hg_pool::Pool;
 use hg_segment::Segment;
 use hg_size::class_of;
@@ -30,7 +30,7 @@ pub fn put(rt: &impl Abort, pool: &mut Pool<PlainWords>, segment: Segment<PlainW
 }
 
 /// The number of the segment of an arena that comes next.
-pub fn next(pool: &mut Pool<PlainWords>, arena: u8) -> Option<u8> {
+fn next(pool: &mut Pool<PlainWords>, arena: u8) -> Option<u8> {
     let segment = pool.next_of(arena)?;
     let number = segment.number();
     drop(segment);
@@ -45,72 +45,129 @@ fn picked(pool: &mut Pool<PlainWords>, number: u8) -> Option<u8> {
     Some(number)
 }
 
+/// A call on a pool, and what it must be answered.
+pub enum Call {
+    // a segment of an arena comes, and whether a worker held it
+    Put(u8, u8, bool),
+    // an arena
+    Next(u8, Option<u8>),
+    Pick(u8, Option<u8>),
+    Has(u8, bool),
+    First(Option<u8>),
+}
+
+/// Makes a call. Whether it was answered so.
+fn is_met(rt: &impl Abort, alloc: Global, pool: &mut Pool<PlainWords>, call: &Call) -> bool {
+    match call {
+        Call::Put(number, arena, held) => {
+            put(rt, pool, segment(rt, alloc, *number, *arena), *held);
+            true
+        }
+        Call::Next(arena, expected) => next(pool, *arena) == *expected,
+        Call::Pick(number, expected) => picked(pool, *number) == *expected,
+        Call::Has(number, expected) => pool.has(*number) == *expected,
+        Call::First(expected) => pool.first() == *expected,
+    }
+}
+
+/// A pool must answer each call so.
+pub fn meets(rt: &impl Abort, alloc: Global, pool: &mut Pool<PlainWords>, calls: &[Call]) {
+    for (number, call) in calls.iter().enumerate() {
+        assert!(rt; is_met(rt, alloc, pool, call), "call {number}");
+    }
+}
+
 // Orphans go before fresh ones, the oldest first, and fresh ones by number; each arena has its own.
+static ORDER: [Call; 18] = [
+    Call::Put(9, 1, false),
+    Call::Put(3, 1, false),
+    Call::Put(63, 2, false),
+    Call::Put(5, 1, true),
+    Call::Put(0, 2, true),
+    Call::Put(4, 1, true),
+    Call::Next(0, None),
+    Call::Next(1, Some(5)),
+    Call::Has(5, false),
+    Call::Has(4, true),
+    Call::Next(1, Some(4)),
+    Call::Next(1, Some(3)),
+    Call::Next(1, Some(9)),
+    Call::Next(1, None),
+    Call::Pick(63, Some(63)),
+    Call::Pick(63, None),
+    Call::Pick(64, None),
+    Call::Next(2, Some(0)),
+];
+
 #[test]
 fn pool_order(rt: HostRuntime) {
     let mut pool = Pool::new(rt.alloc()).expect(&rt, "memory");
-    for (number, arena, held) in [(9, 1, false), (3, 1, false), (63, 2, false), (5, 1, true)] {
-        put(
-            &rt,
-            &mut pool,
-            segment(&rt, rt.alloc(), number, arena),
-            held,
-        );
-    }
-    put(&rt, &mut pool, segment(&rt, rt.alloc(), 0, 2), true);
-    put(&rt, &mut pool, segment(&rt, rt.alloc(), 4, 1), true);
-    assert_eq!(&rt; next(&mut pool, 0), None);
-    assert_eq!(&rt; next(&mut pool, 1), Some(5));
-    assert!(&rt; !pool.has(5));
-    assert!(&rt; pool.has(4));
-    assert_eq!(&rt; next(&mut pool, 1), Some(4));
-    assert_eq!(&rt; next(&mut pool, 1), Some(3));
-    assert_eq!(&rt; next(&mut pool, 1), Some(9));
-    assert_eq!(&rt; next(&mut pool, 1), None);
-    assert_eq!(&rt; picked(&mut pool, 63), Some(63));
-    assert_eq!(&rt; picked(&mut pool, 63), None);
-    assert_eq!(&rt; picked(&mut pool, 64), None);
-    assert_eq!(&rt; next(&mut pool, 2), Some(0));
-    assert_eq!(&rt; next(&mut pool, 2), None);
+    meets(&rt, rt.alloc(), &mut pool, &ORDER);
+    meets(&rt, rt.alloc(), &mut pool, &[Call::Next(2, None)]);
     drop(pool);
+}
+
+/// A segment that has a block of 512 words in one of its pages.
+pub fn with_block(
+    rt: &impl Abort,
+    alloc: Global,
+    (number, arena): (u8, u8),
+    (page, owner): (u8, u8),
+) -> (Segment<PlainWords>, Place) {
+    assert!(rt; (page as usize) < SEGMENT_PAGES && owner < 64);
+    let mut one = segment(rt, alloc, number, arena);
+    let class = class_of(512).expect(rt, "a class");
+    assert!(rt; one.may_begin(page, class));
+    one.assign_page(page, class);
+    let block = one.open_in(page, owner).expect(rt, "a place");
+    (one, block.place)
+}
+
+/// Whether a segment has such a block of tenant 5's in page 2, and no room beside it.
+fn has_block(rt: &impl Abort, segment: &mut Segment<PlainWords>) -> bool {
+    let class = class_of(512).expect(rt, "a class");
+    segment.class_of(2) == Some(class)
+        && segment.charge(5) == 4096
+        && segment.open_in(2, 5).is_none()
 }
 
 // A segment is told of while it is there, and is as it was when it is taken.
 #[test]
 fn pool_keeps_segments(rt: HostRuntime) {
     let mut pool = Pool::new(rt.alloc()).expect(&rt, "memory");
-    let mut held = segment(&rt, rt.alloc(), 7, 3);
-    let class = class_of(512).expect(&rt, "a class");
-    assert!(&rt; held.may_begin(2, class));
-    held.assign_page(2, class);
-    let handle = held.open_in(2, 5).expect(&rt, "a place");
+    let (held, place) = with_block(&rt, rt.alloc(), (7, 3), (2, 5));
     put(&rt, &mut pool, held, true);
-    assert!(&rt; pool.has(7));
-    tells(&rt, &pool, handle.place);
+    assert!(&rt; is_told(&rt, &pool, place));
     let mut taken = pool.next_of(3).expect(&rt, "the segment");
-    assert_eq!(&rt; taken.class_of(2), Some(class));
-    assert_eq!(&rt; taken.charge(5), 4096);
-    assert!(&rt; taken.open_in(2, 5).is_none());
+    assert!(&rt; has_block(&rt, &mut taken));
     drop(taken);
     drop(pool);
 }
 
-/// What the pool tells of the segment of this place, which is open, as the first one isn't.
-fn tells(rt: &impl Abort, pool: &Pool<PlainWords>, place: Place) {
+/// Whether the pool tells so of the segment of this place, which is open, as the first one isn't.
+fn is_told(rt: &impl Abort, pool: &Pool<PlainWords>, place: Place) -> bool {
     let segment = place.segment;
     if !pool.has(segment) {
         panic!(rt; "segment {segment} isn't there");
     }
-    assert_eq!(rt; pool.arena(segment), 3);
-    assert_eq!(rt; pool.greatest(segment), 16);
-    assert_eq!(rt; pool.standing(place), Standing::Open(1, 5));
     let home = Place {
         segment,
         page: 0,
         index: 0,
     };
-    assert_eq!(rt; pool.standing(home), Standing::Home(0));
+    let arena = pool.arena(segment);
+    let greatest = pool.greatest(segment);
+    let open = pool.standing(place);
+    let first = pool.standing(home);
+    arena == 3 && greatest == 16 && open == Standing::Open(1, 5) && first == Standing::Home(0)
 }
+
+/// What a pool answers that had no segment, and has segment 63 of arena 1 now.
+static CAME: [Call; 3] = [
+    Call::Has(63, true),
+    Call::Next(1, Some(63)),
+    Call::Has(63, false),
+];
 
 // The pool is there, or memory was refused: for a run in which requests are refused in turn.
 #[test]
@@ -121,9 +178,7 @@ fn pool_refused_in_turn(rt: HostRuntime) {
     assert!(&rt; !pool.has(63));
     if let Some(segment) = made(rt.alloc()) {
         put(&rt, &mut pool, segment, false);
-        assert!(&rt; pool.has(63));
-        assert_eq!(&rt; next(&mut pool, 1), Some(63));
-        assert!(&rt; !pool.has(63));
+        meets(&rt, rt.alloc(), &mut pool, &CAME);
     }
     drop(pool);
 }
@@ -135,20 +190,10 @@ fn made(alloc: Global) -> Option<Segment<PlainWords>> {
 }
 
 /// The word of a block of tenant 7's of the first generation.
-pub fn live() -> u64
+fn live() -> u64
     ensures { IsLiveWord result }
 {
     pack(1, 7, true)
-}
-
-/// A segment that has a block in its first page, of tenant 7's.
-pub fn with_block(rt: &impl Abort, alloc: Global, number: u8) -> (Segment<PlainWords>, Place) {
-    let mut one = segment(rt, alloc, number, 0);
-    let class = class_of(512).expect(rt, "a class");
-    assert!(rt; one.may_begin(0, class));
-    one.assign_page(0, class);
-    let block = one.open_in(0, 7).expect(rt, "a place");
-    (one, block.place)
 }
 
 /// The word of a place of a segment that is there.
@@ -159,33 +204,33 @@ fn word(rt: &impl Abort, pool: &Pool<PlainWords>, place: Place) -> u64 {
     pool.word(place)
 }
 
-/// Parts a place of a segment that is there.
-pub fn part(
-    rt: &impl Abort,
-    pool: &mut Pool<PlainWords>,
-    place: Place,
-    expected: u64,
-) -> Result<(), u64>
-    requires { IsLiveWord expected }
-{
+/// Parts a place of a segment that is there, as one of a block of tenant 7's.
+pub fn part(rt: &impl Abort, pool: &mut Pool<PlainWords>, place: Place) -> Result<(), u64> {
     if !pool.has(place.segment) {
         panic!(rt; "no such segment");
     }
-    pool.part(place, expected)
+    pool.part(place, live())
 }
+
+/// Whether a block of tenant 7's is parted, and isn't once more.
+fn is_parted_once(rt: &impl Abort, pool: &mut Pool<PlainWords>, place: Place) -> bool {
+    word(rt, pool, place) == live()
+        && part(rt, pool, place) == Ok(())
+        && word(rt, pool, place) == live() - 1
+        && part(rt, pool, place) == Err(live() - 1)
+}
+
+/// Segments 4 and 5, orphans of one arena.
+static ORPHANS: [Call; 2] = [Call::Next(0, Some(4)), Call::Next(0, Some(5))];
 
 // A block of a segment that nobody holds is parted once.
 #[test]
 fn parted_once(rt: HostRuntime) {
     let mut pool = Pool::new(rt.alloc()).expect(&rt, "memory");
-    let (one, place) = with_block(&rt, rt.alloc(), 5);
+    let (one, place) = with_block(&rt, rt.alloc(), (5, 0), (0, 7));
     put(&rt, &mut pool, segment(&rt, rt.alloc(), 4, 0), true);
     put(&rt, &mut pool, one, true);
-    assert_eq!(&rt; word(&rt, &pool, place), live());
-    assert_eq!(&rt; part(&rt, &mut pool, place, live()), Ok(()));
-    assert_eq!(&rt; word(&rt, &pool, place), live() - 1);
-    assert_eq!(&rt; part(&rt, &mut pool, place, live()), Err(live() - 1));
-    assert_eq!(&rt; next(&mut pool, 0), Some(4));
-    assert_eq!(&rt; next(&mut pool, 0), Some(5));
+    assert!(&rt; is_parted_once(&rt, &mut pool, place));
+    meets(&rt, rt.alloc(), &mut pool, &ORPHANS);
     drop(pool);
 }
