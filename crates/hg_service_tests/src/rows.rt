@@ -146,6 +146,35 @@ fn parted_block_counts_in_charge(rt: HostRuntime) {
     answers_are(&rt, rt.alloc(), &rows);
 }
 
+/// What is sent goes to the list of its own segment, and is taken in by that segment's holder.
+#[test]
+fn each_segment_has_its_list(rt: HostRuntime) {
+    let place = Place {
+        segment: 1,
+        page: 0,
+        index: 0,
+    };
+    let y = Handle {
+        place,
+        generation: 1,
+    };
+    let rows = [
+        (0, refill(MAIN), Answer::Refilled(0)),
+        (1, refill(MAIN), Answer::Refilled(1)),
+        (1, alloc(ALICE, 24), Answer::Block(y)),
+        (0, alloc(ALICE, 24), Answer::Block(life(0, 1))),
+        (0, free(ALICE, y), Answer::Parted),
+        (0, Event::Deliver, Answer::Done),
+        (0, take(0), Answer::Taken(0)),
+        (1, take(1), Answer::Taken(1)),
+        (1, free(ALICE, life(0, 1)), Answer::Parted),
+        (1, Event::Deliver, Answer::Done),
+        (1, take(1), Answer::Taken(0)),
+        (0, take(0), Answer::Taken(1)),
+    ];
+    answers_are(&rt, rt.alloc(), &rows);
+}
+
 /// Segments go from worker to worker: the oldest orphan first, then the lowest fresh one.
 #[test]
 fn oldest_orphan_first(rt: HostRuntime) {
