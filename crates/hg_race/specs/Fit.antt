@@ -1,18 +1,20 @@
 -- Which policies a race can be run under.
 use Rattle.std.specs.Prelude.{◌==◌, ◌&&◌, ℕ, Bool, false, Option, Some, None, nat_le}
-use Rattle.hg_machine.specs.Policy.{Policy, arena_of, is_tenant, limit_of, admits}
+use Rattle.std.specs.List.{list_any}
+use Rattle.hg_machine.specs.Policy.{Policy, is_tenant, limit_of, admits}
 
 -- the first tenant is there, and may have a block of 8 bytes
 abbrev pub has_room : Policy → Bool
 has_room policy = is_tenant policy 0 && nat_le 8 (limit_of policy 0)
 
+-- this is the first arena
 abbrev pub is_first : Option ℕ → Bool
 is_first None = false
 is_first (Some arena) = arena == 0
 
--- the first arena has a segment, which is the first one then: segments are numbered arena by arena
+-- a segment is of the first arena
 abbrev pub has_segment : Policy → Bool
-has_segment policy = is_first (arena_of policy 0)
+has_segment policy = list_any (λ arena. arena == 0) policy.segments
 
 -- there are two workers, such a tenant, and a segment in the first arena, which admits that tenant
 abbrev pub is_fit : Policy → Bool

@@ -1,7 +1,7 @@
 //! What a race is run with, and under which policies.
 
 ghost use Rattle.std.specs.Prelude.{◌≡◌};
-ghost use Rattle.hg_race.specs.Fit.{has_room, has_segment, is_fit};
+ghost use Rattle.hg_race.specs.Fit.{has_room, has_segment, is_first, is_fit};
 
 use hg_place::Actor;
 use hg_policy::Policy;
@@ -15,15 +15,26 @@ pub(crate) const ARENA: u8 = 0;
 /// What is asked for, in bytes.
 pub(crate) const BYTES: u64 = 8;
 
-/// Whether the first arena has a segment, which is the first one then: segments are numbered arena
-/// by arena.
-fn has_segment(policy: &Policy) -> bool
-    ensures { result ≡ has_segment policy.now }
+/// Whether this is the first arena.
+fn is_first(arena: Option<u8>) -> bool
+    ensures { result ≡ is_first arena }
 {
-    match policy.arena_of(0) {
+    match arena {
         Some(arena) => arena == ARENA,
         None => false,
     }
+}
+
+/// Whether the first arena has a segment.
+fn has_segment(policy: &Policy) -> bool
+    ensures { result ≡ has_segment policy.now }
+{
+    for segment in 0..policy.segments() {
+        if is_first(policy.arena_of(segment)) {
+            return true;
+        }
+    }
+    false
 }
 
 /// Whether there is such a tenant, whose limit allows a block.
