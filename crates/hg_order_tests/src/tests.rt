@@ -22,8 +22,6 @@ w1 read ann @0.0.0.2 0 # => elsewhere
 w0 refill main # => segment 0
 w0 alloc ann main 4096 # => ok @0.0.0.1
 w0 take 0 # => taken 1
-w0 alloc ann main 4096 # => ok @0.1.0.1
-w0 collect # => pages 1
 w0 alloc ann main 4096 # => ok @0.0.0.2
 ";
 
