@@ -7,22 +7,25 @@ use crate::services::{
 use hg_machine::Answer;
 use hg_service::Service;
 use hg_worker::ServiceName;
+use std::alloc::Global;
 use std::process::Abort;
 use std::sync::Wait;
 
 struct TakenOnce;
 
 impl Trial for TakenOnce {
-    fn go<N: ServiceName, R: Wait + Abort>(&self, rt: &R, service: &mut Service<N>) {
-        assert!(rt; is_gone(service, 2));
-        assert!(rt; is_gone(service, 255));
-        let one = worker(rt, service, 0);
-        assert!(rt; is_gone(service, 0));
+    fn go<N: ServiceName, R: Wait + Abort>(&self, rt: &R, _: Global, service: Service<N>) {
+        let mut service = service;
+        assert!(rt; is_gone(&mut service, 2));
+        assert!(rt; is_gone(&mut service, 255));
+        let one = worker(rt, &mut service, 0);
+        assert!(rt; is_gone(&mut service, 0));
         one.leave(rt);
-        assert!(rt; is_gone(service, 0));
+        assert!(rt; is_gone(&mut service, 0));
         assert_eq!(rt; service.policy().workers(), 2);
-        drop(worker(rt, service, 1));
-        assert!(rt; is_gone(service, 1));
+        drop(worker(rt, &mut service, 1));
+        assert!(rt; is_gone(&mut service, 1));
+        drop(service);
     }
 }
 
@@ -35,8 +38,9 @@ fn each_worker_once(rt: HostRuntime) {
 struct LeftSent;
 
 impl Trial for LeftSent {
-    fn go<N: ServiceName, R: Wait + Abort>(&self, rt: &R, service: &mut Service<N>) {
-        let (mut one, mut other) = both(rt, service);
+    fn go<N: ServiceName, R: Wait + Abort>(&self, rt: &R, _: Global, service: Service<N>) {
+        let mut service = service;
+        let (mut one, mut other) = both(rt, &mut service);
         let x = block(rt, &mut one);
         let y = block(rt, &mut one);
         answers(rt, &mut other, free(ALICE, x), Answer::Parted);
@@ -44,6 +48,7 @@ impl Trial for LeftSent {
         answers(rt, &mut one, take(0), Answer::Taken(1));
         answers(rt, &mut one, free(ALICE, y), Answer::Done);
         drop(one);
+        drop(service);
     }
 }
 
@@ -56,8 +61,9 @@ fn hand_is_sent_by_leaving(rt: HostRuntime) {
 struct LeftSegments;
 
 impl Trial for LeftSegments {
-    fn go<N: ServiceName, R: Wait + Abort>(&self, rt: &R, service: &mut Service<N>) {
-        let (mut one, mut other) = both(rt, service);
+    fn go<N: ServiceName, R: Wait + Abort>(&self, rt: &R, _: Global, service: Service<N>) {
+        let mut service = service;
+        let (mut one, mut other) = both(rt, &mut service);
         let x = block(rt, &mut one);
         answers(rt, &mut one, write(ALICE, x, 7), Answer::Done);
         answers(rt, &mut one, refill(MAIN), Answer::Refilled(1));
@@ -67,6 +73,7 @@ impl Trial for LeftSegments {
         answers(rt, &mut other, refill(MAIN), Answer::Refilled(1));
         answers(rt, &mut other, refill(MAIN), Answer::NoSegment);
         drop(other);
+        drop(service);
     }
 }
 

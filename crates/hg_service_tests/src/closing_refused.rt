@@ -1,12 +1,12 @@
 //! Closing where memory may be refused.
 
+use crate::closed::answers_so;
+use crate::parts::{PartsTrial, are_tried};
 use crate::services::{
-    ALICE, MAIN, PartsTrial, Trial, block, both, refilled, told, tried, tried_parts,
+    ALICE, DOCUMENT, MAIN, Trial, answers, block, both, is_tried, read, refill, write,
 };
 use hg_close::CloseFault;
-use hg_core::Core;
-use hg_machine::{Answer, Event};
-use hg_place::Handle;
+use hg_machine::Answer;
 use hg_service::{CallerLocked, Service, Unclosed, UnclosedParts};
 use hg_worker::ServiceName;
 use std::alloc::Global;
@@ -27,34 +27,21 @@ fn goes_on<N: ServiceName, R: Wait + Abort>(
     service
 }
 
-/// A core in which a block lives on.
-fn has_kept<R: Abort>(rt: &R, core: Core, handle: Handle) {
-    let mut core = core;
-    refilled(rt, &mut core);
-    let event = Event::Read {
-        actor: ALICE,
-        handle,
-        index: 0,
-    };
-    assert_eq!(rt; told(rt, &mut core, 0, event), Answer::Value(5));
-    drop(core);
-}
-
 struct Closes;
 
 impl Trial for Closes {
     fn go<N: ServiceName, R: Wait + Abort>(&self, rt: &R, alloc: Global, service: Service<N>) {
         let mut service = service;
         let (mut one, mut other) = both(rt, &mut service);
-        let x = block(rt, &mut one.own);
-        assert_eq!(rt; one.own.write(ALICE, x, 0, 5), Answer::Done);
+        let x = block(rt, &mut one);
+        answers(rt, &mut one, write(ALICE, x, 5), Answer::Done);
         one.leave(rt);
         let service = goes_on(rt, alloc, service, CloseFault::StillOut(1));
-        assert_eq!(rt; other.refill(rt, MAIN), Answer::Refilled(0));
-        assert_eq!(rt; other.own.read(ALICE, x, 0), Answer::Value(5));
+        answers(rt, &mut other, refill(MAIN), Answer::Refilled(0));
+        answers(rt, &mut other, read(ALICE, x), Answer::Value(5));
         other.leave(rt);
         match service.close(rt, alloc) {
-            Ok(core) => has_kept(rt, core, x),
+            Ok(core) => answers_so(rt, core, read(ALICE, x), Answer::Value(5)),
             Err(Unclosed::Running(service, fault)) => {
                 assert_eq!(rt; fault, CloseFault::Memory);
                 drop(service);
@@ -71,7 +58,7 @@ impl Trial for Closes {
 /// are refused in turn.
 #[test]
 fn close_refused_in_turn(rt: HostRuntime) {
-    let _ = tried(&rt, rt.alloc(), &Closes);
+    let _ = is_tried(&rt, rt.alloc(), DOCUMENT, &Closes);
 }
 
 struct PartsClose;
@@ -95,6 +82,6 @@ impl PartsTrial for PartsClose {
 
 /// The same of its parts.
 #[test]
-fn parts_refused_in_turn(rt: HostRuntime) {
-    let _ = tried_parts(&rt, rt.alloc(), &PartsClose);
+fn closing_parts_refused_in_turn(rt: HostRuntime) {
+    let _ = are_tried(&rt, rt.alloc(), &PartsClose);
 }

@@ -1,6 +1,6 @@
 //! A parted block that stands on none of a service's lists.
 
-use crate::services::{ALICE, Trial, block, both, tried};
+use crate::services::{ALICE, Trial, answers, block, both, free, tried};
 use hg_machine::Answer;
 use hg_remote::RemoteList;
 use hg_service::{Service, Unclosed};
@@ -16,11 +16,11 @@ impl Trial for OnAnother {
         let mut service = service;
         let mut list = RemoteList::new(alloc).expect(rt, "a list");
         let (mut one, mut other) = both(rt, &mut service);
-        let x = block(rt, &mut one.own);
-        let y = block(rt, &mut one.own);
-        assert_eq!(rt; other.own.free(ALICE, y), Answer::Parted);
+        let x = block(rt, &mut one);
+        let y = block(rt, &mut one);
+        answers(rt, &mut other, free(ALICE, y), Answer::Parted);
         assert_eq!(rt; other.own.deliver_to(&mut list), Answer::Done);
-        assert_eq!(rt; other.own.free(ALICE, x), Answer::Parted);
+        answers(rt, &mut other, free(ALICE, x), Answer::Parted);
         one.leave(rt);
         other.leave(rt);
         let Err(Unclosed::Lost(place, parts)) = service.close(rt, alloc) else {
@@ -41,5 +41,5 @@ impl Trial for OnAnother {
 /// isn't.
 #[test]
 fn block_on_another_list_is_lost(rt: HostRuntime) {
-    assert!(&rt; tried(&rt, rt.alloc(), &OnAnother).is_some());
+    tried(&rt, rt.alloc(), &OnAnother);
 }

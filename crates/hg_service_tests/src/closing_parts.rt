@@ -1,18 +1,16 @@
 //! The parts of a service in the hands of a host that locks by itself, which gives them back.
 
-use crate::services::{ALICE, MAIN, PartsTrial, block, refilled, told, tried_parts};
+use crate::closed::answers_so;
+use crate::parts::{PartsTrial, parts_tried};
+use crate::services::{ALICE, MAIN, own_block, take};
 use hg_close::CloseFault;
 use hg_core::Core;
-use hg_machine::{Answer, Event};
+use hg_machine::Answer;
 use hg_place::Handle;
 use hg_service::{CallerLocked, KeptList, UnclosedParts};
 use hg_worker::ServiceName;
 use std::alloc::Global;
 use std::process::Abort;
-
-fn holds<R: Abort, T: PartsTrial>(rt: &R, alloc: Global, trial: &T) {
-    assert!(rt; tried_parts(rt, alloc, trial).is_some());
-}
 
 /// The core that the parts become.
 fn closed<N: ServiceName, R: Abort>(rt: &R, alloc: Global, parts: CallerLocked<N>) -> Core {
@@ -41,7 +39,7 @@ fn parted<N: ServiceName, R: Abort>(rt: &R, parts: &mut CallerLocked<N>) -> Hand
     assert_eq!(rt; (parts.workers.len(), parts.lists.len()), (2, 3));
     let one = &mut parts.workers[0];
     assert_eq!(rt; one.refill_from(MAIN, &mut parts.pool), Answer::Refilled(0));
-    let x = block(rt, one);
+    let x = own_block(rt, one);
     assert_eq!(rt; parts.workers[1].free(ALICE, x), Answer::Parted);
     x
 }
@@ -70,11 +68,8 @@ impl PartsTrial for GivenBack {
         abandoned(rt, &mut parts);
         let mut parts = unclosed(rt, alloc, parts, CloseFault::StillOut(1));
         delivered(rt, &mut parts);
-        let mut core = closed(rt, alloc, parts);
-        refilled(rt, &mut core);
-        let event = Event::Take { segment: 0 };
-        assert_eq!(rt; told(rt, &mut core, 0, event), Answer::Taken(1));
-        drop(core);
+        let core = closed(rt, alloc, parts);
+        answers_so(rt, core, take(0), Answer::Taken(1));
     }
 }
 
@@ -82,7 +77,7 @@ impl PartsTrial for GivenBack {
 /// is there in the core.
 #[test]
 fn parts_close(rt: HostRuntime) {
-    holds(&rt, rt.alloc(), &GivenBack);
+    parts_tried(&rt, rt.alloc(), &GivenBack);
 }
 
 struct WorkerKept;
@@ -101,7 +96,7 @@ impl PartsTrial for WorkerKept {
 /// A worker that isn't given back is out.
 #[test]
 fn kept_worker_is_out(rt: HostRuntime) {
-    holds(&rt, rt.alloc(), &WorkerKept);
+    parts_tried(&rt, rt.alloc(), &WorkerKept);
 }
 
 struct ListKept;
@@ -126,7 +121,7 @@ impl PartsTrial for ListKept {
 /// A block on a list that isn't given back is lost.
 #[test]
 fn block_on_a_kept_list_is_lost(rt: HostRuntime) {
-    holds(&rt, rt.alloc(), &ListKept);
+    parts_tried(&rt, rt.alloc(), &ListKept);
 }
 
 struct ListsTurned;
@@ -138,16 +133,13 @@ impl PartsTrial for ListsTurned {
         delivered(rt, &mut parts);
         abandoned(rt, &mut parts);
         parts.lists.reverse();
-        let mut core = closed(rt, alloc, parts);
-        refilled(rt, &mut core);
-        let event = Event::Take { segment: 0 };
-        assert_eq!(rt; told(rt, &mut core, 0, event), Answer::Taken(1));
-        drop(core);
+        let core = closed(rt, alloc, parts);
+        answers_so(rt, core, take(0), Answer::Taken(1));
     }
 }
 
 /// A list counts for its own segment, wherever it stands.
 #[test]
 fn lists_come_in_any_order(rt: HostRuntime) {
-    holds(&rt, rt.alloc(), &ListsTurned);
+    parts_tried(&rt, rt.alloc(), &ListsTurned);
 }
