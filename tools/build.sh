@@ -16,19 +16,11 @@ need_rt() {
     command -v rt >/dev/null 2>&1 || stop 127 "the command rt of the Rattle kit is not on the PATH"
 }
 
+# shellcheck source=tools/closure.sh
+. "$root/tools/closure.sh"
+
 # The lines of crates.txt for the crate and for all that it stands on, lowest first.
-lines() {
-    awk -v top="$crate" '
-        { sub(/#.*/, "") }
-        /:/ { name = $1; sub(/:.*/, "", name); line[name] = $0; sub(/.*:/, ""); needs[name] = $0 }
-        function visit(name, n, at, parts) {
-            if (!(name in line) || seen[name]++) return
-            n = split(needs[name], parts)
-            for (at = 1; at <= n; at++) visit(parts[at])
-            print line[name]
-        }
-        END { visit(top) }' "$root/crates.txt"
-}
+lines() { lines_below "$root/crates.txt" "$crate"; }
 
 crates() { lines | sed 's/[ :].*//'; }
 

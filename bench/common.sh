@@ -1,41 +1,27 @@
 # shellcheck shell=bash
-# What the commands of bench/ share that prove a program, and time it beside others. They name the
-# folder of their own in `here`, and call `begin` first.
+# What the commands of bench/ share: proving a program, timing it beside others, and leaving medians.
+# Those that prove one name the folder of their own in `here`, and call `begin` first.
+bench="$(cd "$(dirname "${BASH_SOURCE[0]}")" && pwd)"
+# shellcheck source=../tools/closure.sh
+. "$bench/../tools/closure.sh"
 
 # Names the room that all is built in: the folder KEEP, or one that goes with the shell. CRATES=folder
 # takes the crates from elsewhere.
 begin() {
-    # shellcheck disable=SC2154 # the caller's
-    crates="$(cd "${CRATES:-$here/../../crates}" && pwd)"
+    crates="$(cd "${CRATES:-$bench/../crates}" && pwd)"
     work="${KEEP:-$(mktemp -d)}"
     [ -n "${KEEP:-}" ] || trap 'rm -rf "$work"' EXIT
     mkdir -p "$work/crates"
 }
 
-# What crates stand on, themselves included, of those in the repository.
-closure() {
-    awk -v from="$*" '
-        /^#/ { next }
-        { sub(/:.*/, "", $1); sub(/ staticlib/, "", $1); name = $1; on[name] = $0 }
-        function visit(crate,   words, count, i) {
-            if (!(crate in on) || crate in seen) return
-            seen[crate] = 1
-            count = split(on[crate], words, /[ :]+/)
-            for (i = 2; i <= count; i++) visit(words[i])
-            print crate
-        }
-        END { count = split(from, all, " "); for (i = 1; i <= count; i++) visit(all[i]) }' \
-        "$crates/../crates.txt"
-}
-
 # CRATE..: puts these there with all that they stand on, but not their edits, nor what was built.
 bring() {
-    for crate in $(closure "$@"); do
+    lines_below "$crates/../crates.txt" "$@" > "$work/crates.txt"
+    sed 's/[ :].*//' "$work/crates.txt" | while read -r crate; do
         mkdir -p "$work/crates/$crate"
         tar -C "$crates/$crate" --exclude=./out --exclude=./must-fail -cf - . \
             | tar -C "$work/crates/$crate" -xf -
-        grep "^$crate:" "$crates/../crates.txt"
-    done > "$work/crates.txt"
+    done
     cp "$crates/../HANDLES" "$work/HANDLES"
 }
 
@@ -56,13 +42,13 @@ lay_out_shared() {
     while read -r from path; do lay_out "$1" "$2/$from" "$path"; done < "$2/shared"
 }
 
-# Proves all that is there, and builds the programs, by the kit's gate: it takes what this machine has
-# kept of earlier runs. Without arguments each program tells its usage, with status 1. What was proved
-# in this room from the same files isn't proved again.
+# STATUS: proves all that is there, and builds the programs, by the kit's gate: it takes what this
+# machine has kept of earlier runs. Without arguments each program ends with this status. What was
+# proved in this room from the same files isn't proved again.
 prove() {
     local sum
     mkdir -p "$work/.git"
-    for it in "$work"/crates/*_bench; do echo 1 > "$it/status"; done
+    for it in "$work"/crates/*_bench; do echo "$1" > "$it/status"; done
     sum=$(cd "$work" && find crates crates.txt HANDLES -name out -prune -o -type f -print0 | sort -z \
         | xargs -0 sha256sum | sha256sum)
     [ "$sum" != "$(cat "$work/proved" 2> "$work/said")" ] || return 0
@@ -80,7 +66,7 @@ program() { names+=("$1") && command[$1]="${*:2}"; }
 # libmimalloc-dev), sharded-slab and slotmap `cargo` (and Debian's librust-sharded-slab-dev and
 # librust-slotmap-dev). What isn't here is left out, and it says so.
 peers() {
-    local from="$here/../core/peers"
+    local from="$bench/core/peers"
     if ! cc -O2 -std=gnu11 -pthread -o "$work/glibc" "$from/peers.c"; then
         echo 'left out: glibc, mimalloc and memset (no cc)' >&2
     else
@@ -140,4 +126,13 @@ timed() {
 place() {
     echo "$(date -u +%F), $(sed -n 's/^model name.*: //p' /proc/cpuinfo | head -n 1), $(nproc) of" \
         "$(nproc --all) cores, load $(cut -d ' ' -f 1-3 /proc/loadavg)"
+}
+
+# NAME: shows what comes, and leaves it as the medians of this benchmark in medians/NAME, of which docs
+# tell; MEDIANS=folder leaves it elsewhere.
+leave() {
+    local to="${MEDIANS:-$bench/medians}"
+    mkdir -p "$to"
+    tee "$to/$1.new"
+    mv "$to/$1.new" "$to/$1"
 }
