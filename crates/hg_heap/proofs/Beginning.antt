@@ -105,7 +105,7 @@ module _ {S : Type 0} (number : S → ℕ) (records : S → List Standing) where
           (places_of size)));
     }
 
-  module _ (items : List (Kept S)) (found arena size page : ℕ) (one after : Kept S)
+  module _ {items : List (Kept S)} {found arena size page : ℕ} {one after : Kept S}
       (b : Begins items found arena size page one after) where
     abbrev at : ℕ
     at = page % SEGMENT_PAGES
@@ -239,8 +239,8 @@ module _ {S : Type 0} (number : S → ℕ) (records : S → List Standing) where
           ∙ ap (λ (has : Bool). requeued (key_of one.arena (number_of_size size))
           (segment_of_page page * SEGMENT_PAGES + at) has queues) (sym place_now)
 
-      module _ (numbered : (s : S) → number s < MAX_SEGMENTS) (table : List (Option ℕ))
-          (charges : List ℕ) (capacity : ℕ)
+      module _ (numbered : (s : S) → number s < MAX_SEGMENTS) {table : List (Option ℕ)}
+          {charges : List ℕ} {capacity : ℕ}
           (r : IsRight number records table charges capacity
           (record { segments = items; queues = queues })) where
         pub arena_begun : arena < ARENAS

@@ -102,8 +102,10 @@ module _ {S : Type 0} (number : S → ℕ) (records : S → List Standing) (show
     pub fits : FitsLaw number records shows steps
     pub closed : Closed number records shows steps place word one after
 
-  module _ (items : List (Kept S)) (found word : ℕ) (place : Place) (one after : Kept S)
-      (h : Frees items found word place one after) where
+module _ {S : Type 0} {number : S → ℕ} {records : S → List Standing} {shows : S → ℕ → ℕ → Type 0}
+    {steps : S → ℕ → ℕ → ℕ → S → Type 0} where
+  module _ {items : List (Kept S)} {found word : ℕ} {place : Place} {one after : Kept S}
+      (h : Frees number records shows steps items found word place one after) where
     -- it was open
     pub was_open : standing_at (records one.slots) (slot_of place) ≡ Open (word_generation word)
         (word_owner word)
@@ -128,7 +130,7 @@ module _ {S : Type 0} (number : S → ℕ) (records : S → List Standing) (show
     page_is : slot_of place / 512 ≡ place.page
     page_is = let b = place.index_below in omega arith
 
-    module _ (size : ℕ) (class : class_at after.classes place.page ≡ Some size) where
+    module _ {size : ℕ} (class : class_at after.classes place.page ≡ Some size) where
       pub class_one : class_at one.classes place.page ≡ Some size
       class_one = sym (ap (λ (cs : List (Option ℕ)). class_at cs place.page) h.closed.fixed.classes)
           ∙ class
@@ -230,8 +232,9 @@ module _ {S : Type 0} (number : S → ℕ) (records : S → List Standing) (show
       stepped = h.closed.step;
     }
 
-  module _ (policy : Policy) (items : List (Kept S)) (found word : ℕ) (actor : Actor)
-      (handle : Handle) (one after : Kept S) (h : Frees items found word handle.place one after)
+  module _ (policy : Policy) (actor : Actor) (handle : Handle) {items : List (Kept S)}
+      {found word : ℕ} {one after : Kept S}
+      (h : Frees number records shows steps items found word handle.place one after)
       (undenied : free_denial policy actor.0 handle word ≡ None) where
     -- what is freed is of the handle's generation
     pub generation_freed : handle.generation ≡ word_generation word
@@ -242,20 +245,21 @@ module _ {S : Type 0} (number : S → ℕ) (records : S → List Standing) (show
         undenied).0
         ∙ generation_read (standing_at (records one.slots) (slot_of handle.place)) word f.0 f.1
 
-    pub done_ends : FreedEnds policy items found actor handle (slice_set items found after)
+    pub done_ends : FreedEnds number records shows steps policy items found actor handle
+        (slice_set items found after)
     done_ends = (
       word,
       h.closed.live,
-      closed_step items found word handle.place one after h,
+      closed_step h,
       λ w hand g below.
           let view = heap_view number records policy w hand g items in
           let p = number_of handle.place in
           let held = held_found number records items handle.place found one h.here in
           let none : refusal_in view (slot_in word) (event.Free actor handle) ≡ None =
-          ap (λ (o : Option Rule). reason_by policy items found actor handle o
+          ap (λ (o : Option Rule). reason_by number records shows steps policy items found actor handle o
           (view.holds handle.place.segment) hand) undenied
-          ∙ ap (λ (b : Bool). reason_by policy items found actor handle None b hand) held in
-          let home = home_now items found word handle.place one after h in
+          ∙ ap (λ (b : Bool). reason_by number records shows steps policy items found actor handle None b hand) held in
+          let home = home_now h in
           let standing : Home handle.generation ≡ standing_at (records after.slots)
           (slot_of handle.place) = ap Home generation_freed ∙ sym home in
           let block : [] ≡ block_of (holding number records after) (slot_of handle.place) =
@@ -263,7 +267,7 @@ module _ {S : Type 0} (number : S → ℕ) (records : S → List Standing) (show
           handle.place.index_below (ap is_home home)) in
           let ties = free_here_is_tied view word actor handle below none held in
           put_ties number records items found handle.place one after h.here
-          (changed items found word handle.place one after h) policy w hand g
+          (changed h) policy w hand g
           (shown_at handle.place word) (shown_at handle.place (word - 1))
           (event.Free actor handle) answer.Done
           (subst (λ (b : List ℕ). Ties view (shown_at handle.place word) (event.Free actor handle)

@@ -29,7 +29,7 @@ ghost use Rattle.hg_heap.specs.Ties.{HeapTies, Stepped, shown_at};
 ghost use Rattle.hg_heap.specs.Answers.{refused_answer};
 ghost use Rattle.hg_heap.specs.declared.refused.Refused.TheVariants.{NoRoom};
 
-use crate::requeue::{block_bytes, requeue};
+use crate::requeue::{block_bytes, part_full, requeue};
 use crate::{Heap, Refused};
 use hg_decision::{AllocVerdict, judge_alloc};
 use hg_place::{Actor, Handle, MAX_SEGMENTS, SEGMENT_PAGES, SlotWords};
@@ -136,6 +136,8 @@ impl<S: SlotWords> Heap<S> {
     }
 
     /// The first page, by segment and page, that may get the class and has a place for its blocks.
+    #[cold]
+    #[inline(never)]
     fn blank_page(&self, arena: u8, class: Class) -> Option<u16>
         ensures first { result ≡ blank_page S.number S.records self.now arena class }
         ensures below { IfSome result (λ page. page < PAGES) }
@@ -173,6 +175,8 @@ impl<S: SlotWords> Heap<S> {
     }
 
     /// Gives a page that may get this class the class, and puts it to the front of its queue.
+    #[cold]
+    #[inline(never)]
     fn begin(&mut self, arena: u8, class: Class, page: u16)
         requires page { page < PAGES }
         requires blank { is_some_place
@@ -223,7 +227,7 @@ impl<S: SlotWords> Heap<S> {
         segment.settled();
         let is_full = segment.is_full(in_segment);
         self.charges.raise(owner, block_bytes(class));
-        requeue(&mut self.queues, arena, class, page, is_full);
+        part_full(&mut self.queues, page, is_full);
         handle
     }
 }

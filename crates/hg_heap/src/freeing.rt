@@ -149,6 +149,8 @@ fn freeable(policy: &Policy, actor: Actor, handle: Handle, standing: Standing) -
 }
 
 /// Why a block may not be freed.
+#[cold]
+#[inline(never)]
 fn denied(policy: &Policy, actor: Actor, handle: Handle, word: u64) -> Rule
     requires { free_denial policy.now actor.0 handle word ≢ None }
     ensures { free_denial policy.now actor.0 handle word ≡ Some result }

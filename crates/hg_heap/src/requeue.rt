@@ -30,6 +30,18 @@ pub(crate) fn requeue(queues: &mut PageQueues, arena: u8, class: Class, page: u1
     }
 }
 
+/// Takes a page that stands in its queue out of it where it is full now.
+pub(crate) fn part_full(queues: &mut PageQueues, page: u16, is_full: bool)
+    requires { page < PAGES }
+    ensures { (key : ℕ) → Contains (queue_of queues.old key) page
+        → queues.new ≡ requeued key page (not is_full) queues.old }
+{
+    if !is_full {
+        return;
+    }
+    queues.remove(page);
+}
+
 /// The number of a place's page over all segments.
 pub(crate) fn page_of(place: Place) -> u16
     ensures number { result ≡ page_number place }
