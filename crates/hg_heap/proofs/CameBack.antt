@@ -94,8 +94,41 @@ module _ {S : Type 0} (number : S → ℕ) (records : S → List Standing) (show
         home = o.2;
       }
 
-  module _ (items : List (Kept S)) (found segment page index owner : ℕ) (one after : Kept S)
-      (h : CameBack items found segment page index owner one after) where
+  -- what a step that takes nothing leaves
+  passed_records : (place : ℕ) (s t : S) → Passed records shows steps place s t
+      → records t ≡ records s
+  passed_records place s t p = ⊎_elim (λ home. ap records home.1) (λ lives. lives.4) p
+
+  module _ {items : List (Kept S)} {found segment page index : ℕ} {one after : Kept S}
+      (here : Found number items segment found one) (same : number after.slots ≡ number one.slots)
+      (away : StayedAway records shows steps page index one after) where
+    pub is_passed : (queues : List (List ℕ)) → IsPassed number records shows steps segment page
+        index (record { segments = items; queues = queues })
+        (record { segments = slice_set items found after; queues = queues })
+    is_passed queues = record {
+      another = another number items found segment one after here same;
+      away = away;
+      queues = refl;
+    }
+
+    pub right_passed : (table : List (Option ℕ)) (charges : List ℕ) (capacity : ℕ)
+        (queues : List (List ℕ))
+        → IsRight number records table charges capacity
+        (record { segments = items; queues = queues })
+        → IsSettled records after
+        → IsRight number records table charges capacity
+        (record { segments = slice_set items found after; queues = queues })
+    right_passed = right_kept number items found one after here.at
+        (kind_same number one after same (ap (λ (k : Kept S). k.arena) away.rest)
+        (ap (λ (k : Kept S). k.greatest) away.rest))
+        (ap (λ (k : Kept S). k.classes) away.rest) (ap (λ (k : Kept S). k.lists) away.rest) records
+        (passed_records (slot page index) one.slots after.slots away.passed)
+
+module _ {S : Type 0} {number : S → ℕ} {records : S → List Standing} {shows : S → ℕ → ℕ → Type 0}
+    {steps : S → ℕ → ℕ → ℕ → S → Type 0} where
+  module _ {items : List (Kept S)} {found segment page index owner : ℕ} {one after : Kept S}
+      (h : CameBack number records shows steps items found segment page index owner one after)
+      where
     abbrev at : ℕ
     at = slot page index
 
@@ -112,13 +145,13 @@ module _ {S : Type 0} (number : S → ℕ) (records : S → List Standing) (show
     kind_kept = kind_same number one after h.same h.home.fixed.arena h.home.fixed.greatest
 
     -- the arena is one that there may be
-    pub arena_below : (arena : ℕ) → arena ≡ after.arena
+    pub arena_below : {arena : ℕ} → arena ≡ after.arena
         → ((k : Kept S) → Contains items k → k.arena < ARENAS) → arena < ARENAS
-    arena_below arena is below =
+    arena_below is below =
         let low = below one (Contains-get items found one h.here.at) in
         omega (arith, is, h.home.fixed.arena, low)
 
-    module _ (size : ℕ) (class : class_at after.classes page ≡ Some size) where
+    module _ {size : ℕ} (class : class_at after.classes page ≡ Some size) where
       class_one : class_at one.classes page ≡ Some size
       class_one = sym (ap (λ (cs : List (Option ℕ)). class_at cs page) h.home.fixed.classes)
           ∙ class
@@ -153,34 +186,34 @@ module _ {S : Type 0} (number : S → ℕ) (records : S → List Standing) (show
       }
 
       -- the bytes of its block are part of its owner's charge
-      pub owner_pays : (charges : List ℕ) (bytes : ℕ) (table : List (Option ℕ)) (capacity : ℕ)
-          (queues : List (List ℕ)) → bytes ≡ 8 * size
+      pub owner_pays : {charges : List ℕ} {bytes : ℕ} {table : List (Option ℕ)} {capacity : ℕ}
+          {queues : List (List ℕ)} → bytes ≡ 8 * size
           → IsRight number records table charges capacity
           (record { segments = items; queues = queues })
           → bytes ≤ slice_index charges owner
-      owner_pays charges bytes table capacity queues is r =
+      owner_pays {charges = charges} is r =
           let covers = charge_covers records items found one after at (8 * size) owner charges
           r.counted h.owned r.charged h.generation h.generation place_change h.opened in
           omega (arith, is, covers)
 
-      module _ (arena on : ℕ) (arena_is : arena ≡ after.arena)
+      module _ {arena on : ℕ} (arena_is : arena ≡ after.arena)
           (on_is : on ≡ segment * SEGMENT_PAGES + page) where
         arena_one : arena ≡ one.arena
         arena_one = arena_is ∙ h.home.fixed.arena
 
         -- the page stood in no queue but its own
-        pub in_its_own : (table : List (Option ℕ)) (charges : List ℕ) (capacity : ℕ)
-            (queues : List (List ℕ))
+        pub in_its_own : {table : List (Option ℕ)} {charges : List ℕ} {capacity : ℕ}
+            {queues : List (List ℕ)}
             → IsRight number records table charges capacity
             (record { segments = items; queues = queues })
             → (key : ℕ) → Contains (queue_of queues key) on
             → key ≡ key_of arena (number_of_size size)
-        in_its_own table charges capacity queues r key there =
-            its_own number items found page one after page_change queues r.queued key
+        in_its_own r key there =
+            its_own number items found page one after page_change _ r.queued key
             (rw on_is at there)
             ∙ ap (λ (a : ℕ). key_of a (number_of_size size)) (sym arena_one)
 
-        module _ (queues now : List (List ℕ)) (full : Bool)
+        module _ (queues : List (List ℕ)) {now : List (List ℕ)} {full : Bool}
             (full_is : full ≡ true → listed (lists_at after.lists page) ≡ [])
             (is_full : listed (lists_at after.lists page) ≡ [] → full ≡ true)
             (e : now ≡ requeued (key_of arena (number_of_size size)) on (not full) queues) where
@@ -209,47 +242,17 @@ module _ {S : Type 0} (number : S → ℕ) (records : S → List Standing) (show
 
           -- and the heap is right
           pub right_back : IsSettled records after → ((s : S) → number s < MAX_SEGMENTS)
-              → (table : List (Option ℕ)) (charges lowered : List ℕ) (capacity bytes : ℕ)
+              → {table : List (Option ℕ)} {charges lowered : List ℕ} {capacity bytes : ℕ}
               → bytes ≡ 8 * size
               → lowered ≡ slice_set charges owner (slice_index charges owner - bytes)
               → IsRight number records table charges capacity
               (record { segments = items; queues = queues })
               → IsRight number records table lowered capacity
               (record { segments = new; queues = now })
-          right_back settled numbered table charges lowered capacity bytes is less r =
+          right_back settled numbered {charges = charges} is less r =
               rw (less, is) (right_changed number records items found page one after page_change
-              settled numbered table charges
-              (slice_set charges owner (slice_index charges owner - 8 * size)) capacity queues now
+              settled numbered _ charges
+              (slice_set charges owner (slice_index charges owner - 8 * size)) _ queues now
               r queues_back (length-set charges owner _ ∙ r.counted)
               (charge_lowered records items found one after at (8 * size) owner charges r.counted
               h.owned r.charged h.generation h.generation place_change h.opened))
-
-  -- what a step that takes nothing leaves
-  passed_records : (place : ℕ) (s t : S) → Passed records shows steps place s t
-      → records t ≡ records s
-  passed_records place s t p = ⊎_elim (λ home. ap records home.1) (λ lives. lives.4) p
-
-  module _ (items : List (Kept S)) (found segment page index : ℕ) (one after : Kept S)
-      (here : Found number items segment found one) (same : number after.slots ≡ number one.slots)
-      (away : StayedAway records shows steps page index one after) where
-    pub is_passed : (queues : List (List ℕ)) → IsPassed number records shows steps segment page
-        index (record { segments = items; queues = queues })
-        (record { segments = slice_set items found after; queues = queues })
-    is_passed queues = record {
-      another = another number items found segment one after here same;
-      away = away;
-      queues = refl;
-    }
-
-    pub right_passed : (table : List (Option ℕ)) (charges : List ℕ) (capacity : ℕ)
-        (queues : List (List ℕ))
-        → IsRight number records table charges capacity
-        (record { segments = items; queues = queues })
-        → IsSettled records after
-        → IsRight number records table charges capacity
-        (record { segments = slice_set items found after; queues = queues })
-    right_passed = right_kept number items found one after here.at
-        (kind_same number one after same (ap (λ (k : Kept S). k.arena) away.rest)
-        (ap (λ (k : Kept S). k.greatest) away.rest))
-        (ap (λ (k : Kept S). k.classes) away.rest) (ap (λ (k : Kept S). k.lists) away.rest) records
-        (passed_records (slot page index) one.slots after.slots away.passed)

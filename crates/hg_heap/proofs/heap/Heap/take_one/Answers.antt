@@ -5,18 +5,21 @@ use Rattle.hg_heap.proofs.Founds.{Found, found_of, number_is}
 use Rattle.hg_heap.proofs.CameBack.{CameBack, back_of, arena_below, owner_pays}
 use Rattle.hg_heap.proofs.CameBack.{in_its_own, is_taken, right_back, is_passed, right_passed}
 use Rattle.hg_heap.proofs.heap.Heap.take_one.Goals as goal
+use Rattle.hg_heap.proofs.heap.Heap.take_one.Goals.{After-settled, In-Some-owner}
+use Rattle.hg_heap.proofs.heap.Heap.take_one.Given.{Over}
 
-pub invariant_of-self : goal.invariant_of-self
-invariant_of-self g c =
-    let w = g.S.SlotWords in
-    let items = c.self.inside.segments.items in
-    let one = c.index_mut-segment.result.now in
-    let after = c.bring_home-owner.new.segment in
-    let here : Found w.number items c.args.segment c.in-Some.found one =
-    found_of w.number items c.args.segment c.in-Some.found one
-    (rw (← c.self.view_is) at c.in-Some.ensures.some) c.index_mut-segment.ensures.value in
-    let s = c.settled.ensures in
-    let settled : IsSettled w.records after = record {
+-- the segment that was found
+here : (g : Over) (c : After-settled g) → Found g.S.SlotWords.number c.self.inside.segments.items
+    c.args.segment c.in-Some.found c.index_mut-segment.result.now
+here g c = found_of g.S.SlotWords.number c.self.inside.segments.items c.args.segment
+    c.in-Some.found c.index_mut-segment.result.now
+    (rw (← c.self.view_is) at c.in-Some.ensures.some) c.index_mut-segment.ensures.value
+
+-- which keeps what each segment does
+stays : (g : Over) (c : After-settled g) → IsSettled g.S.SlotWords.records
+    c.bring_home-owner.new.segment
+stays g c = let s = c.settled.ensures in
+    record {
       lists = s.lists;
       sizes = s.sizes;
       runs = s.runs;
@@ -27,59 +30,47 @@ invariant_of-self g c =
       pages = s.all.0;
       classes = s.all.1;
       words = s.all.2;
-    } in
-    right_passed w.number w.records w.shows w.steps items c.in-Some.found c.args.segment
-    c.args.page c.args.index one after here c.bring_home-owner.ensures.number
-    c.in_default-owner.ensures.away _ _ _ _ c.self.invariant settled
+    }
+
+pub invariant_of-self : goal.invariant_of-self
+invariant_of-self g c =
+    let w = g.S.SlotWords in
+    let at = (goal.at.invariant_of-self g c).After-settled in
+    right_passed w.number w.records w.shows w.steps (here g at) c.bring_home-owner.ensures.number
+    c.in_default-owner.ensures.away _ _ _ _ c.self.invariant (stays g at)
 
 pub returns-in_default-owner-clause-passed : goal.returns-in_default-owner-clause-passed
 returns-in_default-owner-clause-passed g c =
     let w = g.S.SlotWords in
-    let items = c.self.inside.segments.items in
-    let one = c.index_mut-segment.result.now in
-    let here : Found w.number items c.args.segment c.in-Some.found one =
-    found_of w.number items c.args.segment c.in-Some.found one
-    (rw (← c.self.view_is) at c.in-Some.ensures.some) c.index_mut-segment.ensures.value in
-    rw (← c.self.view_is) (λ _. is_passed w.number w.records w.shows w.steps items c.in-Some.found
-    c.args.segment c.args.page c.args.index one c.bring_home-owner.new.segment here
+    let at = (goal.at.returns-in_default-owner-clause-passed g c).After-settled in
+    rw (← c.self.view_is) (λ _. is_passed w.number w.records w.shows w.steps (here g at)
     c.bring_home-owner.ensures.number c.in_default-owner.ensures.away c.self.inside.queues)
+
+-- a place of it came back
+back : (g : Over) (c : In-Some-owner g) → CameBack g.S.SlotWords.number g.S.SlotWords.records
+    g.S.SlotWords.shows g.S.SlotWords.steps c.self.inside.segments.items c.in-Some.found
+    c.args.segment c.args.page c.args.index c.in-Some-owner.owner c.index_mut-segment.result.now
+    c.bring_home-owner.new.segment
+back g c =
+    let w = g.S.SlotWords in
+    let one = c.index_mut-segment.result.now.slots in
+    back_of w.number w.records w.shows w.steps _ _ _ _ _ _ _ _
+    (found_of w.number c.self.inside.segments.items c.args.segment c.in-Some.found _
+    (rw (← c.self.view_is) at c.in-Some.ensures.some) c.index_mut-segment.ensures.value)
+    c.self.invariant.settled (g.met.S.SlotWords.sized one) (g.met.S.SlotWords.sane one)
+    c.requires.page c.requires.index c.bring_home-owner.ensures.number
+    c.in-Some-owner.ensures.home
 
 pub lower-requires-clause-left : goal.lower-requires-clause-left
 lower-requires-clause-left g c =
-    let w = g.S.SlotWords in
-    let m = g.met.S.SlotWords in
-    let items = c.self.inside.segments.items in
-    let one = c.index_mut-segment.result.now in
-    let after = c.bring_home-owner.new.segment in
-    let size = c.in-Some-class_of.class in
-    let owner = c.in-Some-owner.owner in
-    let here : Found w.number items c.args.segment c.in-Some.found one =
-    found_of w.number items c.args.segment c.in-Some.found one
-    (rw (← c.self.view_is) at c.in-Some.ensures.some) c.index_mut-segment.ensures.value in
-    let h : CameBack w.number w.records w.shows w.steps items c.in-Some.found c.args.segment
-    c.args.page c.args.index owner one after =
-    back_of w.number w.records w.shows w.steps items c.in-Some.found c.args.segment c.args.page
-    c.args.index owner one after here c.self.invariant.settled (m.sized one.slots)
-    (m.sane one.slots) c.requires.page c.requires.index c.bring_home-owner.ensures.number
-    c.in-Some-owner.ensures.home in
-    let class : class_at after.classes c.args.page ≡ Some size =
-    sym c.class_of.ensures ∙ c.in-Some-class_of.is in
-    owner_pays w.number w.records w.shows w.steps items c.in-Some.found c.args.segment
-    c.args.page c.args.index owner one after h size class c.self.inside.charges
-    c.block_bytes.result c.self.inside.table.value c.self.inside.segments.cap
-    c.self.inside.queues c.block_bytes.ensures.value c.self.invariant
+    owner_pays (back g (goal.at.lower-requires-clause-left g c).In-Some-owner)
+    (sym c.class_of.ensures ∙ c.in-Some-class_of.is) c.block_bytes.ensures.value c.self.invariant
 
 pub invariant_of-place : goal.invariant_of-place
 invariant_of-place g c =
-    let w = g.S.SlotWords in
-    let m = g.met.S.SlotWords in
-    let items = c.self.inside.segments.items in
-    let one = c.index_mut-segment.result.now in
-    let here : Found w.number items c.args.segment c.in-Some.found one =
-    found_of w.number items c.args.segment c.in-Some.found one
-    (rw (← c.self.view_is) at c.in-Some.ensures.some) c.index_mut-segment.ensures.value in
-    let low = m.numbered one.slots in
-    let is = number_is w.number items c.args.segment c.in-Some.found one here in
+    let low = g.met.S.SlotWords.numbered c.index_mut-segment.result.now.slots in
+    let is = number_is g.S.SlotWords.number _ _ _ _
+    (here g (goal.at.invariant_of-place g c).After-settled) in
     record {
       segment_below = omega (arith, low, is);
       page_below = c.requires.page;
@@ -88,113 +79,26 @@ invariant_of-place g c =
 
 pub requeue-requires-clause-arena : goal.requeue-requires-clause-arena
 requeue-requires-clause-arena g c =
-    let w = g.S.SlotWords in
-    let m = g.met.S.SlotWords in
-    let items = c.self.inside.segments.items in
-    let one = c.index_mut-segment.result.now in
-    let after = c.bring_home-owner.new.segment in
-    let owner = c.in-Some-owner.owner in
-    let here : Found w.number items c.args.segment c.in-Some.found one =
-    found_of w.number items c.args.segment c.in-Some.found one
-    (rw (← c.self.view_is) at c.in-Some.ensures.some) c.index_mut-segment.ensures.value in
-    let h : CameBack w.number w.records w.shows w.steps items c.in-Some.found c.args.segment
-    c.args.page c.args.index owner one after =
-    back_of w.number w.records w.shows w.steps items c.in-Some.found c.args.segment c.args.page
-    c.args.index owner one after here c.self.invariant.settled (m.sized one.slots)
-    (m.sane one.slots) c.requires.page c.requires.index c.bring_home-owner.ensures.number
-    c.in-Some-owner.ensures.home in
-    arena_below w.number w.records w.shows w.steps items c.in-Some.found c.args.segment
-    c.args.page c.args.index owner one after h c.arena-arena.result
+    arena_below (back g (goal.at.requeue-requires-clause-arena g c).In-Some-owner)
     c.arena-arena.ensures c.self.invariant.arenas
 
 pub requeue-requires-clause-its_own : goal.requeue-requires-clause-its_own
 requeue-requires-clause-its_own g c =
-    let w = g.S.SlotWords in
-    let m = g.met.S.SlotWords in
-    let items = c.self.inside.segments.items in
-    let one = c.index_mut-segment.result.now in
-    let after = c.bring_home-owner.new.segment in
-    let size = c.in-Some-class_of.class in
-    let owner = c.in-Some-owner.owner in
-    let here : Found w.number items c.args.segment c.in-Some.found one =
-    found_of w.number items c.args.segment c.in-Some.found one
-    (rw (← c.self.view_is) at c.in-Some.ensures.some) c.index_mut-segment.ensures.value in
-    let h : CameBack w.number w.records w.shows w.steps items c.in-Some.found c.args.segment
-    c.args.page c.args.index owner one after =
-    back_of w.number w.records w.shows w.steps items c.in-Some.found c.args.segment c.args.page
-    c.args.index owner one after here c.self.invariant.settled (m.sized one.slots)
-    (m.sane one.slots) c.requires.page c.requires.index c.bring_home-owner.ensures.number
-    c.in-Some-owner.ensures.home in
-    let class : class_at after.classes c.args.page ≡ Some size =
-    sym c.class_of.ensures ∙ c.in-Some-class_of.is in
-    in_its_own w.number w.records w.shows w.steps items c.in-Some.found c.args.segment
-    c.args.page c.args.index owner one after h size class c.arena-arena.result
-    c.page_of.result c.arena-arena.ensures c.page_of.ensures.number c.self.inside.table.value
-    c.self.inside.charges c.self.inside.segments.cap c.self.inside.queues c.self.invariant
+    in_its_own (back g (goal.at.requeue-requires-clause-its_own g c).In-Some-owner)
+    (sym c.class_of.ensures ∙ c.in-Some-class_of.is) c.arena-arena.ensures
+    c.page_of.ensures.number c.self.invariant
 
 pub invariant_of-self-2 : goal.invariant_of-self-2
 invariant_of-self-2 g c =
-    let w = g.S.SlotWords in
-    let m = g.met.S.SlotWords in
-    let items = c.self.inside.segments.items in
-    let one = c.index_mut-segment.result.now in
-    let after = c.bring_home-owner.new.segment in
-    let size = c.in-Some-class_of.class in
-    let owner = c.in-Some-owner.owner in
-    let here : Found w.number items c.args.segment c.in-Some.found one =
-    found_of w.number items c.args.segment c.in-Some.found one
-    (rw (← c.self.view_is) at c.in-Some.ensures.some) c.index_mut-segment.ensures.value in
-    let h : CameBack w.number w.records w.shows w.steps items c.in-Some.found c.args.segment
-    c.args.page c.args.index owner one after =
-    back_of w.number w.records w.shows w.steps items c.in-Some.found c.args.segment c.args.page
-    c.args.index owner one after here c.self.invariant.settled (m.sized one.slots)
-    (m.sane one.slots) c.requires.page c.requires.index c.bring_home-owner.ensures.number
-    c.in-Some-owner.ensures.home in
-    let class : class_at after.classes c.args.page ≡ Some size =
-    sym c.class_of.ensures ∙ c.in-Some-class_of.is in
-    let s = c.settled.ensures in
-    let settled : IsSettled w.records after = record {
-      lists = s.lists;
-      sizes = s.sizes;
-      runs = s.runs;
-      bounded = s.bounded;
-      opened = s.open;
-      listed = s.listed;
-      blocks = s.blocks;
-      pages = s.all.0;
-      classes = s.all.1;
-      words = s.all.2;
-    } in
-    right_back w.number w.records w.shows w.steps items c.in-Some.found c.args.segment
-    c.args.page c.args.index owner one after h size class c.arena-arena.result
-    c.page_of.result c.arena-arena.ensures c.page_of.ensures.number c.self.inside.queues
-    c.requeue.new.queues c.is_full-is_full.result c.is_full-is_full.ensures.0
-    c.is_full-is_full.ensures.1 c.requeue.ensures.requeued settled m.numbered
-    c.self.inside.table.value c.self.inside.charges c.lower.new.self c.self.inside.segments.cap
-    c.block_bytes.result c.block_bytes.ensures.value c.lower.ensures c.self.invariant
+    let at = goal.at.invariant_of-self-2 g c in
+    right_back (back g at.In-Some-owner) (sym c.class_of.ensures ∙ c.in-Some-class_of.is)
+    c.arena-arena.ensures c.page_of.ensures.number c.self.inside.queues
+    c.is_full-is_full.ensures.0 c.is_full-is_full.ensures.1 c.requeue.ensures.requeued (stays g at.After-settled)
+    g.met.S.SlotWords.numbered c.block_bytes.ensures.value c.lower.ensures c.self.invariant
 
 pub returns-clause-taken : goal.returns-clause-taken
 returns-clause-taken g c =
-    let w = g.S.SlotWords in
-    let m = g.met.S.SlotWords in
-    let items = c.self.inside.segments.items in
-    let one = c.index_mut-segment.result.now in
-    let after = c.bring_home-owner.new.segment in
-    let size = c.in-Some-class_of.class in
-    let owner = c.in-Some-owner.owner in
-    let here : Found w.number items c.args.segment c.in-Some.found one =
-    found_of w.number items c.args.segment c.in-Some.found one
-    (rw (← c.self.view_is) at c.in-Some.ensures.some) c.index_mut-segment.ensures.value in
-    let h : CameBack w.number w.records w.shows w.steps items c.in-Some.found c.args.segment
-    c.args.page c.args.index owner one after =
-    back_of w.number w.records w.shows w.steps items c.in-Some.found c.args.segment c.args.page
-    c.args.index owner one after here c.self.invariant.settled (m.sized one.slots)
-    (m.sane one.slots) c.requires.page c.requires.index c.bring_home-owner.ensures.number
-    c.in-Some-owner.ensures.home in
-    let class : class_at after.classes c.args.page ≡ Some size =
-    sym c.class_of.ensures ∙ c.in-Some-class_of.is in
-    rw (← c.self.view_is) (λ _. is_taken w.number w.records w.shows w.steps items c.in-Some.found
-    c.args.segment c.args.page c.args.index owner one after h size class
-    c.arena-arena.result c.page_of.result c.arena-arena.ensures c.page_of.ensures.number
-    c.self.inside.queues c.requeue.new.queues c.is_full-is_full.result
+    let h = back g (goal.at.returns-clause-taken g c).In-Some-owner in
+    rw (← c.self.view_is) (λ _. is_taken h (sym c.class_of.ensures ∙ c.in-Some-class_of.is)
+    c.arena-arena.ensures c.page_of.ensures.number c.self.inside.queues
     c.is_full-is_full.ensures.0 c.is_full-is_full.ensures.1 c.requeue.ensures.requeued)
