@@ -1,4 +1,4 @@
-use Rattle.std.proofs.Common.{◌≡◌, ◌+◌, ◌*◌, ◌/◌, ◌%◌, ℕ, List, Option, map}
+use Rattle.std.proofs.Common.{Bool, Some, ◌≡◌, ◌+◌, ◌*◌, ◌/◌, ◌%◌, ℕ, List, Option, map}
 use Rattle.std.proofs.Common.{slice_set, sym, ap, subst, ◌∙◌, arith}
 use Rattle.hg_lists.specs.Lists.{without}
 use Rattle.hg_segment.specs.Kept.{Kept}
@@ -12,23 +12,49 @@ use Rattle.hg_heap.proofs.Founds.{Found, found_of, found_is, Contains-get}
 use Rattle.hg_heap.proofs.Idles.{idle_here, busy_here}
 use Rattle.hg_heap.proofs.PageRetired.{PageRetired, right_retired, retired_on}
 use Rattle.hg_heap.proofs.heap.Heap.retire.Goals as goal
+use Rattle.hg_heap.proofs.heap.Heap.retire.Goals.{After-retire-is_retired, Else-not-is_retired}
+use Rattle.hg_heap.proofs.heap.Heap.retire.Given.{Over}
+
+-- the segment of the page, as it was found
+here : (g : Over) (c : After-retire-is_retired g) → Found g.S.SlotWords.number
+    c.self.inside.segments.items (c.args.page / 16) c.in-Some.found c.index_mut-segment.result.now
+here g c = found_of g.S.SlotWords.number c.self.inside.segments.items _ c.in-Some.found
+    c.index_mut-segment.result.now
+    (rw (← c.self.view_is) at c.in-Some.ensures.some) c.index_mut-segment.ensures.value
+
+-- whether the page was idle, by its segment
+idle_is : (g : Over) (c : After-retire-is_retired g) (b : Bool)
+    → is_idle_by g.S.SlotWords.number g.S.SlotWords.records (Some c.index_mut-segment.result.now)
+    (c.args.page % 16) ≡ b
+    → b ≡ is_idle g.S.SlotWords.number g.S.SlotWords.records c.args.self.now.segments c.args.page
+idle_is g c b e = rw (← c.self.view_is) (sym
+    (ap (λ (o : Option (Kept g.row.S.Denot)). is_idle_by g.S.SlotWords.number
+    g.S.SlotWords.records o (c.args.page % 16))
+    (found_is g.S.SlotWords.number _ _ _ _ (here g c)) ∙ e))
+
+-- it lost its class
+abbrev retired : (g : Over) (c : Else-not-is_retired g) → PageRetired g.S.SlotWords.number
+    c.self.inside.segments.items c.in-Some.found (c.args.page % 16)
+    c.index_mut-segment.result.now c.retire-is_retired.new.self
+retired g c =
+    let found = found_of g.S.SlotWords.number c.self.inside.segments.items _ c.in-Some.found
+    c.index_mut-segment.result.now
+    (rw (← c.self.view_is) at c.in-Some.ensures.some) c.index_mut-segment.ensures.value in
+    let was = c.self.invariant.settled _ (Contains-get _ c.in-Some.found _ found.at) in
+    record {
+      segment = c.args.page / 16;
+      here = found;
+      low = omega arith;
+      pages = was.pages;
+      paged = was.classes;
+      changed = (c.retire-is_retired.ensures.retired c.if-not-is_retired.false).changed;
+    }
 
 pub invariant_of-self-2 : goal.invariant_of-self-2
 invariant_of-self-2 g c =
     let w = g.S.SlotWords in
-    let items = c.self.inside.segments.items in
-    let found = c.in-Some.found in
-    let before = c.index_mut-segment.result.now in
-    let after = c.retire-is_retired.new.self in
-    let segment = c.args.page / 16 in
-    let at = subst (λ (h : Held g.row.S.Denot). IsFoundAt w.number h.segments segment found)
-    (sym c.self.view_is) c.in-Some.ensures.some in
-    let here : Found w.number items segment found before =
-    found_of w.number items segment found before at c.index_mut-segment.ensures.value in
-    let was = c.self.invariant.settled before (Contains-get items found before here.at) in
-    let r = c.retire-is_retired.ensures.retired c.if-not-is_retired.false in
     let s = c.settled.ensures in
-    let settled : IsSettled w.records after = record {
+    let settled : IsSettled w.records c.retire-is_retired.new.self = record {
       lists = s.lists;
       sizes = s.sizes;
       runs = s.runs;
@@ -40,101 +66,29 @@ invariant_of-self-2 g c =
       classes = s.all.1;
       words = s.all.2;
     } in
-    let change : PageRetired w.number items found (c.args.page % 16) before after = record {
-      segment = segment;
-      here = here;
-      low = omega arith;
-      pages = was.pages;
-      paged = was.classes;
-      changed = r.changed;
-    } in
-    let whole : segment * 16 + c.args.page % 16 ≡ c.args.page = omega arith in
-    let right = right_retired w.number items found (c.args.page % 16) before after change
-    c.self.inside.queues c.self.invariant.queued w.records c.self.inside.table.value
-    c.self.inside.charges c.self.inside.segments.cap r.idle settled c.self.invariant in
-    subst (λ (qs : List (List ℕ)). IsRight w.number w.records c.self.inside.table.value
-    c.self.inside.charges c.self.inside.segments.cap
-    (record { segments = slice_set items found after; queues = qs }))
-    (ap (λ (n : ℕ). map (without n) c.self.inside.queues) whole ∙ sym c.remove.ensures.removed)
-    right
+    let whole : (c.args.page / 16) * 16 + c.args.page % 16 ≡ c.args.page = omega arith in
+    rw (c.remove.ensures.removed, ← whole)
+    (right_retired w.number _ _ _ _ _
+    (retired g (goal.at.invariant_of-self-2 g c).Else-not-is_retired) c.self.inside.queues
+    c.self.invariant.queued w.records _ _ _
+    (c.retire-is_retired.ensures.retired c.if-not-is_retired.false).idle settled c.self.invariant)
 
 pub returns-clause-retired : goal.returns-clause-retired
 returns-clause-retired g c =
-    let w = g.S.SlotWords in
-    let items = c.self.inside.segments.items in
-    let found = c.in-Some.found in
-    let before = c.index_mut-segment.result.now in
-    let after = c.retire-is_retired.new.self in
-    let segment = c.args.page / 16 in
-    let at = subst (λ (h : Held g.row.S.Denot). IsFoundAt w.number h.segments segment found)
-    (sym c.self.view_is) c.in-Some.ensures.some in
-    let here : Found w.number items segment found before =
-    found_of w.number items segment found before at c.index_mut-segment.ensures.value in
-    let was = c.self.invariant.settled before (Contains-get items found before here.at) in
-    let r = c.retire-is_retired.ensures.retired c.if-not-is_retired.false in
-    let change : PageRetired w.number items found (c.args.page % 16) before after = record {
-      segment = segment;
-      here = here;
-      low = omega arith;
-      pages = was.pages;
-      paged = was.classes;
-      changed = r.changed;
-    } in
-    let whole : segment * 16 + c.args.page % 16 ≡ c.args.page = omega arith in
-    let lost : RetiredOn w.number c.args.page
-    (record { segments = items; queues = c.self.inside.queues })
-    (record {
-      segments = slice_set items found after;
-      queues = map (without c.args.page) c.self.inside.queues;
-    }) =
-    subst (λ (n : ℕ). RetiredOn w.number n
-    (record { segments = items; queues = c.self.inside.queues })
-    (record {
-      segments = slice_set items found after;
-      queues = map (without n) c.self.inside.queues;
-    })) whole
-    (retired_on w.number items found (c.args.page % 16) before after change
-    c.self.inside.queues) in
-    λ yes. subst (λ (h : Held g.row.S.Denot). RetiredOn w.number c.args.page h
-    (record { segments = slice_set items found after; queues = c.remove.new.self }))
-    c.self.view_is
-    (subst (λ (qs : List (List ℕ)). RetiredOn w.number c.args.page
-    (record { segments = items; queues = c.self.inside.queues })
-    (record { segments = slice_set items found after; queues = qs }))
-    (sym c.remove.ensures.removed) lost)
+    let whole : (c.args.page / 16) * 16 + c.args.page % 16 ≡ c.args.page = omega arith in
+    λ yes. rw (← c.self.view_is, c.remove.ensures.removed, ← whole)
+    (retired_on g.S.SlotWords.number _ _ _ _ _
+    (retired g (goal.at.returns-clause-retired g c).Else-not-is_retired) c.self.inside.queues)
 
 pub returns-then-not-is_retired-clause-idle : goal.returns-then-not-is_retired-clause-idle
-returns-then-not-is_retired-clause-idle g c =
-    let w = g.S.SlotWords in
-    let items = c.self.inside.segments.items in
-    let found = c.in-Some.found in
-    let before = c.index_mut-segment.result.now in
-    let segment = c.args.page / 16 in
-    let at = subst (λ (h : Held g.row.S.Denot). IsFoundAt w.number h.segments segment found)
-    (sym c.self.view_is) c.in-Some.ensures.some in
-    let here : Found w.number items segment found before =
-    found_of w.number items segment found before at c.index_mut-segment.ensures.value in
-    let stayed = c.retire-is_retired.ensures.stayed c.if-not-is_retired.true in
-    sym (ap (λ (h : Held g.row.S.Denot). is_idle w.number w.records h.segments c.args.page)
-    (sym c.self.view_is)
-    ∙ ap (λ (o : Option (Kept g.row.S.Denot)). is_idle_by w.number w.records o (c.args.page % 16))
-    (found_is w.number items segment found before here)
-    ∙ busy_here w.number w.records before (c.args.page % 16) stayed.busy)
+returns-then-not-is_retired-clause-idle g c = idle_is g
+    (goal.at.returns-then-not-is_retired-clause-idle g c).After-retire-is_retired _
+    (busy_here g.S.SlotWords.number g.S.SlotWords.records c.index_mut-segment.result.now
+    (c.args.page % 16) (c.retire-is_retired.ensures.stayed c.if-not-is_retired.true).busy)
 
 pub returns-clause-idle : goal.returns-clause-idle
 returns-clause-idle g c =
-    let w = g.S.SlotWords in
-    let items = c.self.inside.segments.items in
-    let found = c.in-Some.found in
-    let before = c.index_mut-segment.result.now in
-    let segment = c.args.page / 16 in
-    let at = subst (λ (h : Held g.row.S.Denot). IsFoundAt w.number h.segments segment found)
-    (sym c.self.view_is) c.in-Some.ensures.some in
-    let here : Found w.number items segment found before =
-    found_of w.number items segment found before at c.index_mut-segment.ensures.value in
     let r = c.retire-is_retired.ensures.retired c.if-not-is_retired.false in
-    sym (ap (λ (h : Held g.row.S.Denot). is_idle w.number w.records h.segments c.args.page)
-    (sym c.self.view_is)
-    ∙ ap (λ (o : Option (Kept g.row.S.Denot)). is_idle_by w.number w.records o (c.args.page % 16))
-    (found_is w.number items segment found before here)
-    ∙ idle_here w.number w.records before (c.args.page % 16) r.classed r.idle)
+    idle_is g (goal.at.returns-clause-idle g c).After-retire-is_retired _
+    (idle_here g.S.SlotWords.number g.S.SlotWords.records c.index_mut-segment.result.now
+    (c.args.page % 16) r.classed r.idle)
