@@ -102,19 +102,19 @@ fits_by policy actor arena words charge size true true it ia e =
           (size_for words) e;
     }
 
-pub fits_is : (policy : Policy) (actor arena words charge size : ℕ)
+pub fits_is : (policy : Policy) (actor arena words charge : ℕ) {size : ℕ}
     → alloc_verdict policy actor arena words charge ≡ alloc.Fits size
     → Fits policy actor arena words charge size
-fits_is policy actor arena words charge size e =
+fits_is policy actor arena words charge {size = size} e =
     fits_by policy actor arena words charge size (is_tenant policy actor)
     (admits policy arena actor) refl refl e
 
 module _ {S : Type 0} (number : S → ℕ) (records : S → List Standing) (sized : (s : S)
-    → length (records s) ≡ 8192) (small : (s : S) → number s < 64) (policy : Policy) (held : Held S)
-    (table : List (Option ℕ)) (charges : List ℕ) (capacity : ℕ)
+    → length (records s) ≡ 8192) (small : (s : S) → number s < 64) {policy : Policy} {held : Held S}
+    {table : List (Option ℕ)} {charges : List ℕ} {capacity : ℕ}
     (right : IsRight number records table charges capacity held)
     (of : AreOf number policy held.segments)
-    (actor : Actor) (arena bytes charge : ℕ) (few : length policy.tenants ≤ 64)
+    (actor : Actor) (arena bytes : ℕ) {charge : ℕ} (few : length policy.tenants ≤ 64)
     (charged : actor.0 < TENANTS → charge ≡ charge_in records held.segments actor.0) where
   abbrev verdict : AllocVerdict
   verdict = alloc_verdict policy actor.0 arena (words_for bytes) charge
@@ -154,27 +154,27 @@ module _ {S : Type 0} (number : S → ℕ) (records : S → List Standing) (size
       (refusal_is worker hand generation (slot_shown shown) v e ∙ why worker hand generation)
 
   -- one for which there is no room
-  pub no_room_ends : (size : ℕ) → alloc_verdict policy actor.0 arena (words_for bytes) charge
+  pub no_room_ends : {size : ℕ} → alloc_verdict policy actor.0 arena (words_for bytes) charge
       ≡ alloc.Fits size → Contains sizes size
       → front_page number records held arena size ≡ None → blank_page number records held arena size
       ≡ None
       → (shown : Option Shown) → HeapTies number records policy shown shown
       (event.Alloc actor arena bytes) answer.NoRoom held.segments held.segments
-  no_room_ends size e in_sizes empty blank =
+  no_room_ends {size = size} e in_sizes empty blank =
       refused_ends (alloc.Fits size) answer.NoRoom e (λ worker hand generation.
       ap (λ (b : Bool). cond b None (Some answer.NoRoom))
       (unchosen_no_room number records small policy worker hand generation held right.queued
       right.settled of arena size in_sizes empty blank))
 
   -- one that is served
-  module _ (size : ℕ) (e : alloc_verdict policy actor.0 arena (words_for bytes) charge
-      ≡ alloc.Fits size) (in_sizes : Contains sizes size) (handle : Handle) (new : List (Kept S))
-      (shows : S → ℕ → ℕ → Type 0) (steps : S → ℕ → ℕ → ℕ → S → Type 0)
+  module _ {size : ℕ} (e : alloc_verdict policy actor.0 arena (words_for bytes) charge
+      ≡ alloc.Fits size) (in_sizes : Contains sizes size) {handle : Handle} {new : List (Kept S)}
+      {shows : S → ℕ → ℕ → Type 0} {steps : S → ℕ → ℕ → ℕ → S → Type 0}
       (a : IsAllotted number records shows steps size actor.0 handle held.segments new)
       (chosen : chosen_place number records held arena size ≡ Some (number_of handle.place)) where
     size_same : size_of bytes ≡ size
     size_same = ap (λ (o : Option ℕ). unwrap_or o 0)
-        (fits_is policy actor.0 arena (words_for bytes) charge size e).size_is
+        (fits_is policy actor.0 arena (words_for bytes) charge e).size_is
 
     in_heap : Found number held.segments handle.place.segment a.stepped.found a.stepped.before
     in_heap = record {

@@ -55,7 +55,7 @@ module _ {S : Type 0} (number : S → ℕ) (records : S → List Standing) (show
         (let e : n ≡ 0 + n = omega arith in e) t;
   }
 
-  module _ (segment page index count : ℕ) (first now after : Remote) (old mid last : Held S)
+  module _ {segment page index count : ℕ} {first now after : Remote} {old mid : Held S}
       (h : AreTaken segment first now old mid count) (comes : Comes page index now after) where
     abbrev place : ℕ
     place = slot page index
@@ -79,7 +79,7 @@ module _ {S : Type 0} (number : S → ℕ) (records : S → List Standing) (show
     in_index : index ≡ index_of place
     in_index = let small = comes.small in omega (arith, small)
 
-    goes_on : (m : ℕ) → ((n : ℕ) → (
+    goes_on : {last : Held S} (m : ℕ) → ((n : ℕ) → (
         (IsTaken number records shows steps segment (page_of place) (index_of place) mid last
         × (n + m ≡ n + 1))
         ⊎ (IsPassed number records shows steps segment (page_of place) (index_of place) mid last
@@ -87,7 +87,7 @@ module _ {S : Type 0} (number : S → ℕ) (records : S → List Standing) (show
         → (new : Held S) (n : ℕ)
         → Takes number records shows steps segment (drained after) last new n
         → Takes number records shows steps segment (drained first) old new (count + m + n)
-    goes_on m step new n t =
+    goes_on {last = last} m step new n t =
         subst (Takes number records shows steps segment (drained first) old new)
         (let e : count + (n + m) ≡ count + m + n = omega arith in e)
         (h.rest new (n + m) (subst
@@ -95,9 +95,10 @@ module _ {S : Type 0} (number : S → ℕ) (records : S → List Standing) (show
         (sym head) (last, n, t, step n)))
 
     -- one that came home
-    pub one_taken : IsTaken number records shows steps segment page index mid last
+    pub one_taken : {last : Held S}
+        → IsTaken number records shows steps segment page index mid last
         → AreTaken segment first after old last (count + 1)
-    one_taken taken = record {
+    one_taken {last = last} taken = record {
       held = another_held number segment mid.segments last.segments taken.another segment ∙ h.held;
       right = comes.right;
       few = (let l = left in let few = h.few in omega (arith, l, few));
@@ -111,9 +112,10 @@ module _ {S : Type 0} (number : S → ℕ) (records : S → List Standing) (show
     }
 
     -- one that was passed over
-    pub one_passed : IsPassed number records shows steps segment page index mid last
+    pub one_passed : {last : Held S}
+        → IsPassed number records shows steps segment page index mid last
         → AreTaken segment first after old last count
-    one_passed passed = record {
+    one_passed {last = last} passed = record {
       held = another_held number segment mid.segments last.segments passed.another segment ∙ h.held;
       right = comes.right;
       few = (let l = left in let few = h.few in omega (arith, l, few));
@@ -130,10 +132,11 @@ module _ {S : Type 0} (number : S → ℕ) (records : S → List Standing) (show
     }
 
   -- nothing is left
-  pub all_taken : (segment count : ℕ) (first now : Remote) (old new : Held S)
+  pub all_taken : {segment count : ℕ} {first now : Remote} {old new : Held S}
       → AreTaken segment first now old new count → contents now ≡ []
       → Takes number records shows steps segment (drained first) old new count
-  all_taken segment count first now old new h none =
+  all_taken {segment = segment} {count = count} {first = first} {now = now} {old = old} {new = new}
+      h none =
       subst (Takes number records shows steps segment (drained first) old new)
       (let e : count + 0 ≡ count = omega arith in e)
       (h.rest new 0 (subst

@@ -7,6 +7,8 @@ use Rattle.hg_heap.proofs.Homecoming.{home_again}
 use Rattle.hg_heap.proofs.TakeLoop.{Comes, none_taken, shorter, room, one_taken, one_passed}
 use Rattle.hg_heap.proofs.TakeLoop.{all_taken}
 use Rattle.hg_heap.proofs.heap.Heap.take.Goals as goal
+use Rattle.hg_heap.proofs.heap.Heap.take.Goals.{In-Some}
+use Rattle.hg_heap.proofs.heap.Heap.take.Given.{Over}
 
 pub loop-page-init : goal.loop-page-init
 loop-page-init g c =
@@ -18,87 +20,49 @@ loop-page-init g c =
 pub take_one-requires-clause-held : goal.take_one-requires-clause-held
 take_one-requires-clause-held g c = c.loop-page.invariant.held
 
-pub overflow_add-count : goal.overflow_add-count
-overflow_add-count g c =
-    let w = g.S.SlotWords in
-    let d = c.in-Some.ensures in
-    let comes : Comes c.in-Some.page c.in-Some.index c.loop-page.remote c.drain_one.new.self =
+-- a place came off the remote list
+comes : (g : Over) (c : In-Some g) → Comes c.in-Some.page c.in-Some.index c.loop-page.remote
+    c.drain_one.new.self
+comes g c = let d = c.in-Some.ensures in
     record {
       low = d.page;
       small = d.index;
       drains = d.drained;
       removed = d.removed;
       right = d.right;
-    } in
-    let less = room w.number w.records w.shows w.steps c.args.segment c.in-Some.page c.in-Some.index
-    c.loop-page.count c.args.remote.now c.loop-page.remote c.drain_one.new.self c.args.self.now
-    c.loop-page.self c.take_one.new.self c.loop-page.invariant comes in
+    }
+
+pub overflow_add-count : goal.overflow_add-count
+overflow_add-count g c =
+    let w = g.S.SlotWords in
+    let less = room w.number w.records w.shows w.steps c.loop-page.invariant
+    (comes g (goal.at.overflow_add-count g c).In-Some) in
     omega (arith, less)
 
 pub loop-page-smaller-then-take_one : goal.loop-page-smaller-then-take_one
 loop-page-smaller-then-take_one g c =
     let w = g.S.SlotWords in
-    let d = c.in-Some.ensures in
-    let comes : Comes c.in-Some.page c.in-Some.index c.loop-page.remote c.drain_one.new.self =
-    record {
-      low = d.page;
-      small = d.index;
-      drains = d.drained;
-      removed = d.removed;
-      right = d.right;
-    } in
-    shorter w.number w.records w.shows w.steps c.args.segment c.in-Some.page c.in-Some.index
-    c.loop-page.count c.args.remote.now c.loop-page.remote c.drain_one.new.self c.args.self.now
-    c.loop-page.self c.take_one.new.self c.loop-page.invariant comes
+    shorter w.number w.records w.shows w.steps c.loop-page.invariant
+    (comes g (goal.at.loop-page-smaller-then-take_one g c).In-Some)
 
 pub loop-page-preserved-then-take_one : goal.loop-page-preserved-then-take_one
 loop-page-preserved-then-take_one g c =
     let w = g.S.SlotWords in
-    let d = c.in-Some.ensures in
-    let comes : Comes c.in-Some.page c.in-Some.index c.loop-page.remote c.drain_one.new.self =
-    record {
-      low = d.page;
-      small = d.index;
-      drains = d.drained;
-      removed = d.removed;
-      right = d.right;
-    } in
-    one_taken w.number w.records w.shows w.steps c.args.segment c.in-Some.page c.in-Some.index
-    c.loop-page.count c.args.remote.now c.loop-page.remote c.drain_one.new.self c.args.self.now
-    c.loop-page.self c.take_one.new.self c.loop-page.invariant comes
+    one_taken w.number w.records w.shows w.steps c.loop-page.invariant
+    (comes g (goal.at.loop-page-preserved-then-take_one g c).In-Some)
     (c.take_one.ensures.taken c.if-take_one.true)
 
 pub loop-page-smaller : goal.loop-page-smaller
 loop-page-smaller g c =
     let w = g.S.SlotWords in
-    let d = c.in-Some.ensures in
-    let comes : Comes c.in-Some.page c.in-Some.index c.loop-page.remote c.drain_one.new.self =
-    record {
-      low = d.page;
-      small = d.index;
-      drains = d.drained;
-      removed = d.removed;
-      right = d.right;
-    } in
-    shorter w.number w.records w.shows w.steps c.args.segment c.in-Some.page c.in-Some.index
-    c.loop-page.count c.args.remote.now c.loop-page.remote c.drain_one.new.self c.args.self.now
-    c.loop-page.self c.take_one.new.self c.loop-page.invariant comes
+    shorter w.number w.records w.shows w.steps c.loop-page.invariant
+    (comes g (goal.at.loop-page-smaller g c).In-Some)
 
 pub loop-page-preserved : goal.loop-page-preserved
 loop-page-preserved g c =
     let w = g.S.SlotWords in
-    let d = c.in-Some.ensures in
-    let comes : Comes c.in-Some.page c.in-Some.index c.loop-page.remote c.drain_one.new.self =
-    record {
-      low = d.page;
-      small = d.index;
-      drains = d.drained;
-      removed = d.removed;
-      right = d.right;
-    } in
-    one_passed w.number w.records w.shows w.steps c.args.segment c.in-Some.page c.in-Some.index
-    c.loop-page.count c.args.remote.now c.loop-page.remote c.drain_one.new.self c.args.self.now
-    c.loop-page.self c.take_one.new.self c.loop-page.invariant comes
+    one_passed w.number w.records w.shows w.steps c.loop-page.invariant
+    (comes g (goal.at.loop-page-preserved g c).In-Some)
     (c.take_one.ensures.passed c.if-take_one.false)
 
 pub returns-clause-empty : goal.returns-clause-empty
@@ -109,8 +73,7 @@ returns-clause-empty g c = λ held.
 pub returns-clause-taken : goal.returns-clause-taken
 returns-clause-taken g c =
     let w = g.S.SlotWords in
-    λ held. all_taken w.number w.records w.shows w.steps c.args.segment c.loop-page.count
-    c.args.remote.now c.loop-page.remote c.args.self.now c.loop-page.self c.loop-page.invariant
+    λ held. all_taken w.number w.records w.shows w.steps c.loop-page.invariant
     (c.in_default.ensures.none.0 refl)
 
 pub returns-clause-few : goal.returns-clause-few
@@ -138,6 +101,5 @@ returns-clause-whole g c = let w = g.S.SlotWords in
     (drained c.args.remote.now) (contents c.args.remote.now) c.args.self.now c.loop-page.self
     c.settled.ensures.once held
     (λ place. ((order_all c.args.remote.now c.is_empty-is_empty.ensures.right).same place).0)
-    (all_taken w.number w.records w.shows w.steps c.args.segment c.loop-page.count
-    c.args.remote.now c.loop-page.remote c.args.self.now c.loop-page.self c.loop-page.invariant
+    (all_taken w.number w.records w.shows w.steps c.loop-page.invariant
     (c.in_default.ensures.none.0 refl))
