@@ -40,15 +40,7 @@ use Rattle.hg_heap.proofs.SettledHeap.{some_first}
 use Rattle.hg_heap.proofs.ChargeChanged.{charge_room}
 use Rattle.hg_heap.proofs.Entered.{is_entering, entering, AreEntered, Contains-range}
 use Rattle.hg_heap.proofs.Entered.{Contains-reverse, contained_reverse, pages_are}
-
-or_none : {X : Type 0} (o : Option X) → option_or o None ≡ o
-or_none None = refl
-or_none (Some x) = refl
-
-once_more : (x : ℕ) (xs : List ℕ) → Lacks x xs → HasNoRepeats xs → HasNoRepeats (xs ++ x ∷ [])
-once_more x xs l h =
-    HasNoRepeats-middle x xs [] (subst (Lacks x) (sym (append-nil xs)) l)
-    (subst HasNoRepeats (sym (append-nil xs)) h)
+use Rattle.hg_heap.proofs.OneMore.{none_yet, in_old, in_own, in_other, tabled_now}
 
 is_key : (arena key : ℕ) (o : Option ℕ) → is_key_of arena o key ≡ true
     → option_map (λ size. key_of arena (number_of_size size)) o ≡ Some key
@@ -60,144 +52,13 @@ classed None index b = absurd b
 classed (Some size) index b = (size, refl)
 
 module _ {S : Type 0} (number : S → ℕ) (records : S → List Standing) where
-  lacks_of : (xs : List (Kept S)) (n : ℕ) → segment_in number xs n ≡ None
-      → Lacks n (map (λ (k : Kept S). number k.slots) xs)
-  lacks_of [] n e = tt
-  lacks_of (x ∷ xs) n e = elim (cases_Bool (number x.slots == n)) [
-    | inl t ↦ absurd
-        (let s : Some x ≡ None = sym (ap (λ (b : Bool). cond b (Some x) (segment_in number xs n))
-        t) ∙ e in cc)
-    | inr f ↦ (
-      (λ s. true≢false (sym (eq-eqb (number x.slots) n (sym s)) ∙ f)),
-      lacks_of xs n (sym (ap (λ (b : Bool). cond b (Some x) (segment_in number xs n)) f) ∙ e),
-    )
-  ]
-
   module _ (segments : List (Kept S)) (one : Kept S)
       (away : is_held number segments (number one.slots) ≡ false) where
     abbrev own : ℕ
     own = number one.slots
 
-    abbrev pub with_one : List (Kept S)
+    abbrev with_one : List (Kept S)
     with_one = segments ++ one ∷ []
-
-    none_yet : segment_in number segments own ≡ None
-    none_yet = unheld number records segments own away
-
-    -- which segment has a number
-    in_old : (segment : ℕ) (k : Kept S) → segment_in number segments segment ≡ Some k
-        → segment_in number with_one segment ≡ Some k
-    in_old segment k e = find-append (is_of number segment) segments (one ∷ [])
-        ∙ ap (λ (o : Option (Kept S)). option_or o (find (is_of number segment) (one ∷ []))) e
-
-    in_own : (segment : ℕ) → segment ≡ own → segment_in number with_one segment ≡ Some one
-    in_own segment same =
-        ap (segment_in number with_one) same
-        ∙ find-append (is_of number own) segments (one ∷ [])
-        ∙ ap (λ (o : Option (Kept S)). option_or o (find (is_of number own) (one ∷ []))) none_yet
-        ∙ ap (λ (b : Bool). cond b (Some one) None) (eq-eqb own own refl)
-
-    in_other : (segment : ℕ) → segment ≢ own → segment_in number with_one segment
-        ≡ segment_in number segments segment
-    in_other segment ne =
-        find-append (is_of number segment) segments (one ∷ [])
-        ∙ ap (λ (b : Bool). option_or (segment_in number segments segment) (cond b (Some one) None))
-        (ne_eqb own segment (λ s. ne (sym s)))
-        ∙ or_none (segment_in number segments segment)
-
-    -- the table
-    module _ (table : List (Option ℕ)) (low : own < 64) (t : IsTabled number table segments) where
-      abbrev tabled : List (Option ℕ)
-      tabled = slice_set table own (Some (length segments))
-
-      no_entry : (o : Option ℕ) → IsAt number segments own o → o ≡ None
-      no_entry None h = refl
-      no_entry (Some found) h =
-          absurd (true≢false
-          (sym (found_held number segments own found (record { inside = h.0; first = h.1 }))
-          ∙ away))
-
-      was_none : get_or table own None ≡ None
-      was_none = no_entry (slice_index_or table own None) (t.each own low)
-
-      last : position_or_len (is_of number own) segments ≡ length segments
-      last = elim (cases_lt (position_or_len (is_of number own) segments) (length segments)) [
-        | inl lt ↦ absurd (
-            let there = slice_get-get_or segments (position_or_len (is_of number own) segments) one
-            lt in
-            let nothing : slice_get segments (position_or_len (is_of number own) segments) ≡ None =
-            sym (find_at (is_of number own) segments) ∙ none_yet in
-            cc)
-        | inr ge ↦ omega (
-          arith,
-          ge,
-          prefix_len-le-length (λ (k : Kept S). not (is_of number own k))
-              segments,
-        )
-      ]
-
-      at_own : IsAt number with_one own (Some (length segments))
-      at_own = (
-        omega (arith, length-append segments (one ∷ [])),
-        sym (position_or_len_push (is_of number own) segments one
-            ∙ ap (λ (n : ℕ). cond (n == length segments) (length segments + cond (own == own) 0 1)
-            n) last
-            ∙ ap (λ (b : Bool). cond b (length segments + cond (own == own) 0 1) (length segments))
-            (eq-eqb (length segments) (length segments) refl)
-            ∙ ap (λ (b : Bool). length segments + cond b 0 1) (eq-eqb own own refl)
-            ∙ (let z : length segments + 0 ≡ length segments = omega arith in z)),
-      )
-
-      at_other : (segment : ℕ) (o : Option ℕ) → segment ≢ own → IsAt number segments segment o
-          → IsAt number with_one segment o
-      at_other segment None ne h = ap is_some (in_other segment ne) ∙ h
-      at_other segment (Some found) ne h = (
-        omega (arith, h.0, length-append segments (one ∷ [])),
-        h.1 ∙ sym (position_or_len_push (is_of number segment) segments one
-            ∙ ap (λ (b : Bool). cond b (length segments + cond (own == segment) 0 1)
-            (position_or_len (is_of number segment) segments))
-            (ne_eqb (position_or_len (is_of number segment) segments) (length segments)
-            (λ s. let e = h.1 in let lt = h.0 in absurd (omega (arith, s, e, lt))))),
-      )
-
-      many_now : count_by is_some tabled ≡ length with_one
-      many_now =
-          let count : Option ℕ → ℕ = λ (o : Option ℕ). cond (is_some o) 1 0 in
-          let more = sum_by-set count table own (Some (length segments)) None
-          (omega (arith, low, t.all)) in
-          let nothing : count (get_or table own None) ≡ 0 = ap count was_none in
-          omega (arith, more, nothing, t.many, length-append segments (one ∷ []))
-
-      pub tabled_now : IsTabled number tabled with_one
-      tabled_now = record {
-        all = length-set table own (Some (length segments)) ∙ t.all;
-        each = λ segment below. elim (cases_eq segment own) [
-          | inl s ↦ subst (λ (n : ℕ). IsAt number with_one n (slice_index_or tabled n None)) (sym s)
-              (subst (IsAt number with_one own)
-              (sym (get_or-set_same table own (Some (length segments)) None
-              (omega (arith, low, t.all)))) at_own)
-          | inr ne ↦ subst (IsAt number with_one segment)
-              (sym (get_or-set_other table own segment (Some (length segments)) None ne))
-              (at_other segment (slice_index_or table segment None) ne (t.each segment below))
-        ];
-        many = many_now;
-        once = subst HasNoRepeats
-            (sym (map-append (λ (k : Kept S). number k.slots) segments (one ∷ [])))
-            (once_more own (map (λ (k : Kept S). number k.slots) segments)
-            (lacks_of segments own none_yet) t.once);
-      }
-
-      -- there is room for one more
-      pub fewer : length segments < 64
-      fewer = omega (
-        arith,
-        many_now,
-        length-append segments (one ∷ []),
-        count_by-le-length is_some
-            tabled,
-        length-set table own (Some (length segments)),
-        t.all,
-      )
 
     -- the queues
     module _ (old new : List (List ℕ)) (n : ℕ) (whole : n ≡ 16)
@@ -208,7 +69,7 @@ module _ {S : Type 0} (number : S → ℕ) (records : S → List Standing) where
           ≡ Some k → has_place (lists_on number with_one page) ≡ true
           → (key : ℕ) × (key_on number with_one page ≡ Some key) × Contains (queue_of new key) page
       there_old page k e has =
-          let more = in_old (segment_of_page page) k e in
+          let more = in_old number records segments one away (segment_of_page page) k e in
           let same = ap (λ (o : Option (Kept S)). lists_by number o (page % 16)) e
           ∙ sym (ap (λ (o : Option (Kept S)). lists_by number o (page % 16)) more) in
           let t = queued.there page (ap has_place same ∙ has) in (
@@ -224,7 +85,7 @@ module _ {S : Type 0} (number : S → ℕ) (records : S → List Standing) where
           → has_place (lists_on number with_one page) ≡ true
           → (key : ℕ) × (key_on number with_one page ≡ Some key) × Contains (queue_of new key) page
       there_own page same has =
-          let here = in_own (segment_of_page page) same in
+          let here = in_own number records segments one away (segment_of_page page) same in
           let low : page % 16 < 16 = omega arith in
           let place : has_place (lists_at one.lists (page % 16)) ≡ true =
           sym (ap (λ (o : Option (Kept S)). has_place (lists_by number o (page % 16))) here)
@@ -258,7 +119,7 @@ module _ {S : Type 0} (number : S → ℕ) (records : S → List Standing) where
         | inr ne ↦ absurd
             (true≢false (sym has
             ∙ ap (λ (o : Option (Kept S)). has_place (lists_by number o (page % 16)))
-            (in_other (segment_of_page page) ne ∙ e)))
+            (in_other number records segments one away (segment_of_page page) ne ∙ e)))
       ]
 
       only_old : (key page : ℕ) (o : Option (Kept S))
@@ -268,7 +129,7 @@ module _ {S : Type 0} (number : S → ℕ) (records : S → List Standing) where
           ≡ true)
       only_old key page None e keyed has = absurd (cc)
       only_old key page (Some k) e keyed has =
-          let more = in_old (segment_of_page page) k e in (
+          let more = in_old number records segments one away (segment_of_page page) k e in (
             ap (λ (o : Option (Kept S)). key_by number o (page % 16)) more ∙ keyed,
             ap (λ (o : Option (Kept S)). has_place (lists_by number o (page % 16))) more ∙ has,
           )
@@ -281,7 +142,7 @@ module _ {S : Type 0} (number : S → ℕ) (records : S → List Standing) where
           let from = r.0 in
           let to = r.1 in
           let same : segment_of_page page ≡ own = omega (arith, from, to, whole) in
-          let here = in_own (segment_of_page page) same in
+          let here = in_own number records segments one away (segment_of_page page) same in
           let its = and_parts _ _ r.2 in (
             ap (λ (o : Option (Kept S)). key_by number o (page % 16)) here
                 ∙ is_key one.arena key (class_at one.classes (page % 16)) its.0,
@@ -309,7 +170,7 @@ module _ {S : Type 0} (number : S → ℕ) (records : S → List Standing) where
     nowhere_yet old queued page same on =
         let q = queued.only on.0 page on.1 in
         let none : segment_in number segments (segment_of_page page) ≡ None =
-        ap (segment_in number segments) same ∙ none_yet in
+        ap (segment_in number segments) same ∙ none_yet number records segments one away in
         let nothing : None ≡ Some on.0 =
         sym (ap (λ (o : Option (Kept S)). key_by number o (page % 16)) none) ∙ q.0 in
         cc
@@ -334,7 +195,7 @@ module _ {S : Type 0} (number : S → ℕ) (records : S → List Standing) where
           tenant ≤ 18446744073709551615
       room_for long tenant below =
           let most = charge_room records number (slice_set table own (Some (length segments)))
-          with_one tenant long (tabled_now table low r.tabled) settled_with in
+          with_one tenant long (tabled_now number records segments one away table low r.tabled) settled_with in
           omega (arith, most, charge_with tenant, r.charged tenant below)
 
       right_with : (new : List (List ℕ)) (counted : List ℕ) (n : ℕ) → n ≡ 16 → one.arena < 16
@@ -344,7 +205,7 @@ module _ {S : Type 0} (number : S → ℕ) (records : S → List Standing) where
           → IsRight number records (slice_set table own (Some (length segments))) counted capacity
           (record { segments = with_one; queues = new })
       right_with new counted n whole arena entered all each = record {
-        tabled = tabled_now table low r.tabled;
+        tabled = tabled_now number records segments one away table low r.tabled;
         room = r.room;
         settled = settled_with;
         arenas = λ k c. ⊎_elim (λ was. r.arenas k was)

@@ -20,6 +20,7 @@ pub mod ViewRoom
 pub mod Chosen
 pub mod Rooms
 pub mod Blanks
+pub mod Searches
 pub mod Given
 pub mod Allotted
 pub mod Allotting
@@ -32,6 +33,7 @@ pub mod TakeLoop
 pub mod TakingKept
 pub mod Entered
 pub mod Adding
+pub mod OneMore
 pub mod Adopted
 pub mod Policed
 pub mod PolicyKept

@@ -1,7 +1,7 @@
 use Rattle.std.proofs.Common.{sym, ℕ, arith}
 use Rattle.hg_heap.specs.Held.{is_some_place}
 use Rattle.hg_heap.specs.Choice.{blank_on}
-use Rattle.hg_heap.proofs.Blanks.{none_so_far, first_in_all, none_in_all}
+use Rattle.hg_heap.proofs.Searches.{none_so_far, first_in_all, none_in_all}
 use Rattle.hg_heap.proofs.heap.Heap.blank_page.Goals as goal
 
 pub returns-in-Some-clause-first : goal.returns-in-Some-clause-first
