@@ -38,7 +38,8 @@ use Rattle.hg_heap.specs.Policies.{AreOf}
 use Rattle.hg_heap.specs.Allotted.{IsAllotted}
 use Rattle.hg_heap.specs.Ties.{HeapTies, heap_view, shown_at}
 use Rattle.hg_heap.specs.Right.{IsRight}
-use Rattle.hg_heap.proofs.Founds.{Found, standing_found}
+use Rattle.hg_heap.proofs.Founds.{Found}
+use Rattle.hg_heap.proofs.FoundHoldings.{standing_found}
 use Rattle.hg_heap.proofs.AllocRooms.{chosen_room, unchosen_no_room}
 use Rattle.hg_heap.proofs.Allotting.{found_first}
 use Rattle.hg_heap.proofs.Given.{opened_ties}

@@ -128,131 +128,131 @@ module _ {S : Type 0} {number : S → ℕ} {records : S → List Standing} {show
     {steps : S → ℕ → ℕ → ℕ → S → Type 0} where
   module _ {items : List (Kept S)} {found segment page index owner : ℕ} {one after : Kept S}
       (h : CameBack number records shows steps items found segment page index owner one after)
-      where
-    abbrev at : ℕ
-    at = slot page index
+    where
+      abbrev at : ℕ
+      at = slot page index
 
-    abbrev new : List (Kept S)
-    new = slice_set items found after
+      abbrev new : List (Kept S)
+      new = slice_set items found after
 
-    -- its page has a class
-    pub has_class : class_at after.classes page ≡ None → ⊥
-    has_class e = no_class (class_at one.classes page) index
-        (h.was.opened page index h.low h.small (ap is_home h.opened))
-        (sym (ap (λ (cs : List (Option ℕ)). class_at cs page) h.home.fixed.classes) ∙ e)
+      -- its page has a class
+      pub has_class : class_at after.classes page ≡ None → ⊥
+      has_class e = no_class (class_at one.classes page) index
+          (h.was.opened page index h.low h.small (ap is_home h.opened))
+          (sym (ap (λ (cs : List (Option ℕ)). class_at cs page) h.home.fixed.classes) ∙ e)
 
-    kind_kept : kind_of number after ≡ kind_of number one
-    kind_kept = kind_same number one after h.same h.home.fixed.arena h.home.fixed.greatest
+      kind_kept : kind_of number after ≡ kind_of number one
+      kind_kept = kind_same number one after h.same h.home.fixed.arena h.home.fixed.greatest
 
-    -- the arena is one that there may be
-    pub arena_below : {arena : ℕ} → arena ≡ after.arena
-        → ((k : Kept S) → Contains items k → k.arena < ARENAS) → arena < ARENAS
-    arena_below is below =
-        let low = below one (Contains-get items found one h.here.at) in
-        omega (arith, is, h.home.fixed.arena, low)
+      -- the arena is one that there may be
+      pub arena_below : {arena : ℕ} → arena ≡ after.arena
+          → ((k : Kept S) → Contains items k → k.arena < ARENAS) → arena < ARENAS
+      arena_below is below =
+          let low = below one (Contains-get items found one h.here.at) in
+          omega (arith, is, h.home.fixed.arena, low)
 
-    module _ {size : ℕ} (class : class_at after.classes page ≡ Some size) where
-      class_one : class_at one.classes page ≡ Some size
-      class_one = sym (ap (λ (cs : List (Option ℕ)). class_at cs page) h.home.fixed.classes)
-          ∙ class
+      module _ {size : ℕ} (class : class_at after.classes page ≡ Some size) where
+        class_one : class_at one.classes page ≡ Some size
+        class_one = sym (ap (λ (cs : List (Option ℕ)). class_at cs page) h.home.fixed.classes)
+            ∙ class
 
-      abbrev page_change : PageChange number items found page one after
-      page_change = record {
-        segment = segment;
-        here = h.here;
-        kind = kind_kept;
-        low = h.low;
-        size = size;
-        class = class;
-        was = inl class_one;
-        classes = λ other ne. ap (λ (cs : List (Option ℕ)). class_at cs other)
-            h.home.fixed.classes;
-        lists = λ other ne. ap (λ (ls : List PageLists). lists_at ls other) h.home.lists
-            ∙ get_or-set_other one.lists page other _ no_lists ne;
-      }
+        abbrev page_change : PageChange number items found page one after
+        page_change = record {
+          segment = segment;
+          here = h.here;
+          kind = kind_kept;
+          low = h.low;
+          size = size;
+          class = class;
+          was = inl class_one;
+          classes = λ other ne. ap (λ (cs : List (Option ℕ)). class_at cs other)
+              h.home.fixed.classes;
+          lists = λ other ne. ap (λ (ls : List PageLists). lists_at ls other) h.home.lists
+              ∙ get_or-set_other one.lists page other _ no_lists ne;
+        }
 
-      place_change : PlaceChange records items found one after at (8 * size) (Home h.generation)
-      place_change = record {
-        there = h.here.at;
-        inside = let low = h.low in let small = h.small in omega (arith, h.sized, low, small);
-        classes = h.home.fixed.classes;
-        standings = h.home.took.home
-            ∙ ap (λ (s : Standing). slice_set (records one.slots) at (Home (standing_generation s)))
-            h.opened;
-        class =
-            let in_page : at / 512 ≡ page = (let small = h.small in omega (arith, small)) in
-            ap (λ (n : ℕ). block_bytes (class_at one.classes n)) in_page
-            ∙ ap block_bytes class_one;
-      }
+        place_change : PlaceChange records items found one after at (8 * size) (Home h.generation)
+        place_change = record {
+          there = h.here.at;
+          inside = let low = h.low in let small = h.small in omega (arith, h.sized, low, small);
+          classes = h.home.fixed.classes;
+          standings = h.home.took.home
+              ∙ ap (λ (s : Standing). slice_set (records one.slots) at (Home (standing_generation s)))
+              h.opened;
+          class =
+              let in_page : at / 512 ≡ page = (let small = h.small in omega (arith, small)) in
+              ap (λ (n : ℕ). block_bytes (class_at one.classes n)) in_page
+              ∙ ap block_bytes class_one;
+        }
 
-      -- the bytes of its block are part of its owner's charge
-      pub owner_pays : {charges : List ℕ} {bytes : ℕ} {table : List (Option ℕ)} {capacity : ℕ}
-          {queues : List (List ℕ)} → bytes ≡ 8 * size
-          → IsRight number records table charges capacity
-          (record { segments = items; queues = queues })
-          → bytes ≤ slice_index charges owner
-      owner_pays {charges = charges} is r =
-          let covers = charge_covers records items found one after at (8 * size) owner charges
-          r.counted h.owned r.charged h.generation h.generation place_change h.opened in
-          omega (arith, is, covers)
-
-      module _ {arena on : ℕ} (arena_is : arena ≡ after.arena)
-          (on_is : on ≡ segment * SEGMENT_PAGES + page) where
-        arena_one : arena ≡ one.arena
-        arena_one = arena_is ∙ h.home.fixed.arena
-
-        -- the page stood in no queue but its own
-        pub in_its_own : {table : List (Option ℕ)} {charges : List ℕ} {capacity : ℕ}
-            {queues : List (List ℕ)}
+        -- the bytes of its block are part of its owner's charge
+        pub owner_pays : {charges : List ℕ} {bytes : ℕ} {table : List (Option ℕ)} {capacity : ℕ}
+            {queues : List (List ℕ)} → bytes ≡ 8 * size
             → IsRight number records table charges capacity
             (record { segments = items; queues = queues })
-            → (key : ℕ) → Contains (queue_of queues key) on
-            → key ≡ key_of arena (number_of_size size)
-        in_its_own r key there =
-            its_own number items found page one after page_change _ r.queued key
-            (rw on_is at there)
-            ∙ ap (λ (a : ℕ). key_of a (number_of_size size)) (sym arena_one)
+            → bytes ≤ slice_index charges owner
+        owner_pays {charges = charges} is r =
+            let covers = charge_covers records items found one after at (8 * size) owner charges
+            r.counted h.owned r.charged h.generation h.generation place_change h.opened in
+            omega (arith, is, covers)
 
-        module _ (queues : List (List ℕ)) {now : List (List ℕ)} {full : Bool}
-            (full_is : full ≡ true → listed (lists_at after.lists page) ≡ [])
-            (is_full : listed (lists_at after.lists page) ≡ [] → full ≡ true)
-            (e : now ≡ requeued (key_of arena (number_of_size size)) on (not full) queues) where
-          queues_back : now ≡ requeued (key_of one.arena (number_of_size size))
-              (segment * SEGMENT_PAGES + page) (has_place (lists_at after.lists page)) queues
-          queues_back = e
-              ∙ ap (λ (a : ℕ). requeued (key_of a (number_of_size size)) on (not full) queues)
-              arena_one
-              ∙ ap (λ (n : ℕ). requeued (key_of one.arena (number_of_size size)) n (not full)
-              queues) on_is
-              ∙ ap (λ (b : Bool). requeued (key_of one.arena (number_of_size size))
-              (segment * SEGMENT_PAGES + page) b queues)
-              (has_place_is (lists_at after.lists page) full full_is is_full)
+        module _ {arena on : ℕ} (arena_is : arena ≡ after.arena)
+            (on_is : on ≡ segment * SEGMENT_PAGES + page) where
+          arena_one : arena ≡ one.arena
+          arena_one = arena_is ∙ h.home.fixed.arena
 
-          -- it is taken in
-          pub is_taken : IsTaken number records shows steps segment page index
-              (record { segments = items; queues = queues })
-              (record { segments = new; queues = now })
-          is_taken = record {
-            another = another number items found segment one after h.here h.same;
-            home = h.home;
-            size = size;
-            class = class_one;
-            queues = queues_back;
-          }
-
-          -- and the heap is right
-          pub right_back : IsSettled records after → ((s : S) → number s < MAX_SEGMENTS)
-              → {table : List (Option ℕ)} {charges lowered : List ℕ} {capacity bytes : ℕ}
-              → bytes ≡ 8 * size
-              → lowered ≡ slice_set charges owner (slice_index charges owner - bytes)
+          -- the page stood in no queue but its own
+          pub in_its_own : {table : List (Option ℕ)} {charges : List ℕ} {capacity : ℕ}
+              {queues : List (List ℕ)}
               → IsRight number records table charges capacity
               (record { segments = items; queues = queues })
-              → IsRight number records table lowered capacity
-              (record { segments = new; queues = now })
-          right_back settled numbered {charges = charges} is less r =
-              rw (less, is) (right_changed number records items found page one after page_change
-              settled numbered _ charges
-              (slice_set charges owner (slice_index charges owner - 8 * size)) _ queues now
-              r queues_back (length-set charges owner _ ∙ r.counted)
-              (charge_lowered records items found one after at (8 * size) owner charges r.counted
-              h.owned r.charged h.generation h.generation place_change h.opened))
+              → (key : ℕ) → Contains (queue_of queues key) on
+              → key ≡ key_of arena (number_of_size size)
+          in_its_own r key there =
+              its_own number items found page one after page_change _ r.queued key
+              (rw on_is at there)
+              ∙ ap (λ (a : ℕ). key_of a (number_of_size size)) (sym arena_one)
+
+          module _ (queues : List (List ℕ)) {now : List (List ℕ)} {full : Bool}
+              (full_is : full ≡ true → listed (lists_at after.lists page) ≡ [])
+              (is_full : listed (lists_at after.lists page) ≡ [] → full ≡ true)
+              (e : now ≡ requeued (key_of arena (number_of_size size)) on (not full) queues) where
+            queues_back : now ≡ requeued (key_of one.arena (number_of_size size))
+                (segment * SEGMENT_PAGES + page) (has_place (lists_at after.lists page)) queues
+            queues_back = e
+                ∙ ap (λ (a : ℕ). requeued (key_of a (number_of_size size)) on (not full) queues)
+                arena_one
+                ∙ ap (λ (n : ℕ). requeued (key_of one.arena (number_of_size size)) n (not full)
+                queues) on_is
+                ∙ ap (λ (b : Bool). requeued (key_of one.arena (number_of_size size))
+                (segment * SEGMENT_PAGES + page) b queues)
+                (has_place_is (lists_at after.lists page) full full_is is_full)
+
+            -- it is taken in
+            pub is_taken : IsTaken number records shows steps segment page index
+                (record { segments = items; queues = queues })
+                (record { segments = new; queues = now })
+            is_taken = record {
+              another = another number items found segment one after h.here h.same;
+              home = h.home;
+              size = size;
+              class = class_one;
+              queues = queues_back;
+            }
+
+            -- and the heap is right
+            pub right_back : IsSettled records after → ((s : S) → number s < MAX_SEGMENTS)
+                → {table : List (Option ℕ)} {charges lowered : List ℕ} {capacity bytes : ℕ}
+                → bytes ≡ 8 * size
+                → lowered ≡ slice_set charges owner (slice_index charges owner - bytes)
+                → IsRight number records table charges capacity
+                (record { segments = items; queues = queues })
+                → IsRight number records table lowered capacity
+                (record { segments = new; queues = now })
+            right_back settled numbered {charges = charges} is less r =
+                rw (less, is) (right_changed number records items found page one after page_change
+                settled numbered _ charges
+                (slice_set charges owner (slice_index charges owner - 8 * size)) _ queues now
+                r queues_back (length-set charges owner _ ∙ r.counted)
+                (charge_lowered records items found one after at (8 * size) owner charges r.counted
+                h.owned r.charged h.generation h.generation place_change h.opened))

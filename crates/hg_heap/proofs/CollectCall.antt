@@ -1,16 +1,13 @@
 -- A Collect of a heap, tied.
-use Rattle.std.proofs.Common.{◌≡◌, ℕ, zero, suc, ◌+◌, ◌-◌, ◌*◌, ◌/◌, ◌%◌, ◌<◌, ◌≤◌, ◌&&◌}
-use Rattle.std.proofs.Common.{inl, inr, Bool, true, false, cond, [], List, map, length, Option}
-use Rattle.std.proofs.Common.{Some, None, refl, sym, ap, subst, ◌∙◌, arith, is_some, option_map}
-use Rattle.std.proofs.Common.{slice_get}
-use Rattle.std.specs.List.{list_all, sum_by, range_with_len}
-use Rattle.std.proofs.lemmas.Bool.{cases_Bool, cases_lt, true≢false, and_parts, and_right}
+use Rattle.std.proofs.Common.{◌≡◌, ℕ, ◌+◌, ◌*◌, ◌/◌, ◌%◌, ◌<◌, ◌≤◌, ◌&&◌, inl, inr, Bool, true}
+use Rattle.std.proofs.Common.{false, cond, [], List, map, length, Option, Some, None, refl, sym, ap}
+use Rattle.std.proofs.Common.{subst, ◌∙◌, arith, is_some, option_map, slice_get}
+use Rattle.std.specs.List.{list_all, range_with_len}
+use Rattle.std.proofs.lemmas.Bool.{cases_Bool, and_parts, and_right}
 use Rattle.hg_place.specs.declared.standing.Standing.{Standing}
-use Rattle.hg_place.specs.declared.standing.Standing.TheVariants.{Home, Open}
+use Rattle.hg_place.specs.declared.standing.Standing.TheVariants.{Home}
 use Rattle.hg_place.specs.Places.{segment_of, segment_of_page, page_of}
 use Rattle.hg_place.specs.Standings.{standing_at, is_home}
-use Rattle.hg_machine.specs.declared.Event.TheVariants as event
-use Rattle.hg_machine.specs.declared.Answer.TheVariants as answer
 use Rattle.hg_machine.specs.Policy.{Policy, arena_of}
 use Rattle.hg_machine.proofs.Enough.{sums}
 use Rattle.hg_segment.specs.Kept.{Kept, slot}
@@ -30,54 +27,10 @@ use Rattle.hg_heap.specs.Ties.{holding, heap_view, HeapTies}
 use Rattle.hg_heap.proofs.CollectLoop.{idle_low}
 use Rattle.hg_heap.proofs.Founds.{inside_of}
 use Rattle.hg_heap.proofs.Idles.{all_shift, home_at, home_by, idle_is, rest_in}
-use Rattle.hg_heap.proofs.ViewCharges.{sum_next}
 use Rattle.hg_heap.proofs.ViewRoom.{holding_in, found_one}
-
--- a sum over more numbers that count nothing
-sum_past : (f : ℕ → ℕ) (m : ℕ) → ((k : ℕ) → m ≤ k → f k ≡ 0) → (n : ℕ)
-    → sum_by f (range_with_len 0 (m + n)) ≡ sum_by f (range_with_len 0 m)
-sum_past f m none zero =
-    let e : m + 0 ≡ m = omega arith in ap (λ (k : ℕ). sum_by f (range_with_len 0 k)) e
-sum_past f m none (suc n) =
-    let e : m + suc n ≡ suc (m + n) = omega arith in
-    let z : 0 + (m + n) ≡ m + n = omega arith in
-    let s = ap (λ (k : ℕ). sum_by f (range_with_len 0 k)) e in
-    let last = ap f z ∙ none (m + n) (omega arith) in
-    omega (arith, s, last, sum_next f 0 (m + n), sum_past f m none n)
-
--- sums that both go on to where nothing counts
-sum_ends : (f : ℕ → ℕ) (m n : ℕ) → ((k : ℕ) → m ≤ k → f k ≡ 0) → ((k : ℕ) → n ≤ k → f k ≡ 0)
-    → sum_by f (range_with_len 0 m) ≡ sum_by f (range_with_len 0 n)
-sum_ends f m n low high =
-    elim (cases_lt m n)
-    as (λ _. sum_by f (range_with_len 0 m) ≡ sum_by f (range_with_len 0 n)) [
-      | inl lt ↦
-          let e : m + (n - m) ≡ n = omega (arith, lt) in
-          sym (sum_past f m low (n - m)) ∙ ap (λ (k : ℕ). sum_by f (range_with_len 0 k)) e
-      | inr ge ↦
-          let e : n + (m - n) ≡ m = omega (arith, ge) in
-          ap (λ (k : ℕ). sum_by f (range_with_len 0 k)) (sym e) ∙ sum_past f n high (m - n)
-    ]
-
--- a page without a class loses none
-none_lost : (class : Option ℕ) (home : Bool)
-    → cond (is_some class && home) None class ≡ cond home None class
-none_lost None true = refl
-none_lost None false = refl
-none_lost (Some size) home = refl
-
-three : (held idle classed : Bool) → (held && (idle && classed)) ≡ (classed && (held && idle))
-three true true true = refl
-three true true false = refl
-three true false true = refl
-three true false false = refl
-three false idle true = refl
-three false idle false = refl
-
-home_blocks : (standing : Standing) (words other : List ℕ) → is_home standing ≡ true
-    → block_by standing words ≡ block_by standing other
-home_blocks (Home g) words other e = refl
-home_blocks (Open g o) words other e = absurd (true≢false (sym e))
+use Rattle.hg_heap.proofs.Sums.{home_blocks, none_lost, sum_ends, three}
+use Rattle.hg_machine.specs.declared.Event.TheVariants as event
+use Rattle.hg_machine.specs.declared.Answer.TheVariants as answer
 
 module _ {S : Type 0} (number : S → ℕ) (records : S → List Standing) where
   -- what is told of a page or a place, by the segment

@@ -41,7 +41,8 @@ use Rattle.hg_heap.specs.Settled.{IsSettled}
 use Rattle.hg_heap.specs.Ties.{holding, heap_view, shown_at, HeapTies, Stepped}
 use Rattle.hg_heap.specs.Freeing.{free_denial}
 use Rattle.hg_heap.specs.Stays.{Looked, Closed}
-use Rattle.hg_heap.proofs.Founds.{Found, found_is, held_found, number_is}
+use Rattle.hg_heap.proofs.Founds.{Found, found_is, number_is}
+use Rattle.hg_heap.proofs.FoundHoldings.{held_found}
 use Rattle.hg_heap.proofs.OpenBlocks.{none_at_home, generation_read}
 use Rattle.hg_heap.proofs.PageChanged.{PageChange, kind_same, lists_now, lists_before}
 use Rattle.hg_heap.proofs.PageChanged.{lists_other}

@@ -15,7 +15,7 @@ use Rattle.hg_machine.specs.Policy.{Policy}
 use Rattle.hg_machine.specs.Denial.{verdict_of}
 use Rattle.hg_machine.proofs.Allowed.{parts}
 use Rattle.hg_heap.specs.Freeing.{free_denial}
-use Rattle.hg_heap.proofs.Looking.{denied_by}
+use Rattle.hg_heap.proofs.Reached.{denied_by}
 
 -- a word whose slot is live is odd
 pub live_odd : (word : ℕ) → (slot_in word).live ≡ true → word % 2 ≡ 1

@@ -22,7 +22,8 @@ use Rattle.hg_agreement.proofs.Frames.{ties_are_like}
 use Rattle.hg_agreement.proofs.Helds.{put_is_like}
 use Rattle.hg_heap.specs.Allotted.{IsGiven}
 use Rattle.hg_heap.specs.Ties.{holding, heap_view}
-use Rattle.hg_heap.proofs.Founds.{Found, number_is, get-map, holding_first}
+use Rattle.hg_heap.proofs.Founds.{Found, number_is, get-map}
+use Rattle.hg_heap.proofs.FoundHoldings.{holding_first}
 use Rattle.hg_heap.proofs.OpenBlocks.{block_is, none_at_home}
 
 slot_below : (place : Place) → slot_of place < 8192

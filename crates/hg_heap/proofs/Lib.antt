@@ -1,4 +1,5 @@
 pub mod Founds
+pub mod FoundHoldings
 pub mod RightKept
 pub mod SettledHeap
 pub mod Requeuing
@@ -10,6 +11,7 @@ pub mod Giving
 pub mod OpenBlocks
 pub mod PartCall
 pub mod Looking
+pub mod Reached
 pub mod Freeable
 pub mod MeetCall
 pub mod ReadCall
@@ -42,6 +44,7 @@ pub mod PageRetired
 pub mod Filtered
 pub mod CollectLoop
 pub mod CollectCall
+pub mod Sums
 pub mod PagesRemoved
 pub mod Gone
 pub mod Released

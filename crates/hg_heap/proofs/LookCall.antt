@@ -24,7 +24,8 @@ use Rattle.hg_heap.specs.Ties.{heap_view, shown_at, HeapTies}
 use Rattle.hg_heap.specs.Answers.{look_answer, list_denial}
 use Rattle.hg_heap.specs.Stays.{Looked}
 use Rattle.hg_heap.specs.Reading.{IsRowOf}
-use Rattle.hg_heap.proofs.Founds.{Found, block_found, held_found}
+use Rattle.hg_heap.proofs.Founds.{Found}
+use Rattle.hg_heap.proofs.FoundHoldings.{block_found, held_found}
 use Rattle.hg_heap.proofs.OpenBlocks.{generation_read, owner_read}
 use Rattle.hg_heap.proofs.Looking.{FitsLaw, ends, refused_ends, slot_below, open_one, block_here}
 use Rattle.hg_heap.proofs.Looking.{block_after}

@@ -2,13 +2,11 @@
 use Rattle.std.proofs.Common.{◌≡◌, ℕ, ◌<◌, ◌≤◌, Bool, true, false, not, cond, nat_lt, ◌∷◌, [], List}
 use Rattle.std.proofs.Common.{length, Option, Some, None, refl, sym, ap, subst, ◌∙◌, arith}
 use Rattle.std.proofs.Common.{slice_set, max}
-use Rattle.std.specs.Prelude.{◌≢◌, Ok, Err, Result}
 use Rattle.std.proofs.lemmas.Bool.{lt-ltb, le-ltb}
 use Rattle.hg_place.specs.declared.Actor.{Actor}
 use Rattle.hg_place.specs.declared.Place.{Place}
 use Rattle.hg_place.specs.declared.Handle.{Handle}
 use Rattle.hg_place.specs.declared.Right.{Right}
-use Rattle.hg_place.specs.declared.Right.TheVariants as right
 use Rattle.hg_place.specs.declared.standing.Standing.{Standing}
 use Rattle.hg_place.specs.Places.{number_of}
 use Rattle.hg_place.specs.Slots.{slot_in}
@@ -17,10 +15,8 @@ use Rattle.hg_place.specs.Standings.{slot_of, standing_at, is_home, Fits}
 use Rattle.hg_machine.specs.declared.Rule.{Rule}
 use Rattle.hg_machine.specs.declared.Event.{Event}
 use Rattle.hg_machine.specs.declared.Answer.{Answer}
-use Rattle.hg_machine.specs.declared.Answer.TheVariants as answer
-use Rattle.hg_machine.specs.declared.Verdict.TheVariants as verdict
 use Rattle.hg_machine.specs.Policy.{Policy}
-use Rattle.hg_machine.specs.Denial.{denial_on, verdict_of}
+use Rattle.hg_machine.specs.Denial.{denial_on}
 use Rattle.hg_machine.specs.Refusal.{denial_or}
 use Rattle.hg_segment.specs.Kept.{Kept}
 use Rattle.hg_segment.specs.Blocks.{block_at}
@@ -35,41 +31,13 @@ use Rattle.hg_heap.specs.Right.{IsRight}
 use Rattle.hg_heap.specs.Ties.{holding, heap_view, HeapTies, Stepped, shown_at}
 use Rattle.hg_heap.specs.Answers.{list_denial}
 use Rattle.hg_heap.specs.Stays.{Looked}
-use Rattle.hg_heap.specs.Reading.{use_denial, reached}
-use Rattle.hg_heap.specs.declared.refused.Refused.{Refused}
-use Rattle.hg_heap.specs.declared.refused.Refused.TheVariants as refused
-use Rattle.hg_heap.proofs.Founds.{Found, number_is, block_found, held_found, kept_same}
+use Rattle.hg_heap.specs.Reading.{use_denial}
+use Rattle.hg_heap.proofs.Founds.{Found, number_is}
+use Rattle.hg_heap.proofs.FoundHoldings.{block_found, held_found, kept_same}
 use Rattle.hg_heap.proofs.RightKept.{lists_kept as pages_kept, right_kept}
 use Rattle.hg_heap.proofs.OpenBlocks.{block_is, live_open, generation_read}
-
--- the verdict on a word
-pub denied_by : (o : Option Rule) (rule : Rule) → verdict.Denied rule ≡ verdict_of o → o ≡ Some rule
-denied_by None rule e = absurd (cc)
-denied_by (Some r) rule e = let same : rule ≡ r = cc in ap Some (sym same)
-
-pub allowed_by : (o : Option Rule) → verdict.Allowed ≡ verdict_of o → o ≡ None
-allowed_by None e = refl
-allowed_by (Some r) e = absurd (cc)
-
--- what is answered by it
-pub reached_denied : {X : Type 0} (o : Option Rule) (rule : Rule) (block : List ℕ) (index : ℕ)
-    (value : X) → o ≡ Some rule → Err (refused.Denied rule) ≡ reached o block index value
-reached_denied o rule block index value e =
-    sym (ap (λ (d : Option Rule). reached d block index value) e)
-
-pub reached_outside : {X : Type 0} (o : Option Rule) (block : List ℕ) (index : ℕ) (value : X)
-    → o ≡ None → length block ≤ index → Err refused.OutOfBlock ≡ reached o block index value
-reached_outside o block index value e out =
-    sym (ap (λ (d : Option Rule). reached d block index value) e
-    ∙ ap (λ (b : Bool). cond b (Ok value) (Err refused.OutOfBlock))
-    (le-ltb index (length block) out))
-
-pub reached_inside : {X : Type 0} (o : Option Rule) (block : List ℕ) (index : ℕ) (value : X)
-    → o ≡ None → index < length block → Ok value ≡ reached o block index value
-reached_inside o block index value e in_it =
-    sym (ap (λ (d : Option Rule). reached d block index value) e
-    ∙ ap (λ (b : Bool). cond b (Ok value) (Err refused.OutOfBlock))
-    (lt-ltb index (length block) in_it))
+use Rattle.hg_place.specs.declared.Right.TheVariants as right
+use Rattle.hg_machine.specs.declared.Answer.TheVariants as answer
 
 abbrev pub held_as : ℕ → List Standing → List (Option ℕ) → List ℕ → Holding
 held_as n rs cs ws = record { number = n; standings = rs; classes = cs; words = ws }
@@ -327,16 +295,3 @@ module _ {S : Type 0} (number : S → ℕ) (records : S → List Standing) (show
         → index < length (block_at one.words one.classes handle.place.page handle.place.index)
         → (worker : ℕ) (hand : Option ℕ) (generation : ℕ) → reach worker hand generation ≡ None
     inside_reach none in_it = allowed_reach none true (lt-ltb index _ in_it)
-
--- what was reached isn't elsewhere
-pub never_elsewhere : {X : Type 0} (o : Option Rule) (block : List ℕ) (index : ℕ) (value : X)
-    (result : Result X Refused) → result ≡ reached o block index value
-    → result ≢ Err refused.Elsewhere
-never_elsewhere (Some rule) block index value result is e =
-    let same : Err (refused.Denied rule) ≡ Err refused.Elsewhere = sym is ∙ e in
-    absurd (cc)
-never_elsewhere None block index value result is e = go (nat_lt index (length block)) (sym is ∙ e)
-  where
-    go : (b : Bool) → cond b (Ok value) (Err refused.OutOfBlock) ≡ Err refused.Elsewhere → ⊥
-    go true same = absurd (cc)
-    go false same = absurd (cc)

@@ -1,45 +1,25 @@
 -- A segment stands behind those that a heap has: which segment has a number, and the table.
-use Rattle.std.proofs.Common.{◌≡◌, ◌≢◌, ℕ, ◌+◌, ◌*◌, ◌%◌, ◌<◌, ◌≤◌, ◌==◌, inl, inr, ⊎_elim, Bool}
-use Rattle.std.proofs.Common.{true, false, not, cond, ◌&&◌, ◌∷◌, [], ◌++◌, List, length, reverse}
+use Rattle.std.proofs.Common.{◌≡◌, ◌≢◌, ℕ, ◌+◌, ◌<◌, ◌==◌, inl, inr, Bool}
+use Rattle.std.proofs.Common.{false, not, cond, ◌∷◌, [], ◌++◌, List, length}
 use Rattle.std.proofs.Common.{Option, Some, None, refl, sym, ap, subst, ◌∙◌, arith, slice_set}
-use Rattle.std.proofs.Common.{slice_get, slice_index, slice_index_or, get_or, Contains, find}
-use Rattle.std.proofs.Common.{option_map, is_some, count_by, get_or-set_other, get_or-set_same, map}
+use Rattle.std.proofs.Common.{slice_get, slice_index_or, get_or, find}
+use Rattle.std.proofs.Common.{is_some, count_by, get_or-set_other, get_or-set_same, map}
 use Rattle.std.specs.List.{position_or_len}
 use Rattle.std.specs.Option.{option_or}
-use Rattle.std.proofs.lemmas.Bool.{cases_Bool, cases_eq, cases_lt, true≢false, eqb-true, eq-eqb}
-use Rattle.std.proofs.lemmas.Bool.{ne_eqb, and_parts, and_from}
+use Rattle.std.proofs.lemmas.Bool.{cases_Bool, cases_eq, cases_lt, true≢false, eq-eqb}
+use Rattle.std.proofs.lemmas.Bool.{ne_eqb}
 use Rattle.std.proofs.lemmas.List.{length-append, length-set, append-nil, map-append}
 use Rattle.std.proofs.lemmas.List.Folds.{find-append, find_at, position_or_len_push}
 use Rattle.std.proofs.lemmas.List.Sums.{sum_by-set, count_by-le-length, prefix_len-le-length}
-use Rattle.std.proofs.lemmas.List.Sums.{sum_by_push}
-use Rattle.std.proofs.lemmas.List.Elements.{Contains-append_left, Contains-append_right}
-use Rattle.std.proofs.lemmas.List.Elements.{Contains-append_cases, Contains-push_cases}
 use Rattle.std.proofs.lemmas.Option.{slice_get-get_or}
 use Rattle.hg_lists.specs.Repeats.{Lacks, HasNoRepeats}
 use Rattle.hg_lists.proofs.RepeatsLemmas.{HasNoRepeats-middle}
 use Rattle.hg_place.specs.declared.standing.Standing.{Standing}
-use Rattle.hg_place.specs.Places.{segment_of_page}
-use Rattle.hg_size.specs.Sizes.{number_of_size}
-use Rattle.hg_size.specs.SizeLaws.{key_of}
-use Rattle.hg_page.specs.PageLists.{listed}
-use Rattle.hg_queue.specs.Queues.{queue_of, IsQueued, AreQueues}
-use Rattle.hg_segment.specs.Kept.{Kept, class_at, lists_at}
-use Rattle.hg_segment.specs.Right.{IsBlockPlace}
-use Rattle.hg_segment.specs.Charges.{charge_of}
-use Rattle.hg_heap.specs.Held.{is_of, is_held, segment_in, lists_on, lists_by, has_place}
-use Rattle.hg_heap.specs.Charges.{charge_in}
+use Rattle.hg_segment.specs.Kept.{Kept}
+use Rattle.hg_heap.specs.Held.{is_of, is_held, segment_in}
 use Rattle.hg_heap.specs.Table.{IsAt, IsTabled}
-use Rattle.hg_heap.specs.Queues.{AreQueued, key_on, key_by}
-use Rattle.hg_heap.specs.Settled.{IsSettled}
-use Rattle.hg_heap.specs.Right.{IsRight}
-use Rattle.hg_heap.specs.Entering.{is_key_of, pages_of_key}
 use Rattle.hg_heap.proofs.Founds.{found_held}
 use Rattle.hg_heap.proofs.Blanks.{unheld}
-use Rattle.hg_heap.proofs.Chosen.{in_range}
-use Rattle.hg_heap.proofs.SettledHeap.{some_first}
-use Rattle.hg_heap.proofs.ChargeChanged.{charge_room}
-use Rattle.hg_heap.proofs.Entered.{is_entering, entering, AreEntered, Contains-range}
-use Rattle.hg_heap.proofs.Entered.{Contains-reverse, contained_reverse, pages_are}
 
 or_none : {X : Type 0} (o : Option X) → option_or o None ≡ o
 or_none None = refl

@@ -20,7 +20,8 @@ use Rattle.hg_agreement.specs.HeldPut.{IsHeldPut}
 use Rattle.hg_agreement.proofs.Frames.{ties_are_like}
 use Rattle.hg_agreement.proofs.Helds.{put_is_like_put}
 use Rattle.hg_heap.specs.Ties.{holding, heap_view}
-use Rattle.hg_heap.proofs.Founds.{Found, number_is, holding_there, holding_first}
+use Rattle.hg_heap.proofs.Founds.{Found, number_is}
+use Rattle.hg_heap.proofs.FoundHoldings.{holding_there, holding_first}
 use Rattle.hg_heap.proofs.OpenBlocks.{block_is, none_at_home}
 use Rattle.hg_heap.proofs.Looking.{slot_below}
 

@@ -22,7 +22,8 @@ use Rattle.hg_heap.specs.Stays.{Looked}
 use Rattle.hg_heap.specs.Reading.{use_denial, reached}
 use Rattle.hg_heap.specs.declared.refused.Refused.{Refused}
 use Rattle.hg_heap.specs.declared.refused.Refused.TheVariants as refused
-use Rattle.hg_heap.proofs.Founds.{Found, block_found}
+use Rattle.hg_heap.proofs.Founds.{Found}
+use Rattle.hg_heap.proofs.FoundHoldings.{block_found}
 use Rattle.hg_heap.proofs.Looking.{FitsLaw, stepped, ends, refused_ends, block_here, block_after}
 use Rattle.hg_heap.proofs.Looking.{denied_reach, outside_reach, inside_reach}
 

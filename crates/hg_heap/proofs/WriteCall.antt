@@ -27,7 +27,8 @@ use Rattle.hg_heap.specs.Stays.{Looked}
 use Rattle.hg_heap.specs.Reading.{use_denial, reached}
 use Rattle.hg_heap.specs.declared.refused.Refused.{Refused}
 use Rattle.hg_heap.specs.declared.refused.Refused.TheVariants as refused
-use Rattle.hg_heap.proofs.Founds.{Found, block_found, standing_found}
+use Rattle.hg_heap.proofs.Founds.{Found}
+use Rattle.hg_heap.proofs.FoundHoldings.{block_found, standing_found}
 use Rattle.hg_heap.proofs.OpenBlocks.{block_is}
 use Rattle.hg_heap.proofs.Putting.{IsChangedAt, put_ties}
 use Rattle.hg_heap.proofs.Looking.{FitsLaw, stepped, refused_ends, block_here, open_after}

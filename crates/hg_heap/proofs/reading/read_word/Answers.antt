@@ -2,8 +2,9 @@ use Rattle.std.proofs.Common.{◌∙◌, sym, ap, arith, Ok}
 use Rattle.hg_place.specs.declared.Right.TheVariants as right
 use Rattle.hg_segment.specs.Kept.{Kept}
 use Rattle.hg_heap.proofs.OpenBlocks.{same_size}
-use Rattle.hg_heap.proofs.Looking.{looked_of, open_after, denied_by, allowed_by, reached_denied}
-use Rattle.hg_heap.proofs.Looking.{reached_outside, reached_inside}
+use Rattle.hg_heap.proofs.Looking.{looked_of, open_after}
+use Rattle.hg_heap.proofs.Reached.{denied_by, allowed_by, reached_denied, reached_outside}
+use Rattle.hg_heap.proofs.Reached.{reached_inside}
 use Rattle.hg_heap.proofs.reading.read_word.Goals as goal
 
 pub size_of-requires-clause-open : goal.size_of-requires-clause-open

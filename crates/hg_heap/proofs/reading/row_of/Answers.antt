@@ -1,8 +1,8 @@
 use Rattle.std.proofs.Common.{◌∙◌, ◌*◌, ◌≤◌, sym, ap, arith, subst, refl, ℕ}
 use Rattle.hg_place.specs.declared.Right.TheVariants as right
 use Rattle.hg_segment.specs.Kept.{Kept}
-use Rattle.hg_heap.proofs.Looking.{looked_of, open_after, denied_by, allowed_by, listed_as}
-use Rattle.hg_heap.proofs.Looking.{generation_shown}
+use Rattle.hg_heap.proofs.Looking.{looked_of, open_after, listed_as, generation_shown}
+use Rattle.hg_heap.proofs.Reached.{denied_by, allowed_by}
 use Rattle.hg_heap.proofs.reading.row_of.Goals as goal
 
 pub size_of-requires-clause-open : goal.size_of-requires-clause-open

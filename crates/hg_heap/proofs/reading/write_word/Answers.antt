@@ -4,8 +4,9 @@ use Rattle.hg_place.specs.declared.standing.Standing.{Standing}
 use Rattle.hg_segment.specs.Kept.{Kept}
 use Rattle.hg_segment.specs.Blocks.{block_at, KeepsOtherBlocks}
 use Rattle.hg_heap.proofs.OpenBlocks.{same_size}
-use Rattle.hg_heap.proofs.Looking.{looked_of, wrote_of, open_after, denied_by, allowed_by}
-use Rattle.hg_heap.proofs.Looking.{reached_denied, reached_outside, reached_inside}
+use Rattle.hg_heap.proofs.Looking.{looked_of, wrote_of, open_after}
+use Rattle.hg_heap.proofs.Reached.{denied_by, allowed_by, reached_denied, reached_outside}
+use Rattle.hg_heap.proofs.Reached.{reached_inside}
 use Rattle.hg_heap.proofs.reading.write_word.Goals as goal
 
 pub size_of-requires-clause-open : goal.size_of-requires-clause-open

@@ -1,16 +1,7 @@
 use Rattle.std.proofs.Common.{◌≡◌, ℕ, Option, refl, ap, sym, subst, ◌∙◌, arith}
-use Rattle.hg_place.specs.Places.{page_number}
 use Rattle.std.specs.Prelude.{unwrap_or}
-use Rattle.hg_size.specs.Sizes.{number_of_size, size_for}
 use Rattle.hg_machine.specs.Request.{words_for, size_of, alloc_verdict}
-use Rattle.hg_size.specs.SizeLaws.{key_of}
-use Rattle.hg_machine.specs.declared.AllocVerdict.TheVariants as alloc
 use Rattle.hg_machine.specs.declared.Answer.TheVariants as answer
-use Rattle.hg_heap.specs.Choice.{chosen_place}
-use Rattle.hg_heap.specs.Held.{has_place, lists_on}
-use Rattle.hg_heap.specs.Lists.{GivenOut}
-use Rattle.hg_heap.specs.Allotted.{IsAllotted}
-use Rattle.hg_heap.specs.Requeued.{requeued}
 use Rattle.hg_heap.specs.Right.{IsRight}
 use Rattle.hg_heap.proofs.AllocCall.{Fits, refused_ends, no_room_ends, given_ties, fits_is}
 use Rattle.hg_heap.proofs.heap.Heap.alloc.Goals as goal
@@ -42,8 +33,7 @@ pub returns-in-Denied-clause-refused : goal.returns-in-Denied-clause-refused
 returns-in-Denied-clause-refused g c =
     let w = g.S.SlotWords in
     let m = g.met.S.SlotWords in
-    let at = (goal.at.returns-in-Denied-clause-refused g c).After-judge_alloc in
-    (
+    let at = (goal.at.returns-in-Denied-clause-refused g c).After-judge_alloc in (
       refl,
       refused_ends w.number w.records m.sized m.numbered (right g at) c.requires c.args.actor
           c.args.arena c.args.bytes c.workers-workers.ensures.sound.few_tenants
@@ -55,8 +45,7 @@ pub returns-in-TooLarge-clause-refused : goal.returns-in-TooLarge-clause-refused
 returns-in-TooLarge-clause-refused g c =
     let w = g.S.SlotWords in
     let m = g.met.S.SlotWords in
-    let at = (goal.at.returns-in-TooLarge-clause-refused g c).After-judge_alloc in
-    (
+    let at = (goal.at.returns-in-TooLarge-clause-refused g c).After-judge_alloc in (
       refl,
       refused_ends w.number w.records m.sized m.numbered (right g at) c.requires c.args.actor
           c.args.arena c.args.bytes c.workers-workers.ensures.sound.few_tenants
@@ -80,8 +69,7 @@ pub returns-in_default-clause-refused : goal.returns-in_default-clause-refused
 returns-in_default-clause-refused g c =
     let w = g.S.SlotWords in
     let m = g.met.S.SlotWords in
-    let at = (goal.at.returns-in_default-clause-refused g c).After-judge_alloc in
-    (
+    let at = (goal.at.returns-in_default-clause-refused g c).After-judge_alloc in (
       c.in_default.ensures.none.0,
       no_room_ends w.number w.records m.sized m.numbered (right g at) c.requires c.args.actor
           c.args.arena c.args.bytes c.workers-workers.ensures.sound.few_tenants
@@ -94,8 +82,7 @@ pub returns-clause-given : goal.returns-clause-given
 returns-clause-given g c =
     let w = g.S.SlotWords in
     let m = g.met.S.SlotWords in
-    let at = goal.at.returns-clause-given g c in
-    (
+    let at = goal.at.returns-clause-given g c in (
       rw (← size_is g at.In-Fits) c.in-Some.ensures.allotted,
       given_ties w.number w.records m.sized m.numbered (right g at.After-judge_alloc) c.requires
           c.args.actor c.args.arena c.args.bytes c.workers-workers.ensures.sound.few_tenants

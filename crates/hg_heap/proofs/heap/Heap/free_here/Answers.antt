@@ -220,8 +220,7 @@ returns-clause-queues g c =
     let h = frees g at.In-Ok in
     let class = classed g at.In-Some-class_of in
     let key = key_of c.index_mut-segment.result.now.arena
-    (number_of_size c.in-Some-class_of.class) in
-    (
+    (number_of_size c.in-Some-class_of.class) in (
       key,
       rw (← c.self.view_is) (key_was h class),
       rw (← c.self.view_is) (queued g at.After-requeue (arena_is g at.After-arena-arena)

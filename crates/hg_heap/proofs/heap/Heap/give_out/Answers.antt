@@ -3,7 +3,6 @@ use Rattle.std.proofs.lemmas.Bool.{true≢false}
 use Rattle.hg_size.specs.Sizes.{number_of_size}
 use Rattle.hg_size.specs.SizeLaws.{key_of}
 use Rattle.hg_queue.specs.Queues.{queue_of}
-use Rattle.hg_heap.specs.Settled.{IsSettled}
 use Rattle.hg_heap.proofs.Founds.{found_of}
 use Rattle.hg_heap.proofs.Giving.{Gives, held_queued, place_queued, room_for, right_given}
 use Rattle.hg_heap.proofs.Giving.{class_given, opened, given_out, queues_given}

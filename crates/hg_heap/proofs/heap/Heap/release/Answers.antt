@@ -1,13 +1,12 @@
-use Rattle.std.proofs.Common.{◌≡◌, ◌≤◌, ◌∷◌, List, length, Some, None, sym, ap}
+use Rattle.std.proofs.Common.{◌≡◌, ◌≤◌, List, length, Some, None, sym, ap}
 use Rattle.std.proofs.Common.{subst, ◌∙◌, arith, slice_get, slice_set, is_some}
-use Rattle.std.specs.Prelude.{IsPermutation, swap_remove}
+use Rattle.std.specs.Prelude.{swap_remove}
 use Rattle.std.proofs.lemmas.Option.{slice_get-get_or}
 use Rattle.hg_segment.specs.Kept.{Kept}
 use Rattle.hg_heap.specs.Held.{Held, is_held, segment_in}
 use Rattle.hg_heap.specs.Found.{IsFoundAt}
 use Rattle.hg_heap.specs.Queues.{AreQueued}
 use Rattle.hg_heap.proofs.Founds.{Found, found_of, found_is, number_is, Contains-get}
-use Rattle.hg_heap.specs.Releasing.{without_segment}
 use Rattle.hg_heap.proofs.Gone.{gone, others, permuted}
 use Rattle.hg_heap.proofs.Released.{without_is, pages_kept, low_held, charge_most, right_left}
 use Rattle.hg_heap.proofs.Released.{tabled_last, tabled_moved}

@@ -1,12 +1,7 @@
-use Rattle.std.proofs.Common.{Bool, Some, ◌≡◌, ◌+◌, ◌*◌, ◌/◌, ◌%◌, ℕ, List, Option, map}
-use Rattle.std.proofs.Common.{slice_set, sym, ap, subst, ◌∙◌, arith}
-use Rattle.hg_lists.specs.Lists.{without}
+use Rattle.std.proofs.Common.{Bool, Some, ◌≡◌, ◌+◌, ◌*◌, ◌/◌, ◌%◌, Option}
+use Rattle.std.proofs.Common.{sym, ap, ◌∙◌, arith}
 use Rattle.hg_segment.specs.Kept.{Kept}
-use Rattle.hg_heap.specs.Held.{Held}
-use Rattle.hg_heap.specs.Found.{IsFoundAt}
 use Rattle.hg_heap.specs.Idle.{is_idle, is_idle_by}
-use Rattle.hg_heap.specs.Retiring.{RetiredOn}
-use Rattle.hg_heap.specs.Right.{IsRight}
 use Rattle.hg_heap.specs.Settled.{IsSettled}
 use Rattle.hg_heap.proofs.Founds.{Found, found_of, found_is, Contains-get}
 use Rattle.hg_heap.proofs.Idles.{idle_here, busy_here}

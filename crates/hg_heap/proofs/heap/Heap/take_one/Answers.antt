@@ -1,5 +1,4 @@
-use Rattle.std.proofs.Common.{◌≡◌, ◌∙◌, Some, sym, arith}
-use Rattle.hg_segment.specs.Kept.{class_at}
+use Rattle.std.proofs.Common.{◌∙◌, sym, arith}
 use Rattle.hg_heap.specs.Settled.{IsSettled}
 use Rattle.hg_heap.proofs.Founds.{Found, found_of, number_is}
 use Rattle.hg_heap.proofs.CameBack.{CameBack, back_of, arena_below, owner_pays}

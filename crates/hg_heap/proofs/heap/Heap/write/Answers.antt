@@ -4,7 +4,8 @@ use Rattle.hg_place.specs.declared.Right.TheVariants as right
 use Rattle.hg_heap.specs.Judged.{rule_in}
 use Rattle.hg_heap.proofs.Founds.{found_of, found_held}
 use Rattle.hg_heap.proofs.Judging.{rule_reached, judged_as, all_kept, wrote, on_err, on_ok}
-use Rattle.hg_heap.proofs.Looking.{never_elsewhere, heap_lists, heap_right, stepped}
+use Rattle.hg_heap.proofs.Looking.{heap_lists, heap_right, stepped}
+use Rattle.hg_heap.proofs.Reached.{never_elsewhere}
 use Rattle.hg_heap.proofs.WriteCall.{write_ends}
 use Rattle.hg_heap.proofs.heap.Heap.write.Goals as goal
 

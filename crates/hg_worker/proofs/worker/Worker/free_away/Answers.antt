@@ -4,7 +4,7 @@ use Rattle.std.proofs.Common.{arith}
 use Rattle.hg_place.specs.declared.Right.TheVariants as right
 use Rattle.hg_place.specs.Lives.{word_generation, IsLiveWord}
 use Rattle.hg_heap.specs.Ties.{shown_at}
-use Rattle.hg_heap.proofs.Looking.{denied_by, allowed_by}
+use Rattle.hg_heap.proofs.Reached.{denied_by, allowed_by}
 use Rattle.hg_machine.specs.declared.Answer.TheVariants as answer
 use Rattle.hg_machine.specs.declared.Event.TheVariants as event
 use Rattle.hg_machine.specs.Policy.{arena_of}
