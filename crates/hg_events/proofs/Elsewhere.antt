@@ -32,7 +32,8 @@ use Rattle.hg_agreement.proofs.Closes.{native, read_as}
 use Rattle.hg_parts.specs.Tidy.{IsTidy}
 use Rattle.hg_parts.proofs.Sorted.{tidy_sorted}
 use Rattle.hg_events.specs.Core.{Core, parts_of}
-use Rattle.hg_events.specs.Elsewhere.{word_at, IsAway, away_answer, ReadElsewhere, WriteElsewhere}
+use Rattle.hg_heap.specs.Answers.{away_answer}
+use Rattle.hg_events.specs.Elsewhere.{word_at, IsAway, ReadElsewhere, WriteElsewhere}
 use Rattle.hg_events.specs.Elsewhere.{LookElsewhere, FreeIsDeniedElsewhere, FreeIsBusy}
 use Rattle.hg_events.specs.Elsewhere.{HoldsIsHeld, UndeniedWordIsLive}
 use Rattle.hg_events.proofs.WordAt.{word_shown, word_denies, word_is_slot, had_held}

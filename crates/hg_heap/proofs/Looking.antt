@@ -51,6 +51,14 @@ pub allowed_by : (o : Option Rule) → verdict.Allowed ≡ verdict_of o → o �
 allowed_by None e = refl
 allowed_by (Some r) e = absurd (cc)
 
+-- why a row isn't shown is why the generation that the word shows may not be listed
+pub listed_as : (policy : Policy) (actor : Actor) (place : Place) (word generation : ℕ)
+    → generation ≡ max 1 (slot_in word).generation
+    → list_denial policy actor place word
+    ≡ denial_on policy actor.0 right.List place.segment generation (slot_in word)
+listed_as policy actor place word generation shown =
+    ap (λ (n : ℕ). denial_on policy actor.0 right.List place.segment n (slot_in word)) (sym shown)
+
 -- what is answered by it
 pub reached_denied : {X : Type 0} (o : Option Rule) (rule : Rule) (block : List ℕ) (index : ℕ)
     (value : X) → o ≡ Some rule → Err (refused.Denied rule) ≡ reached o block index value
@@ -160,19 +168,6 @@ module _ {S : Type 0} (number : S → ℕ) (records : S → List Standing) (show
         (slot_of handle.place) ≡ block_at one.words one.classes handle.place.page handle.place.index
     block_here = block_is number records one handle.place.page handle.place.index
         handle.place.index_below open_one
-
-  -- why a row isn't shown is why the generation of the word may not be listed
-  pub listed_as : (fits : FitsLaw) (policy : Policy) (actor : Actor) (place : Place)
-      (word generation : ℕ) (one after : Kept S)
-      → Looked number records shows steps place word one after
-      → generation ≡ max 1 (word_generation word)
-      → list_denial policy actor place word ≡ denial_on policy actor.0 right.List place.segment
-      generation (slot_in word)
-  listed_as fits policy actor place word generation one after looked used =
-      let f = fits one.slots (slot_of place) word (slot_below place) looked.shown in
-      ap (λ (n : ℕ). denial_on policy actor.0 right.List place.segment n (slot_in word))
-      (ap (λ (n : ℕ). max 1 n) (generation_read (standing_at (records one.slots) (slot_of place))
-      word f.0 f.1) ∙ sym used)
 
   -- what a word says that no rule denies
   pub generation_shown : (fits : FitsLaw) (policy : Policy) (actor : ℕ) (which : Right)
