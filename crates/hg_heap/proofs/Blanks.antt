@@ -1,7 +1,7 @@
 -- Which pages are blank, as a segment tells of its pages; and the first page that is.
 use Rattle.std.proofs.Common.{◌≡◌, ◌≢◌, ℕ, zero, suc, ◌+◌, ◌-◌, ◌*◌, ◌/◌, ◌%◌, ◌<◌, ◌≤◌, inl, inr}
 use Rattle.std.proofs.Common.{Bool, true, false, cond, ◌∷◌, ◌++◌, [], List}
-use Rattle.std.proofs.Common.{Option, Some, None, refl, sym, ap, ◌∙◌, arith, find, is_some}
+use Rattle.std.proofs.Common.{Option, Some, None, refl, sym, ap, ◌∙◌, arith, find}
 use Rattle.std.proofs.Common.{filter, subst}
 use Rattle.std.specs.List.{range_with_len}
 use Rattle.std.specs.Option.{option_or}
@@ -19,10 +19,7 @@ use Rattle.hg_segment.specs.Right.{is_vacant, vacant_in}
 use Rattle.hg_segment.specs.Begins.{CanBegin, IsFirstBegin}
 use Rattle.hg_heap.specs.Held.{is_held, segment_in, is_some_place, all_pages, pages_in}
 use Rattle.hg_heap.specs.Choice.{blank_of, blank_by, blank_on}
-
-pub none_is : {X : Type 0} (o : Option X) → is_some o ≡ false → o ≡ None
-none_is None e = refl
-none_is (Some x) e = absurd (true≢false e)
+use Rattle.hg_heap.proofs.Options.{none_is}
 
 -- what a filtered range has
 pub filtered : (p : ℕ → Bool) (from count x : ℕ) → p (from + x) ≡ true → x < count

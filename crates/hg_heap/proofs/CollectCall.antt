@@ -28,7 +28,8 @@ use Rattle.hg_heap.specs.Idle.{is_idle, idle_pages, Collected, bare}
 use Rattle.hg_heap.specs.Policies.{AreOf}
 use Rattle.hg_heap.specs.Ties.{holding, heap_view, HeapTies}
 use Rattle.hg_heap.proofs.CollectLoop.{idle_low}
-use Rattle.hg_heap.proofs.Founds.{inside_of, is_some_map}
+use Rattle.hg_heap.proofs.Founds.{inside_of}
+use Rattle.hg_heap.proofs.Options.{is_some_map}
 use Rattle.hg_heap.proofs.Idles.{all_shift, home_at, home_by, idle_is, rest_in}
 use Rattle.hg_heap.proofs.ViewCharges.{sum_next}
 use Rattle.hg_heap.proofs.ViewRoom.{holding_in, view_holds, found_one}

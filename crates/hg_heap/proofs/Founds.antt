@@ -72,11 +72,6 @@ map_same f xs n x y at same =
     ∙ sym (map-set f xs n x)
     ∙ ap (map f) (ap (set xs n) (sym (get_or_from_slice_get xs n x x at)) ∙ set-get_or xs n x)
 
--- what is mapped is there where it was
-pub is_some_map : {X Y : Type 0} (f : X → Y) (o : Option X) → is_some (option_map f o) ≡ is_some o
-is_some_map f None = refl
-is_some_map f (Some x) = refl
-
 module _ {S X : Type 0} (number : S → ℕ) (told : Kept S → X) where
   mapped : (b : Bool) (k : Kept S) (o : Option (Kept S))
       → option_map told (cond b (Some k) o) ≡ cond b (Some (told k)) (option_map told o)

@@ -20,7 +20,7 @@ use Rattle.hg_agreement.specs.Seen.{is_open_to_in}
 use Rattle.hg_heap.specs.Held.{is_of, is_held, segment_in}
 use Rattle.hg_heap.specs.Policies.{AreOf}
 use Rattle.hg_heap.specs.Ties.{holding, heap_view}
-use Rattle.hg_heap.proofs.Founds.{is_some_map}
+use Rattle.hg_heap.proofs.Options.{is_some_map}
 
 module _ {S : Type 0} (number : S → ℕ) (records : S → List Standing) where
   -- the holding of a number is that of the segment
