@@ -5,6 +5,7 @@ use Rattle.hg_place.specs.declared.Right.TheVariants as right
 use Rattle.hg_place.specs.Lives.{word_generation, IsLiveWord}
 use Rattle.hg_heap.specs.Ties.{shown_at}
 use Rattle.hg_heap.proofs.Looking.{denied_by, allowed_by}
+use Rattle.hg_heap.proofs.Options.{none_is, some_of}
 use Rattle.hg_machine.specs.declared.Answer.TheVariants as answer
 use Rattle.hg_machine.specs.declared.Event.TheVariants as event
 use Rattle.hg_machine.specs.Policy.{arena_of}
@@ -21,8 +22,8 @@ use Rattle.hg_worker.proofs.Frees.{free_parted, own_steps_twice}
 use Rattle.hg_worker.specs.Judged.{rule_of}
 use Rattle.hg_worker.proofs.Hands.{own_saw, saw_freed, knows_new}
 use Rattle.hg_worker.proofs.Judged.{judged_by}
-use Rattle.hg_worker.proofs.Seats.{some_arena, machines_unseen, machines_looked, machines_shown}
-use Rattle.hg_worker.proofs.Steps.{none_in, no_step, own_looks, own_steps, seats_stay, looked_ends}
+use Rattle.hg_worker.proofs.Seats.{machines_unseen, machines_looked, machines_shown}
+use Rattle.hg_worker.proofs.Steps.{no_step, own_looks, own_steps, seats_stay, looked_ends}
 use Rattle.hg_worker.proofs.Tables.{same_together, same_words}
 use Rattle.hg_worker.proofs.Workers.{held_by, whole_of}
 
@@ -35,7 +36,7 @@ returns-then-is_none-clause-refused g c =
     let e = c.denied_answer.ensures in
     let at : arena_of s.policy c.args.handle.place.segment ≡ None =
     sym c.arena_of.ensures
-    ∙ none_in c.arena_of.result (c.is_none.ensures ∙ ap not c.if-is_none.true) in
+    ∙ none_is c.arena_of.result (c.is_none.ensures ∙ ap not c.if-is_none.true) in
     let ties = free_denied number_in records_in old None s.below c.args.actor c.args.handle at e.0
     e.1 in (
       None,
@@ -241,8 +242,8 @@ returns-clause-freed g c =
     let ok = c.in_default-part.ensures.ok in
     let some : is_some (arena_of s.policy place.segment) ≡ true =
     ap is_some (sym c.arena_of.ensures) ∙ (c.is_none.ensures ∙ ap not c.if-is_none.false) in
-    let arena = some_arena (arena_of s.policy place.segment) some in
-    let empty : s.hand ≡ None = none_in s.hand (sym c.if-is_some.ensures) in
+    let arena = some_of (arena_of s.policy place.segment) some in
+    let empty : s.hand ≡ None = none_is s.hand (sym c.if-is_some.ensures) in
     let new = record old {
       own = part_on c.part.new.self.badge;
       hand = Some c.args.handle;
@@ -273,7 +274,7 @@ returns-then-is_none-clause-judged g c =
     let e = c.denied_answer.ensures in
     let at : arena_of s.policy c.args.handle.place.segment ≡ None =
     sym c.arena_of.ensures
-    ∙ none_in c.arena_of.result (c.is_none.ensures ∙ ap not c.if-is_none.true) in
+    ∙ none_is c.arena_of.result (c.is_none.ensures ∙ ap not c.if-is_none.true) in
     let looked : Looked number_in part_of_seat c.args.handle.place None old old =
     (at, seats_stay number_in part_of_seat old old refl refl) in (
       None,

@@ -9,9 +9,9 @@ use Rattle.hg_worker.specs.Seats.{number_in, records_in, part_of_seat}
 use Rattle.hg_worker.specs.Seats.{seat_shows, seat_steps}
 use Rattle.hg_worker.specs.Workers.{had_in}
 use Rattle.hg_worker.proofs.Pools.{by_some}
-use Rattle.hg_worker.proofs.Meetings.{met_away, met_held, met_held_other, met_keeps, met_stepped}
+use Rattle.hg_worker.proofs.Meetings.{met_away, met_held, met_turned, met_keeps, met_stepped}
 use Rattle.hg_worker.proofs.Records.{all_goes}
-use Rattle.hg_worker.proofs.Seats.{some_arena}
+use Rattle.hg_heap.proofs.Options.{some_of}
 use Rattle.hg_heap.proofs.ViewRoom.{found_one}
 use Rattle.hg_worker.proofs.Tables.{same_together, stepped_as, stepped_on_table}
 use Rattle.hg_worker.proofs.Workers.{named_by}
@@ -25,7 +25,7 @@ returns-then-not-holds-2-clause-met g c =
     let place = c.args.handle.place in
     let there : is_some (arena_of s.policy place.segment) ≡ true =
     ap is_some (sym c.arena_of.ensures) ∙ (c.is_none.ensures ∙ ap not c.if-is_none.false) in
-    let arena = some_arena (arena_of s.policy place.segment) there in
+    let arena = some_of (arena_of s.policy place.segment) there in
     by_some (arena_of s.policy place.segment) _ _ arena.0 arena.1
     (met_away place c.meet.result (had_in s) (had_in o)
     (record (had_in s) { own = part_on c.meet.new.self.badge })
@@ -69,13 +69,13 @@ returns-then-not-holds-clause-met g c =
     let after = c.meet-then-not-holds.new.other in
     let there : is_some (arena_of s.policy place.segment) ≡ true =
     ap is_some (sym c.arena_of.ensures) ∙ (c.is_none.ensures ∙ ap not c.if-is_none.false) in
-    let arena = some_arena (arena_of s.policy place.segment) there in
+    let arena = some_of (arena_of s.policy place.segment) there in
     by_some (arena_of s.policy place.segment) _ _ arena.0 arena.1
-    (met_held_other place word (had_in o) (had_in s)
+    (met_turned (met_held place word (had_in o) (had_in s)
     (record (had_in o) { heap = c.meet-then-not-holds.new.self })
     (record (had_in s) { own = part_on after.badge })
     c.settled-2.ensures.once (sym c.holds.ensures ∙ c.if-not-holds.true) refl refl s.seat after
-    refl refl c.meet-then-not-holds.ensures.met))
+    refl refl c.meet-then-not-holds.ensures.met)))
 
 pub invariant_of-inner-then-not-holds-3 : goal.invariant_of-inner-then-not-holds-3
 invariant_of-inner-then-not-holds-3 g c =
@@ -113,7 +113,7 @@ returns-then-not-holds-3-clause-met g c =
     let after = c.meet-then-not-holds-3.new.other in
     let there : is_some (arena_of s.policy place.segment) ≡ true =
     ap is_some (sym c.arena_of.ensures) ∙ (c.is_none.ensures ∙ ap not c.if-is_none.false) in
-    let arena = some_arena (arena_of s.policy place.segment) there in
+    let arena = some_of (arena_of s.policy place.segment) there in
     by_some (arena_of s.policy place.segment) _ _ arena.0 arena.1
     (met_held place word (had_in s) (had_in o)
     (record (had_in s) { heap = c.meet-then-not-holds-3.new.self })
