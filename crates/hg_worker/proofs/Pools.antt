@@ -1,6 +1,6 @@
 -- Segments that come to a worker from a pool, and leave it for one.
 use Rattle.std.proofs.Common.{◌≡◌, ◌⊎◌, ℕ, ◌<◌, ◌++◌, Bool, not, List, []}
-use Rattle.std.proofs.Common.{◌∷◌, length, find, get_or, Some, None, sym, ap, subst}
+use Rattle.std.proofs.Common.{◌∷◌, length, find, get_or, Some, None, sym, ap, subst, is_some, true}
 use Rattle.std.proofs.Common.{◌∙◌, arith, inl, inr, ⊎_elim}
 use Rattle.std.specs.Prelude.{Option, Contains, IfSome, IfNone, MatchOption}
 use Rattle.std.specs.List.{position_or_len}
@@ -25,10 +25,10 @@ pub either_option : {X G : Type 0} (o : Option X) (P : X → Type 0) (Q : Type 0
 either_option None P Q has lacks f h = h lacks
 either_option (Some x) P Q has lacks f h = f x has
 
-pub by_some : {X : Type 0} (o : Option X) (P : Type 0) (Q : X → Type 0) (x : X) → o ≡ Some x → Q x
-    → MatchOption o P Q
-by_some None P Q x e q = absurd (cc)
-by_some (Some y) P Q x e q = let is : y ≡ x = cc in subst Q (sym is) q
+pub by_some : {X : Type 0} (o : Option X) (P : Type 0) (Q : X → Type 0) → is_some o ≡ true
+    → ((x : X) → Q x) → MatchOption o P Q
+by_some None P Q there q = absurd (cc)
+by_some (Some x) P Q there q = q x
 
 pub only : {X : Type 0} (x k : X) → Contains (x ∷ []) k → x ≡ k
 only x k c =

@@ -236,6 +236,16 @@ module _ {S : Type 0} (number : S → ℕ) (part : S → Part) where
       (stepped.2 ∙ looked_ends (word_of place) word old.own.ended)
 
   -- nothing was looked at
+  -- of a place of the policy
+  pub own_looked : (place : Place) (word : ℕ) (old new : Had S)
+      → is_some (arena_of old.policy place.segment) ≡ true
+      → is_held number old.heap.segments place.segment ≡ false → new.heap ≡ old.heap
+      → IsShown (word_of place) word old.own
+      → HasStepped old.own (word_of place) word word new.own
+      → Looked number part place (shown_at place word) old new
+  own_looked place word old new some away same shown step =
+      (some, refl, own_looks place word old new away same shown step)
+
   pub seats_stay : (old new : Had S) → new.heap ≡ old.heap → new.own ≡ old.own
       → KeepsSeats number part old new
   seats_stay old new same own = record {

@@ -68,27 +68,28 @@ pub named_by : {s t : WorkerState} {policy : Policy} {table : TableId} → s ≡
     → IsNamed policy table t → IsNamed policy table s
 named_by {s} {t} {policy} {table} same is = subst (IsNamed policy table) (sym same) is
 
--- a step of the heap
-module _ (w : WorkerState) (new : Held UnnamedSegment) (place : Place)
-    (word left : ℕ)
-    (st : Stepped number_in seat_shows
-    seat_steps place word left w.heap.segments new.segments) where
-  -- leaves the segments as the policy has them
-  pub stepped_of : AreOf number_in w.policy new.segments
-  stepped_of =
-      steps_keep_policy number_in seat_shows
-      seat_steps w.policy place word left w.heap.segments new.segments
-      st w.of
+-- what a worker's box asks of its segments
+pub record Stays (w : WorkerState) (new : Held UnnamedSegment) : Type 0 where
+  pub of : AreOf number_in w.policy new.segments
+  pub together : AreOnTable (table_of_worker w.seat) new.segments
+  pub known : KnowsHand number_in part_of_seat w.hand (had_in w).own new.segments
 
-  -- and of their table
-  pub stepped_together : AreOnTable (table_of_worker w.seat) new.segments
-  stepped_together = stepped_on_table st w.together
+-- a step of the heap leaves it
+pub stepped_stays : (w : WorkerState) (new : Held UnnamedSegment) (place : Place) (word left : ℕ)
+    → Stepped number_in seat_shows seat_steps place word left w.heap.segments new.segments
+    → Stays w new
+stepped_stays w new place word left st = record {
+  of = steps_keep_policy number_in seat_shows seat_steps w.policy place word left
+      w.heap.segments new.segments st w.of;
+  together = stepped_on_table st w.together;
+  known = knows_still number_in part_of_seat (the_same (had_in w).own)
+      (stepped_grown number_in part_of_seat (stepped_as st)) w.known;
+}
 
-  -- and what the seats know of the hand
-  pub stepped_known : KnowsHand number_in part_of_seat w.hand (had_in w).own new.segments
-  stepped_known =
-      knows_still number_in part_of_seat (the_same (had_in w).own)
-      (stepped_grown number_in part_of_seat (stepped_as st)) w.known
+-- so does a call that leaves the heap as it was
+pub same_stays : (w : WorkerState) (new : Held UnnamedSegment) → new ≡ w.heap → Stays w new
+same_stays w new same =
+    subst (Stays w) (sym same) (record { of = w.of; together = w.together; known = w.known })
 
 -- a look by the heap
 module _ (w : WorkerState) (new : Held UnnamedSegment) (place : Place)

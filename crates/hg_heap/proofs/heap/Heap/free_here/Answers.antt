@@ -18,7 +18,7 @@ use Rattle.hg_heap.proofs.ChargeChanged.{charge_covers, charge_lowered}
 use Rattle.hg_heap.proofs.RightChanged.{right_changed}
 use Rattle.hg_heap.proofs.Judging.{judged_as, all_kept}
 use Rattle.hg_heap.proofs.Looking.{heap_lists, heap_right, stepped}
-use Rattle.hg_heap.proofs.FreeCall.{Frees, denied_ends, done_ends, generation_freed, was_open}
+use Rattle.hg_heap.proofs.FreeCall.{frees_of, denied_ends, done_ends, generation_freed, was_open}
 use Rattle.hg_heap.proofs.FreeCall.{has_class, owner_below, page_change, place_change, key_was}
 use Rattle.hg_heap.proofs.FreeCall.{place_now, came_home, closed_step}
 use Rattle.hg_heap.proofs.heap.Heap.free_here.Goals as goal
@@ -111,19 +111,9 @@ unreachable-requires g c = let w = g.S.SlotWords in let k = c.in-Ok.ensures.clos
     let here = found_of w.number c.self.inside.segments.items c.args.handle.place.segment
     c.in-Some.found c.index_mut-segment.result.now
     (rw (← c.self.view_is) at c.in-Some.ensures.some) c.index_mut-segment.ensures.value in
-    let h : Frees w.number w.records w.shows w.steps c.self.inside.segments.items c.in-Some.found
-    k.0 c.args.handle.place c.index_mut-segment.result.now c.close_block-closed.new.segment =
-    record {
-      here = here;
-      was = c.self.invariant.settled c.index_mut-segment.result.now
-          (Contains-get c.self.inside.segments.items c.in-Some.found c.index_mut-segment.result.now
-          here.at);
-      sized = g.met.S.SlotWords.sized c.index_mut-segment.result.now.slots;
-      fits = g.met.S.SlotWords.fits;
-      closed = k.1;
-    } in
-    has_class w.number w.records w.shows w.steps c.self.inside.segments.items c.in-Some.found k.0
-    c.args.handle.place c.index_mut-segment.result.now c.close_block-closed.new.segment h
+    let h = frees_of here c.self.invariant.settled
+    (g.met.S.SlotWords.sized c.index_mut-segment.result.now.slots) g.met.S.SlotWords.fits k.1 in
+    has_class h
     (sym c.class_of.ensures ∙ c.in_default-class_of.is)
 
 pub lower-requires-clause-left : goal.lower-requires-clause-left
@@ -131,17 +121,8 @@ lower-requires-clause-left g c = let w = g.S.SlotWords in let k = c.in-Ok.ensure
     let here = found_of w.number c.self.inside.segments.items c.args.handle.place.segment
     c.in-Some.found c.index_mut-segment.result.now
     (rw (← c.self.view_is) at c.in-Some.ensures.some) c.index_mut-segment.ensures.value in
-    let h : Frees w.number w.records w.shows w.steps c.self.inside.segments.items c.in-Some.found
-    k.0 c.args.handle.place c.index_mut-segment.result.now c.close_block-closed.new.segment =
-    record {
-      here = here;
-      was = c.self.invariant.settled c.index_mut-segment.result.now
-          (Contains-get c.self.inside.segments.items c.in-Some.found c.index_mut-segment.result.now
-          here.at);
-      sized = g.met.S.SlotWords.sized c.index_mut-segment.result.now.slots;
-      fits = g.met.S.SlotWords.fits;
-      closed = k.1;
-    } in
+    let h = frees_of here c.self.invariant.settled
+    (g.met.S.SlotWords.sized c.index_mut-segment.result.now.slots) g.met.S.SlotWords.fits k.1 in
     let class : class_at c.close_block-closed.new.segment.classes c.args.handle.place.page ≡ Some
     c.in-Some-class_of.class = sym c.class_of.ensures ∙ c.in-Some-class_of.is in
     rw (c.block_bytes.ensures.value, k.3)
@@ -149,31 +130,18 @@ lower-requires-clause-left g c = let w = g.S.SlotWords in let k = c.in-Ok.ensure
     c.index_mut-segment.result.now c.close_block-closed.new.segment
     (slot_of c.args.handle.place) (8 * c.in-Some-class_of.class)
     (word_owner k.0) c.self.inside.charges c.self.invariant.counted
-    (owner_below w.number w.records w.shows w.steps c.self.inside.segments.items c.in-Some.found
-    k.0 c.args.handle.place c.index_mut-segment.result.now c.close_block-closed.new.segment h)
+    (owner_below h)
     c.self.invariant.charged (word_generation k.0) (word_generation k.0)
-    (place_change w.number w.records w.shows w.steps c.self.inside.segments.items
-    c.in-Some.found k.0 c.args.handle.place c.index_mut-segment.result.now
-    c.close_block-closed.new.segment h c.in-Some-class_of.class class)
-    (was_open w.number w.records w.shows w.steps c.self.inside.segments.items c.in-Some.found
-    k.0 c.args.handle.place c.index_mut-segment.result.now c.close_block-closed.new.segment h))
+    (place_change h c.in-Some-class_of.class class)
+    (was_open h))
 
 pub requeue-requires-clause-arena : goal.requeue-requires-clause-arena
 requeue-requires-clause-arena g c = let w = g.S.SlotWords in let k = c.in-Ok.ensures.closed in
     let here = found_of w.number c.self.inside.segments.items c.args.handle.place.segment
     c.in-Some.found c.index_mut-segment.result.now
     (rw (← c.self.view_is) at c.in-Some.ensures.some) c.index_mut-segment.ensures.value in
-    let h : Frees w.number w.records w.shows w.steps c.self.inside.segments.items c.in-Some.found
-    k.0 c.args.handle.place c.index_mut-segment.result.now c.close_block-closed.new.segment =
-    record {
-      here = here;
-      was = c.self.invariant.settled c.index_mut-segment.result.now
-          (Contains-get c.self.inside.segments.items c.in-Some.found c.index_mut-segment.result.now
-          here.at);
-      sized = g.met.S.SlotWords.sized c.index_mut-segment.result.now.slots;
-      fits = g.met.S.SlotWords.fits;
-      closed = k.1;
-    } in
+    let h = frees_of here c.self.invariant.settled
+    (g.met.S.SlotWords.sized c.index_mut-segment.result.now.slots) g.met.S.SlotWords.fits k.1 in
     let arena : c.arena-arena.result ≡ c.index_mut-segment.result.now.arena = c.arena-arena.ensures
     ∙ k.1.fixed.arena in
     rw arena (c.self.invariant.arenas c.index_mut-segment.result.now
@@ -186,25 +154,15 @@ requeue-requires-clause-its_own g c key on = let w = g.S.SlotWords in let k =
     let here = found_of w.number c.self.inside.segments.items c.args.handle.place.segment
     c.in-Some.found c.index_mut-segment.result.now
     (rw (← c.self.view_is) at c.in-Some.ensures.some) c.index_mut-segment.ensures.value in
-    let h : Frees w.number w.records w.shows w.steps c.self.inside.segments.items c.in-Some.found
-    k.0 c.args.handle.place c.index_mut-segment.result.now c.close_block-closed.new.segment =
-    record {
-      here = here;
-      was = c.self.invariant.settled c.index_mut-segment.result.now
-          (Contains-get c.self.inside.segments.items c.in-Some.found c.index_mut-segment.result.now
-          here.at);
-      sized = g.met.S.SlotWords.sized c.index_mut-segment.result.now.slots;
-      fits = g.met.S.SlotWords.fits;
-      closed = k.1;
-    } in
+    let h = frees_of here c.self.invariant.settled
+    (g.met.S.SlotWords.sized c.index_mut-segment.result.now.slots) g.met.S.SlotWords.fits k.1 in
     let class : class_at c.close_block-closed.new.segment.classes c.args.handle.place.page ≡ Some
     c.in-Some-class_of.class = sym c.class_of.ensures ∙ c.in-Some-class_of.is in
     let arena : c.arena-arena.result ≡ c.index_mut-segment.result.now.arena = c.arena-arena.ensures
     ∙ k.1.fixed.arena in
     its_own w.number c.self.inside.segments.items c.in-Some.found c.args.handle.place.page
     c.index_mut-segment.result.now c.close_block-closed.new.segment
-    (page_change w.number w.records w.shows w.steps c.self.inside.segments.items c.in-Some.found
-    k.0 c.args.handle.place c.index_mut-segment.result.now c.close_block-closed.new.segment h
+    (page_change h
     c.in-Some-class_of.class class) c.self.inside.queues c.self.invariant.queued key
     (rw c.page_of.ensures.number at on)
     ∙ ap (λ (a : ℕ). key_of a (number_of_size c.in-Some-class_of.class)) (sym arena)
@@ -214,17 +172,8 @@ invariant_of-self-2 g c = let w = g.S.SlotWords in let k = c.in-Ok.ensures.close
     let here = found_of w.number c.self.inside.segments.items c.args.handle.place.segment
     c.in-Some.found c.index_mut-segment.result.now
     (rw (← c.self.view_is) at c.in-Some.ensures.some) c.index_mut-segment.ensures.value in
-    let h : Frees w.number w.records w.shows w.steps c.self.inside.segments.items c.in-Some.found
-    k.0 c.args.handle.place c.index_mut-segment.result.now c.close_block-closed.new.segment =
-    record {
-      here = here;
-      was = c.self.invariant.settled c.index_mut-segment.result.now
-          (Contains-get c.self.inside.segments.items c.in-Some.found c.index_mut-segment.result.now
-          here.at);
-      sized = g.met.S.SlotWords.sized c.index_mut-segment.result.now.slots;
-      fits = g.met.S.SlotWords.fits;
-      closed = k.1;
-    } in
+    let h = frees_of here c.self.invariant.settled
+    (g.met.S.SlotWords.sized c.index_mut-segment.result.now.slots) g.met.S.SlotWords.fits k.1 in
     let class : class_at c.close_block-closed.new.segment.classes c.args.handle.place.page ≡ Some
     c.in-Some-class_of.class = sym c.class_of.ensures ∙ c.in-Some-class_of.is in
     let arena : c.arena-arena.result ≡ c.index_mut-segment.result.now.arena = c.arena-arena.ensures
@@ -251,8 +200,7 @@ invariant_of-self-2 g c = let w = g.S.SlotWords in let k = c.in-Ok.ensures.close
     rw (c.lower.ensures, c.block_bytes.ensures.value, k.3)
     (right_changed w.number w.records c.self.inside.segments.items c.in-Some.found
     c.args.handle.place.page c.index_mut-segment.result.now c.close_block-closed.new.segment
-    (page_change w.number w.records w.shows w.steps c.self.inside.segments.items c.in-Some.found
-    k.0 c.args.handle.place c.index_mut-segment.result.now c.close_block-closed.new.segment h
+    (page_change h
     c.in-Some-class_of.class class)
     (record {
       lists = s.lists;
@@ -274,31 +222,18 @@ invariant_of-self-2 g c = let w = g.S.SlotWords in let k = c.in-Ok.ensures.close
     c.index_mut-segment.result.now c.close_block-closed.new.segment
     (slot_of c.args.handle.place) (8 * c.in-Some-class_of.class)
     (word_owner k.0) c.self.inside.charges c.self.invariant.counted
-    (owner_below w.number w.records w.shows w.steps c.self.inside.segments.items c.in-Some.found
-    k.0 c.args.handle.place c.index_mut-segment.result.now c.close_block-closed.new.segment h)
+    (owner_below h)
     c.self.invariant.charged (word_generation k.0) (word_generation k.0)
-    (place_change w.number w.records w.shows w.steps c.self.inside.segments.items
-    c.in-Some.found k.0 c.args.handle.place c.index_mut-segment.result.now
-    c.close_block-closed.new.segment h c.in-Some-class_of.class class)
-    (was_open w.number w.records w.shows w.steps c.self.inside.segments.items c.in-Some.found
-    k.0 c.args.handle.place c.index_mut-segment.result.now c.close_block-closed.new.segment h)))
+    (place_change h c.in-Some-class_of.class class)
+    (was_open h)))
 
 pub returns : goal.returns
 returns g c = let w = g.S.SlotWords in let k = c.in-Ok.ensures.closed in
     let here = found_of w.number c.self.inside.segments.items c.args.handle.place.segment
     c.in-Some.found c.index_mut-segment.result.now
     (rw (← c.self.view_is) at c.in-Some.ensures.some) c.index_mut-segment.ensures.value in
-    let h : Frees w.number w.records w.shows w.steps c.self.inside.segments.items c.in-Some.found
-    k.0 c.args.handle.place c.index_mut-segment.result.now c.close_block-closed.new.segment =
-    record {
-      here = here;
-      was = c.self.invariant.settled c.index_mut-segment.result.now
-          (Contains-get c.self.inside.segments.items c.in-Some.found c.index_mut-segment.result.now
-          here.at);
-      sized = g.met.S.SlotWords.sized c.index_mut-segment.result.now.slots;
-      fits = g.met.S.SlotWords.fits;
-      closed = k.1;
-    } in
+    let h = frees_of here c.self.invariant.settled
+    (g.met.S.SlotWords.sized c.index_mut-segment.result.now.slots) g.met.S.SlotWords.fits k.1 in
     let class : class_at c.close_block-closed.new.segment.classes c.args.handle.place.page ≡ Some
     c.in-Some-class_of.class = sym c.class_of.ensures ∙ c.in-Some-class_of.is in
     let arena : c.arena-arena.result ≡ c.index_mut-segment.result.now.arena = c.arena-arena.ensures
@@ -324,38 +259,27 @@ returns g c = let w = g.S.SlotWords in let k = c.in-Ok.ensures.closed in
           (sym (found_held w.number c.args.self.now.segments c.args.handle.place.segment
           c.in-Some.found c.in-Some.ensures.some) ∙ e));
       freed = rw (← c.self.view_is)
-          (done_ends w.number w.records w.shows w.steps c.args.policy.now
-          c.self.inside.segments.items c.in-Some.found k.0 c.args.actor c.args.handle
-          c.index_mut-segment.result.now c.close_block-closed.new.segment h k.2);
+          (done_ends c.args.policy.now c.args.actor c.args.handle h k.2);
       denied = λ _. tt;
       lists = rw (← c.self.view_is)
-          (came_home w.number w.records w.shows w.steps c.self.inside.segments.items c.in-Some.found
-          k.0 c.args.handle.place c.index_mut-segment.result.now c.close_block-closed.new.segment h
+          (came_home h
           c.in-Some-class_of.class class c.args.handle.generation
-          (generation_freed w.number w.records w.shows w.steps c.args.policy.now
-          c.self.inside.segments.items c.in-Some.found k.0 c.args.actor c.args.handle
-          c.index_mut-segment.result.now c.close_block-closed.new.segment h k.2));
+          (generation_freed c.args.policy.now c.args.actor c.args.handle h k.2));
       queues = (
         (key_of c.index_mut-segment.result.now.arena (number_of_size c.in-Some-class_of.class)),
-        rw (← c.self.view_is) (key_was w.number w.records w.shows w.steps
-            c.self.inside.segments.items c.in-Some.found k.0 c.args.handle.place
-            c.index_mut-segment.result.now c.close_block-closed.new.segment h
+        rw (← c.self.view_is) (key_was h
             c.in-Some-class_of.class class),
         rw (← c.self.view_is) (e ∙ ap
             (λ (b : Bool). requeued (key_of c.index_mut-segment.result.now.arena
             (number_of_size c.in-Some-class_of.class)) (page_number c.args.handle.place) b
             c.self.inside.queues) (sym
-            (place_now w.number w.records w.shows w.steps c.self.inside.segments.items
-            c.in-Some.found k.0 c.args.handle.place c.index_mut-segment.result.now
-            c.close_block-closed.new.segment h c.in-Some-class_of.class class))),
+            (place_now h c.in-Some-class_of.class class))),
       );
       same_lists = tt;
       same_queues = tt;
       served = rw (← c.self.view_is) (
         k.0,
-        closed_step w.number w.records w.shows w.steps c.self.inside.segments.items
-            c.in-Some.found k.0 c.args.handle.place c.index_mut-segment.result.now
-            c.close_block-closed.new.segment h,
+        closed_step h,
         judged_as w.number w.records w.shows w.steps g.met.S.SlotWords.fits c.args.policy.now
             c.args.actor.0 right.Free c.args.handle k.0 c.index_mut-segment.result.now None
             k.1.shown k.2,

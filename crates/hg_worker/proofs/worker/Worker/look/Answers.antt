@@ -18,7 +18,7 @@ use Rattle.hg_worker.specs.Seats.{number_in, records_in}
 use Rattle.hg_worker.specs.Workers.{had_in}
 use Rattle.hg_worker.proofs.Judged.{found_slot, rule_away}
 use Rattle.hg_worker.proofs.Records.{all_goes}
-use Rattle.hg_worker.proofs.Workers.{IsUse, stepped_of, stepped_together, stepped_known, held_by}
+use Rattle.hg_worker.proofs.Workers.{IsUse, stepped_stays, held_by}
 use Rattle.hg_worker.proofs.Workers.{held_looks, held_use, held_finds, away_call}
 use Rattle.hg_worker.proofs.worker.Worker.look.Given.{Over}
 use Rattle.hg_worker.proofs.worker.Worker.look.Goals as goal
@@ -58,14 +58,15 @@ pub invariant_of-inner : goal.invariant_of-inner
 invariant_of-inner g c =
     let s = c.deref_mut-inner.result.now in
     let word = c.look.new.shown in
+    let stays = stepped_stays s c.look.new.self c.args.place word word c.look.ensures.step in
     record {
       sound = s.sound;
       below = s.below;
       words = s.words;
-      of = stepped_of s c.look.new.self c.args.place word word c.look.ensures.step;
-      together = stepped_together s c.look.new.self c.args.place word word c.look.ensures.step;
+      of = stays.of;
+      together = stays.together;
       reach = s.reach;
-      known = stepped_known s c.look.new.self c.args.place word word c.look.ensures.step;
+      known = stays.known;
     }
 
 pub returns-in-Some-clause-look : goal.returns-in-Some-clause-look

@@ -10,7 +10,7 @@ use Rattle.hg_worker.specs.Seats.{number_in, records_in, part_of_seat}
 use Rattle.hg_worker.specs.Workers.{had, had_in}
 use Rattle.hg_worker.proofs.Judged.{judged_by, rule_away, rule_read}
 use Rattle.hg_worker.proofs.Records.{all_goes}
-use Rattle.hg_worker.proofs.Workers.{IsUse, stepped_of, stepped_together, stepped_known, held_by}
+use Rattle.hg_worker.proofs.Workers.{IsUse, stepped_stays, held_by}
 use Rattle.hg_worker.proofs.Workers.{held_use, held_finds, away_call}
 use Rattle.hg_worker.proofs.worker.Worker.read.Given.{Over}
 use Rattle.hg_worker.proofs.worker.Worker.read.Goals as goal
@@ -37,14 +37,15 @@ invariant_of-inner g c =
     let s = c.deref_mut-inner.result.now in
     let e = c.read.ensures.held (held_by _ c.deref_mut-inner.ensures.value
     (sym c.holds.ensures ∙ c.if-not-holds.false)) in
+    let stays = stepped_stays s c.read.new.self c.args.handle.place e.0 e.0 e.1 in
     record {
       sound = s.sound;
       below = s.below;
       words = s.words;
-      of = stepped_of s c.read.new.self c.args.handle.place e.0 e.0 e.1;
-      together = stepped_together s c.read.new.self c.args.handle.place e.0 e.0 e.1;
+      of = stays.of;
+      together = stays.together;
       reach = s.reach;
-      known = stepped_known s c.read.new.self c.args.handle.place e.0 e.0 e.1;
+      known = stays.known;
     }
 
 pub returns-clause-read : goal.returns-clause-read

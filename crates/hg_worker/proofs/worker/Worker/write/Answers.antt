@@ -14,7 +14,7 @@ use Rattle.hg_worker.specs.Seats.{number_in, records_in, part_of_seat}
 use Rattle.hg_worker.specs.Workers.{had, had_in}
 use Rattle.hg_worker.proofs.Judged.{judged_by, rule_away, rule_done, not_away, not_refused}
 use Rattle.hg_worker.proofs.Records.{all_goes, wrote_goes}
-use Rattle.hg_worker.proofs.Workers.{IsUse, stepped_of, stepped_together, stepped_known, held_by}
+use Rattle.hg_worker.proofs.Workers.{IsUse, stepped_stays, held_by}
 use Rattle.hg_worker.proofs.Workers.{held_use, held_finds, away_call}
 use Rattle.hg_worker.proofs.worker.Worker.write.Given.{Over}
 use Rattle.hg_worker.proofs.worker.Worker.write.Goals as goal
@@ -55,14 +55,15 @@ invariant_of-inner g c =
     let s = c.deref_mut-inner.result.now in
     let e = c.write.ensures.held (held_by _ c.deref_mut-inner.ensures.value
     (sym c.holds.ensures ∙ c.if-not-holds.false)) in
+    let stays = stepped_stays s c.write.new.self c.args.handle.place e.0 e.0 e.1 in
     record {
       sound = s.sound;
       below = s.below;
       words = s.words;
-      of = stepped_of s c.write.new.self c.args.handle.place e.0 e.0 e.1;
-      together = stepped_together s c.write.new.self c.args.handle.place e.0 e.0 e.1;
+      of = stays.of;
+      together = stays.together;
       reach = s.reach;
-      known = stepped_known s c.write.new.self c.args.handle.place e.0 e.0 e.1;
+      known = stays.known;
     }
 
 pub returns-clause-write : goal.returns-clause-write
