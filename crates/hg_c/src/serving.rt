@@ -5,7 +5,7 @@ ghost use Rattle.hg_machine.specs.declared.Event.TheVariants as Event;
 ghost use Rattle.hg_c.specs.Calls.{IsSame, Steps, Serves};
 ghost use Rattle.hg_c.specs.Owning.{open_mark};
 
-use crate::answering::{answer, look_reply, read_reply, write_reply};
+use crate::answering::{look_reply, read_reply, write_reply};
 use crate::host_core::HostCore;
 use crate::reply::{Reply, reply_of};
 use hg_core::Core;
@@ -44,7 +44,7 @@ fn step(core: &mut Core, worker: u32, event: Event) -> Reply
     let Some(worker) = worker_of(core, worker) else {
         return Reply::plain(NO_WORKER);
     };
-    reply_of(answer(core, worker, event))
+    reply_of(core.step(worker, event))
 }
 
 /// Reads a word for a worker, if there is such a worker.

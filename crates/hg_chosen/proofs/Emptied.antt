@@ -3,7 +3,6 @@ use Rattle.std.proofs.Common.{◌≡◌, ℕ, ◌+◌, ◌*◌, ◌%◌, ◌<◌
 use Rattle.std.proofs.Common.{List, length, map, filter, is_some, sym, refl, ap, ◌∙◌, arith}
 use Rattle.std.proofs.Common.{slice_index_or, Option, Some, None}
 use Rattle.std.specs.List.{range_with_len}
-use Rattle.std.specs.Option.{option_map}
 use Rattle.std.proofs.lemmas.List.FromFn.{length-map-range_with_len}
 use Rattle.hg_place.specs.declared.plain.PlainWords.{PlainWords}
 use Rattle.hg_place.specs.declared.standing.Standing.{Standing}
@@ -20,6 +19,7 @@ use Rattle.hg_heap.specs.Idle.{bare, is_idle_by, IdleAreOut}
 use Rattle.hg_heap.specs.Idle.{is_idle as is_idle_in}
 use Rattle.hg_heap.proofs.Filtered.{filters_same}
 use Rattle.hg_heap.proofs.Idles.{all_shift, home_on, rest_in}
+use Rattle.hg_heap.proofs.Options.{is_some_map}
 use Rattle.hg_machine.specs.Life.{is_home}
 use Rattle.hg_machine.specs.State.{State, record_at, class_at, pages_in}
 use Rattle.hg_machine.specs.SoundPolicy.{IsSoundPolicy}
@@ -61,10 +61,6 @@ emptied_local : (i : Bool) (first : ℕ) (lists : PageLists)
     ≡ cond i [] (places_from first lists.local_free)
 emptied_local true first lists = refl
 emptied_local false first lists = refl
-
-some_bare : (o : Option (Kept PlainWords)) → is_some (option_map bare o) ≡ is_some o
-some_bare None = refl
-some_bare (Some k) = refl
 
 none_held : (o : Option (Kept PlainWords)) (page : ℕ) → is_some o ≡ false
     → is_idle_by plain_number plain_records o page ≡ false
@@ -163,10 +159,10 @@ module _ (core : Core) (worker : ℕ) (t : IsTidy (parts_of core))
     held_same : (n : ℕ)
         → is_held plain_number heap.segments n ≡ is_held plain_number old.segments n
     held_same n =
-        sym (some_bare (segment_in plain_number heap.segments n))
+        sym (is_some_map bare (segment_in plain_number heap.segments n))
         ∙ ap is_some
         (rest_in plain_number plain_records heap.segments old.segments n done.collected.rest)
-        ∙ some_bare (segment_in plain_number old.segments n)
+        ∙ is_some_map bare (segment_in plain_number old.segments n)
 
     -- the lists of a page afterwards, by those before
     abbrev lists_then : ℕ → PageLists → PageLists

@@ -17,7 +17,7 @@ use Rattle.hg_segment.specs.Parted.{plain_number}
 use Rattle.hg_heap.specs.Held.{Held, segment_in, is_held, KeepsLists}
 use Rattle.hg_heap.specs.Held.{lists_on as lists_in}
 use Rattle.hg_heap.specs.Held.{lists_by as lists_had}
-use Rattle.hg_heap.proofs.Blanks.{none_is}
+use Rattle.hg_heap.proofs.Options.{none_is}
 use Rattle.hg_agreement.specs.Parts.{Plain, Parts, plain_of, plain_by, plain_from, worker_of}
 use Rattle.hg_agreement.specs.Parts.{heap_at, holdings, is_of, lists_on, lists_by, lists_of}
 use Rattle.hg_agreement.specs.Parts.{places_from, all_pages}

@@ -17,7 +17,7 @@ use Rattle.hg_machine.specs.declared.Event.{Event}
 use Rattle.hg_machine.specs.declared.Event.TheVariants as event
 use Rattle.hg_machine.specs.Lists.{Lists}
 use Rattle.hg_machine.specs.SoundPolicy.{IsSoundPolicy}
-use Rattle.hg_heap.specs.Answers.{read_answer, done_answer, look_answer, list_denial}
+use Rattle.hg_heap.specs.Answers.{read_answer, done_answer, row_answer, list_denial}
 use Rattle.hg_agreement.specs.Parts.{Plain, Parts, plain_from, lists_of, kept_of}
 use Rattle.hg_parts.specs.Spots.{Spot, in_heap, segment_at, with_segment}
 use Rattle.hg_parts.specs.Tidy.{IsTidy}
@@ -149,7 +149,7 @@ look_is_chosen core worker actor place word row heap policy t own same = record 
   chosen = tt;
   lists =
       lists_same core worker place word word (event.Look actor place)
-      (look_answer row (list_denial core.policy actor place word)) heap policy t own same.lists;
+      (row_answer row (list_denial core.policy actor place word)) heap policy t own same.lists;
   queues = queues_same core worker heap same.queues;
 }
 

@@ -1,8 +1,8 @@
 -- A Take of a core, in lists and queues.
 use Rattle.std.proofs.Common.{◌≡◌, ℕ, ◌*◌, ◌==◌, ◌<◌, Bool, true, false, cond, not}
-use Rattle.std.proofs.Common.{List, [], ◌∷◌, length, map, slice_get, slice_set, is_some}
+use Rattle.std.proofs.Common.{List, [], ◌∷◌, length, map, slice_get, slice_set}
 use Rattle.std.proofs.Common.{refl, sym, ap, ◌∙◌, subst, count_by}
-use Rattle.std.specs.Prelude.{Option, Some, None, MatchOption}
+use Rattle.std.specs.Prelude.{Some, MatchOption}
 use Rattle.std.specs.List.{position_or_len}
 use Rattle.std.proofs.lemmas.List.{map-set}
 use Rattle.std.proofs.lemmas.List.{length-set}
@@ -16,6 +16,7 @@ use Rattle.hg_remote.specs.Order.{drained}
 use Rattle.hg_segment.specs.Parted.{plain_number}
 use Rattle.hg_heap.specs.Held.{Held, is_of, segment_in}
 use Rattle.hg_heap.proofs.Founds.{Contains-get, Found, passes}
+use Rattle.hg_heap.proofs.Options.{some_of}
 use Rattle.hg_machine.specs.declared.Answer.{Answer}
 use Rattle.hg_machine.specs.declared.Answer.TheVariants as answer
 use Rattle.hg_machine.specs.declared.Event.TheVariants as event
@@ -62,10 +63,6 @@ held_count : (held : Bool) (count all : ℕ) (P : Type 0) (Q : Answer → Type 0
     → count ≡ all
 held_count true count all P Q m = let e = m.0 in cc
 held_count false count all P Q m = absurd (let e = m.0 in cc)
-
-some_of : {X : Type 0} (o : Option X) → is_some o ≡ true → (x : X) × (o ≡ Some x)
-some_of {X} None e = absurd (cc)
-some_of {X} (Some x) e = (x, refl)
 
 -- what stands where it was put
 get_set : (xs : List K) (at : ℕ) (one now : K) → slice_get xs at ≡ Some one

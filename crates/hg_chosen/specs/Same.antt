@@ -6,7 +6,7 @@ use Rattle.hg_place.specs.declared.Place.{Place}
 use Rattle.hg_place.specs.declared.plain.PlainWords.{PlainWords}
 use Rattle.hg_segment.specs.Parted.{plain_number}
 use Rattle.hg_heap.specs.declared.refused.Refused.{Refused}
-use Rattle.hg_heap.specs.Answers.{read_answer, done_answer, look_answer, list_denial}
+use Rattle.hg_heap.specs.Answers.{read_answer, done_answer, row_answer, list_denial}
 use Rattle.hg_heap.specs.Held.{Held, KeepsLists}
 use Rattle.hg_machine.specs.declared.Answer.{Answer}
 use Rattle.hg_machine.specs.declared.Answer.TheVariants as answer
@@ -56,7 +56,7 @@ LookIsChosen =
     (core : Core) (worker : ℕ) (actor : Actor) (place : Place) (word : ℕ) (row : Option Row)
     (heap : Held PlainWords)
     → SameIsChosen core worker place word (event.Look actor place)
-    (look_answer row (list_denial core.policy actor place word)) heap
+    (row_answer row (list_denial core.policy actor place word)) heap
 
 -- and of a free that is denied
 abbrev pub DeniedFreeIsChosen : Type 0

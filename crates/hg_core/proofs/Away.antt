@@ -1,5 +1,5 @@
 -- Blocks of a segment that the worker doesn't hold.
-use Rattle.std.proofs.Common.{◌≡◌, ℕ, ◌<◌, true, false, Option, Some, None, refl, sym, subst}
+use Rattle.std.proofs.Common.{◌≡◌, ℕ, ◌<◌, true, false, refl, sym, subst}
 use Rattle.std.proofs.Common.{◌∙◌}
 use Rattle.hg_place.specs.declared.Actor.{Actor}
 use Rattle.hg_place.specs.declared.Handle.{Handle}
@@ -7,29 +7,22 @@ use Rattle.hg_place.specs.declared.Place.{Place}
 use Rattle.hg_place.specs.declared.Right.TheVariants as right
 use Rattle.hg_heap.specs.declared.refused.Refused.{Refused}
 use Rattle.hg_heap.specs.declared.refused.Refused.TheVariants as refused
-use Rattle.hg_heap.specs.Answers.{refused_answer, list_denial}
-use Rattle.hg_heap.specs.Answers.{look_answer as heap_answer}
+use Rattle.hg_heap.specs.Answers.{refused_answer, away_answer, list_denial}
 use Rattle.hg_heap.specs.Reading.{use_denial}
 use Rattle.hg_machine.specs.declared.Answer.{Answer}
 use Rattle.hg_machine.specs.declared.Event.{Event}
 use Rattle.hg_machine.specs.declared.Event.TheVariants as event
-use Rattle.hg_machine.specs.declared.Rule.{Rule}
 use Rattle.hg_machine.specs.Holders.{holds}
 use Rattle.hg_machine.specs.Steps.{Step}
 use Rattle.hg_laws.specs.Asked.{is_refusal}
 use Rattle.hg_events.specs.Core.{Core}
-use Rattle.hg_events.specs.Elsewhere.{IsAway, word_at, away_answer}
+use Rattle.hg_events.specs.Elsewhere.{IsAway, word_at}
 use Rattle.hg_events.proofs.Elsewhere.{holds_is_held, read_elsewhere, write_elsewhere}
 use Rattle.hg_events.proofs.Elsewhere.{look_elsewhere}
 use Rattle.hg_chosen.specs.Chosen.{IsChosenBy}
 use Rattle.hg_chosen.proofs.Refusals.{refused_is_chosen}
 use Rattle.hg_core.specs.Keeping.{state_in, IsKept}
 use Rattle.hg_core.proofs.After.{heap_below}
-
--- without a row the answer is by the verdict alone
-pub no_row : (denial : Option Rule) → heap_answer None denial ≡ away_answer denial
-no_row None = refl
-no_row (Some rule) = refl
 
 -- each refusal of a heap is answered by one
 pub answers_refusal : (why : Refused) → is_refusal (refused_answer why) ≡ true

@@ -17,7 +17,7 @@ use Rattle.hg_heap.specs.declared.refused.Refused.{Refused}
 use Rattle.hg_heap.specs.declared.refused.Refused.TheVariants as refused
 use Rattle.hg_heap.specs.Allotted.{IsAllotted}
 use Rattle.hg_heap.specs.Answers.{refused_answer, read_answer, done_answer, list_denial}
-use Rattle.hg_heap.specs.Answers.{look_answer as heap_answer}
+use Rattle.hg_heap.specs.Answers.{alloc_answer, away_answer, row_answer}
 use Rattle.hg_heap.specs.Held.{Held, is_held, lists_on, has_place, greatest_in, KeepsLists}
 use Rattle.hg_heap.specs.Lists.{CameHome}
 use Rattle.hg_heap.specs.Policies.{AreOf}
@@ -35,7 +35,6 @@ use Rattle.hg_machine.specs.Holders.{holds}
 use Rattle.hg_machine.specs.Request.{size_of}
 use Rattle.hg_agreement.specs.Views.{Shown}
 use Rattle.hg_events.specs.Core.{Core, heap_of}
-use Rattle.hg_events.specs.Elsewhere.{away_answer}
 use Rattle.hg_events.specs.Own.{with_heap, IsOwnCall, IsServedBy}
 use Rattle.hg_events.specs.Take.{plain_shows, plain_steps}
 use Rattle.hg_events.proofs.Elsewhere.{holds_is_held}
@@ -52,12 +51,11 @@ use Rattle.hg_chosen.proofs.Freed.{free_is_chosen}
 use Rattle.hg_chosen.proofs.Same.{read_is_chosen, write_is_chosen, look_is_chosen}
 use Rattle.hg_chosen.proofs.Same.{denied_free_is_chosen}
 use Rattle.hg_core.specs.declared.stores.Stores.TheInside.{Inside}
-use Rattle.hg_core.specs.Answers.{alloc_answer}
 use Rattle.hg_core.specs.Keeping.{state_in}
 use Rattle.hg_core.specs.Stored.{core_of, IsStored}
 use Rattle.hg_core.proofs.After.{IsAfter, after_still, after_refused, heap_read, heap_below}
 use Rattle.hg_core.proofs.After.{put_back}
-use Rattle.hg_core.proofs.Away.{no_row, answers_refusal}
+use Rattle.hg_core.proofs.Away.{answers_refusal}
 use Rattle.hg_core.proofs.HoldersKept.{MovesNone}
 
 -- what three clauses say of an answer, together
@@ -190,16 +188,16 @@ module _ (a : Inside) (s : Core) (at worker : ℕ) (old : Held PlainWords) (view
       pub after_look : (actor : Actor) (place : Place) (word : ℕ) (row : Option Row)
           → Stepped plain_number plain_shows plain_steps place word word old.segments new.segments
           → HeapTies plain_number plain_records a.policy (shown_at place word) (shown_at place word)
-          (event.Look actor place) (heap_answer row (list_denial a.policy actor place word))
+          (event.Look actor place) (row_answer row (list_denial a.policy actor place word))
           old.segments new.segments
           → IsSame old new
           → IsAfter s after worker (event.Look actor place)
-          (heap_answer row (list_denial a.policy actor place word))
+          (row_answer row (list_denial a.policy actor place word))
       after_look actor place word row stepped ties kept =
           let own = owns place word word (event.Look actor place)
-          (heap_answer row (list_denial a.policy actor place word)) stepped ties in
+          (row_answer row (list_denial a.policy actor place word)) stepped ties in
           after_heap (event.Look actor place)
-          (heap_answer row (list_denial a.policy actor place word)) tt
+          (row_answer row (list_denial a.policy actor place word)) tt
           (look_is_step core worker actor place word row new stored.kept.policy stored.kept.tidy
           own)
           (look_is_chosen core worker actor place word row new stored.kept.policy
@@ -210,13 +208,12 @@ module _ (a : Inside) (s : Core) (at worker : ℕ) (old : Held PlainWords) (view
           → refused_answer why ≡ away_answer (list_denial a.policy actor place word)
           → Stepped plain_number plain_shows plain_steps place word word old.segments new.segments
           → HeapTies plain_number plain_records a.policy (shown_at place word) (shown_at place word)
-          (event.Look actor place) (heap_answer None (list_denial a.policy actor place word))
+          (event.Look actor place) (row_answer None (list_denial a.policy actor place word))
           old.segments new.segments
           → IsSame old new
           → IsAfter s after worker (event.Look actor place) (refused_answer why)
       after_unlisted actor place word why is stepped ties kept =
-          subst (λ x. IsAfter s after worker (event.Look actor place) x)
-          (no_row (list_denial a.policy actor place word) ∙ sym is)
+          subst (λ x. IsAfter s after worker (event.Look actor place) x) (sym is)
           (after_look actor place word None stepped ties kept)
 
       pub after_free : (actor : Actor) (handle : Handle) (word : ℕ) → IsLiveWord word

@@ -1,11 +1,7 @@
--- What a worker is answered, by what its call answers.
+-- What a worker is answered, by what a call of the core answers.
 use Rattle.std.specs.Prelude.{ℕ, Result, Ok, Err}
-use Rattle.hg_place.specs.declared.Handle.{Handle}
 use Rattle.hg_machine.specs.declared.Answer.{Answer}
 use Rattle.hg_machine.specs.declared.Answer.TheVariants as answer
-use Rattle.hg_machine.specs.declared.Row.{Row}
-use Rattle.hg_heap.specs.Answers.{refused_answer}
-use Rattle.hg_heap.specs.declared.refused.Refused.{Refused}
 use Rattle.hg_core.specs.declared.refusals.NothingInHand.{NothingInHand}
 use Rattle.hg_core.specs.declared.refusals.NotHeld.{NotHeld}
 use Rattle.hg_core.specs.declared.refusals.NoSegment.{NoSegment}
@@ -13,10 +9,6 @@ use Rattle.hg_core.specs.declared.refusals.Freed.{Freed}
 use Rattle.hg_core.specs.declared.refusals.Freed.TheVariants as freed
 use Rattle.hg_core.specs.declared.refusals.NotFreed.{NotFreed}
 use Rattle.hg_core.specs.declared.refusals.NotFreed.TheVariants as not_freed
-
-abbrev pub alloc_answer : Result Handle Refused → Answer
-alloc_answer (Ok handle) = answer.Block handle
-alloc_answer (Err refused) = refused_answer refused
 
 abbrev pub free_answer : Result Freed NotFreed → Answer
 free_answer (Ok freed.Here) = answer.Done
@@ -31,10 +23,6 @@ deliver_answer (Err nothing) = answer.NothingInHand
 abbrev pub take_answer : Result ℕ NotHeld → Answer
 take_answer (Ok count) = answer.Taken count
 take_answer (Err not_held) = answer.NotHeld
-
-abbrev pub look_answer : Result Row Refused → Answer
-look_answer (Ok row) = answer.Listed row
-look_answer (Err refused) = refused_answer refused
 
 abbrev pub abandon_answer : {X : Type 0} → Result X NotHeld → Answer
 abandon_answer (Ok done) = answer.Done

@@ -4,7 +4,7 @@ ghost use Rattle.std.specs.Prelude.{◌<◌};
 ghost use Rattle.hg_machine.specs.declared.Event.TheVariants as Event;
 ghost use Rattle.hg_machine.specs.Steps.{Step};
 ghost use Rattle.hg_chosen.specs.Chosen.{IsChosenBy};
-ghost use Rattle.hg_core.specs.Answers.{alloc_answer};
+ghost use Rattle.hg_heap.specs.Answers.{alloc_answer};
 ghost use Rattle.hg_core.specs.Keeping.{state_in, IsKept};
 
 use crate::stores::Stores;

@@ -1,15 +1,15 @@
 //! The calls of the core, one for each event.
 
 ghost use Rattle.std.specs.Prelude.{◌<◌};
-ghost use Rattle.hg_heap.specs.Answers.{read_answer, done_answer};
+ghost use Rattle.hg_heap.specs.Answers.{alloc_answer, read_answer, done_answer, look_answer};
 ghost use Rattle.hg_machine.specs.declared.Answer.TheVariants as Answer;
 ghost use Rattle.hg_machine.specs.declared.Event.TheVariants as Event;
 ghost use Rattle.hg_machine.specs.Lists.{IsPartition};
 ghost use Rattle.hg_machine.specs.Soundness.{IsSound};
 ghost use Rattle.hg_machine.specs.Steps.{Step};
 ghost use Rattle.hg_choice.specs.ChosenSteps.{ChosenStep};
-ghost use Rattle.hg_core.specs.Answers.{alloc_answer, free_answer, deliver_answer, take_answer};
-ghost use Rattle.hg_core.specs.Answers.{look_answer, abandon_answer, refill_answer};
+ghost use Rattle.hg_core.specs.Answers.{free_answer, deliver_answer, take_answer};
+ghost use Rattle.hg_core.specs.Answers.{abandon_answer, refill_answer};
 
 use crate::refusals::{Freed, NoSegment, NotFreed, NotHeld, NothingInHand};
 use crate::serving::Core;

@@ -4,12 +4,11 @@ ghost use Rattle.std.specs.Prelude.{◌<◌};
 ghost use Rattle.hg_machine.specs.declared.Event.TheVariants as Event;
 ghost use Rattle.hg_machine.specs.Steps.{Step};
 ghost use Rattle.hg_chosen.specs.Chosen.{IsChosenBy};
-ghost use Rattle.hg_core.specs.Answers.{look_answer};
+ghost use Rattle.hg_heap.specs.Answers.{look_answer};
 ghost use Rattle.hg_core.specs.Keeping.{state_in, IsKept};
 
-use crate::reaching::unlisted;
 use crate::stores::Stores;
-use hg_heap::Refused;
+use hg_heap::{Refused, unlisted};
 use hg_machine::Row;
 use hg_place::{Actor, Place};
 

@@ -11,11 +11,9 @@ ghost use Rattle.hg_choice.specs.ChosenSteps.{ChosenStep};
 ghost use Rattle.hg_core.specs.Opening.{opened};
 ghost use Rattle.hg_core.specs.Held.{worker_in};
 
-use crate::answers::{
-    abandon_answer, alloc_answer, deliver_answer, free_answer, look_answer, read_answer,
-    refill_answer, take_answer, write_answer,
-};
+use crate::answers::{abandon_answer, deliver_answer, free_answer, refill_answer, take_answer};
 use crate::stores::Stores;
+use hg_heap::{alloc_answer, done_answer, look_answer, read_answer};
 use hg_machine::{Answer, Event};
 use hg_policy::Policy;
 use std::alloc::{AllocError, Global};
@@ -83,7 +81,9 @@ impl Core {
         self.stores.charge(worker, tenant)
     }
 
-    /// Serves one event of a worker.
+    /// Serves one event of a worker. Where the event's kind is known to a caller, of these calls it
+    /// has that kind's alone.
+    #[inline(always)]
     pub fn step(&mut self, worker: u8, event: Event) -> Answer
         requires worker { worker < self.old.state.policy.workers }
         ensures step { Step self.old.state worker event result self.new.state }
@@ -110,7 +110,7 @@ impl Core {
                 handle,
                 index,
                 value,
-            } => write_answer(self.write(worker, actor, handle, index, value)),
+            } => done_answer(self.write(worker, actor, handle, index, value)),
             Event::Look { actor, place } => look_answer(self.look(worker, actor, place)),
             Event::Abandon { segment } => abandon_answer(self.abandon(worker, segment)),
             Event::Refill { arena } => refill_answer(self.refill(worker, arena)),

@@ -32,10 +32,12 @@ use Rattle.hg_agreement.proofs.Closes.{native, read_as}
 use Rattle.hg_parts.specs.Tidy.{IsTidy}
 use Rattle.hg_parts.proofs.Sorted.{tidy_sorted}
 use Rattle.hg_events.specs.Core.{Core, parts_of}
-use Rattle.hg_events.specs.Elsewhere.{word_at, IsAway, away_answer, ReadElsewhere, WriteElsewhere}
+use Rattle.hg_heap.specs.Answers.{away_answer}
+use Rattle.hg_events.specs.Elsewhere.{word_at, IsAway, ReadElsewhere, WriteElsewhere}
 use Rattle.hg_events.specs.Elsewhere.{LookElsewhere, FreeIsDeniedElsewhere, FreeIsBusy}
 use Rattle.hg_events.specs.Elsewhere.{HoldsIsHeld, UndeniedWordIsLive}
 use Rattle.hg_events.proofs.WordAt.{word_shown, word_denies, word_is_slot, had_held}
+use Rattle.hg_heap.proofs.Options.{some_of}
 
 -- what is refused changes nothing
 refused_step : (s : State) (worker : ℕ) (event : Event) (refused : Answer)
@@ -133,16 +135,12 @@ live_bit : (word : ℕ) → (slot_in word).live ≡ true → word % 2 ≡ 1
 live_bit word live =
     eqb-true (word % 2) 1 (ap (λ s. s.live) (sym (ap (read_as word) (native word live))) ∙ live)
 
-some_arena : (o : Option ℕ) → is_some o ≡ true → (arena : ℕ) × (o ≡ Some arena)
-some_arena None e = absurd (cc)
-some_arena (Some arena) e = (arena, refl)
-
 pub undenied_word_is_live : UndeniedWordIsLive
 undenied_word_is_live core actor right handle t undenied =
     let word = word_at core handle.place in
     let allowed = allowed_parts core.policy actor right handle.place.segment handle.generation
     (slot_in word) undenied in
-    let arena = some_arena (arena_of core.policy handle.place.segment) allowed.0 in (
+    let arena = some_of (arena_of core.policy handle.place.segment) allowed.0 in (
       (word_is_slot core handle.place t, live_bit word allowed.2),
       slice_get_within core.policy.segments handle.place.segment arena.0 arena.1,
     )

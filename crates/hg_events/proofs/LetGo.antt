@@ -15,7 +15,7 @@ use Rattle.hg_segment.specs.Parted.{plain_number}
 use Rattle.hg_heap.specs.Held.{segment_in}
 use Rattle.hg_heap.specs.Held.{is_of as is_number}
 use Rattle.hg_heap.specs.Releasing.{without_by, without_segment}
-use Rattle.hg_heap.proofs.Blanks.{none_is}
+use Rattle.hg_heap.proofs.Options.{none_is}
 use Rattle.hg_heap.proofs.Founds.{Found, passes}
 use Rattle.hg_heap.proofs.Founds.{numbers as numbers_in}
 use Rattle.hg_heap.proofs.Gone.{rest, once_rest, gone, others}

@@ -15,6 +15,7 @@ use Rattle.hg_pool.specs.Pooled.{is_of_arena}
 use Rattle.hg_pool.specs.Pooled.{next_in as next_pooled}
 use Rattle.hg_heap.specs.Held.{Held}
 use Rattle.hg_heap.specs.Held.{is_of as is_held_as}
+use Rattle.hg_heap.proofs.Options.{is_some_map}
 use Rattle.hg_agreement.specs.Parts.{Plain, Parts, is_of, heap_at, plain_from}
 use Rattle.hg_agreement.specs.Pool.{is_for}
 use Rattle.hg_agreement.proofs.Firsts.{some_counted, pool_inside}
@@ -25,7 +26,6 @@ use Rattle.hg_parts.proofs.Times.{bit_small}
 use Rattle.hg_events.specs.Core.{Core, parts_of, heap_of, nothing_held}
 use Rattle.hg_events.specs.Refill.{NextMayBeAdopted}
 use Rattle.hg_events.proofs.PlainLists.{K, found_plain, each_such, found_such, got_such, found_any}
-use Rattle.hg_events.proofs.PlainLists.{some_plain}
 use Rattle.hg_events.proofs.NextPlain.{IsOwn, pool_own, next_plain}
 
 -- the worker's heap in the parts
@@ -92,7 +92,7 @@ next_may_be_adopted core worker arena one sound t below next =
     let n = one.slots.segment in
     let held : List K = (heap_of core worker).segments in
     let limit = length core.policy.arenas in (
-      sym (some_plain (find (is_held_as plain_number n) held))
+      sym (is_some_map plain_from (find (is_held_as plain_number n) held))
           ∙ ap is_some (sym (found_plain (is_held_as plain_number n) (is_of n) held
           (each_such (λ x. is_of n (plain_from x) ≡ is_held_as plain_number n x) held
           (λ x. refl)))

@@ -4,7 +4,7 @@ use Rattle.std.specs.Prelude.{Result, Ok, Err}
 use Rattle.hg_place.specs.declared.Actor.{Actor}
 use Rattle.hg_place.specs.declared.Handle.{Handle}
 use Rattle.hg_place.specs.Places.{number_of}
-use Rattle.hg_heap.specs.Answers.{read_answer, done_answer, refused_answer, look_answer}
+use Rattle.hg_heap.specs.Answers.{read_answer, done_answer, refused_answer, row_answer}
 use Rattle.hg_heap.specs.Answers.{list_denial}
 use Rattle.hg_heap.specs.declared.refused.Refused.{Refused}
 use Rattle.hg_heap.specs.declared.refused.Refused.TheVariants as refused
@@ -28,7 +28,7 @@ read_is_step core worker actor handle index word result heap policy t own =
 pub look_is_step : LookIsStep
 look_is_step core worker actor place word row heap policy t own =
     own_is_served core worker place word word (event.Look actor place)
-    (look_answer row (list_denial core.policy actor place word)) heap
+    (row_answer row (list_denial core.policy actor place word)) heap
     (record_at (state_of (parts_of core)) (number_of place)) policy t own
     (same_changed (state_of (parts_of core)) place) refl
 

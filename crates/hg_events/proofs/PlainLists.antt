@@ -1,8 +1,8 @@
 -- Lists of segments over plain words, as parts have them.
 use Rattle.std.proofs.Common.{◌≡◌, ℕ, zero, suc, ◌==◌, Bool, true, false, cond, not, ◌||◌, List, []}
-use Rattle.std.proofs.Common.{◌∷◌, ◌++◌, map, find, is_some, slice_get, refl, sym, ap, ◌∙◌, subst}
+use Rattle.std.proofs.Common.{◌∷◌, ◌++◌, map, find, slice_get, refl, sym, ap, ◌∙◌, subst}
 use Rattle.std.proofs.Common.{inl, inr}
-use Rattle.std.specs.Prelude.{Option, Some, None}
+use Rattle.std.specs.Prelude.{Option, Some}
 use Rattle.std.specs.Option.{option_map}
 use Rattle.std.specs.List.{AllByRecursion, list_any}
 use Rattle.std.proofs.lemmas.Bool.{cases_Bool, or_right}
@@ -73,10 +73,6 @@ found_any p q (x ∷ xs) y e passes =
       | inr f ↦ or_right (q x) (list_any q xs)
           (found_any p q xs y (sym (ap (λ b. cond b (Some x) (find p xs)) f) ∙ e) passes)
     ]
-
-pub some_plain : (o : Option K) → is_some (option_map plain_from o) ≡ is_some o
-some_plain None = refl
-some_plain (Some x) = refl
 
 -- those of other numbers
 pub without_plain : (n : ℕ) (xs : List K) → map plain_from (without_number plain_number n xs)

@@ -2,7 +2,7 @@
 use Rattle.std.proofs.Common.{◌≡◌, ℕ, ◌==◌, ◌<◌, Bool, true, false, not}
 use Rattle.std.proofs.Common.{cond, List, [], ◌∷◌, length, map, slice_get, slice_set}
 use Rattle.std.proofs.Common.{refl, sym, ap, ◌∙◌, subst, find, is_some}
-use Rattle.std.specs.Prelude.{Option, Some, None, Contains}
+use Rattle.std.specs.Prelude.{Option, Some, Contains}
 use Rattle.std.specs.List.{position_or_len}
 use Rattle.std.proofs.lemmas.List.{map-set, length-map}
 use Rattle.std.proofs.lemmas.List.Folds.{find_at}
@@ -17,6 +17,7 @@ use Rattle.hg_segment.specs.Parted.{plain_number}
 use Rattle.hg_heap.specs.Held.{Held, is_of, is_held, segment_in}
 use Rattle.hg_heap.specs.Taking.{Takes}
 use Rattle.hg_heap.proofs.Founds.{Contains-get, passes}
+use Rattle.hg_heap.proofs.Options.{some_of}
 use Rattle.hg_machine.specs.declared.Event.TheVariants as event
 use Rattle.hg_machine.specs.declared.Answer.TheVariants as answer
 use Rattle.hg_machine.specs.First.{first_of}
@@ -47,11 +48,6 @@ use Rattle.hg_events.proofs.TakesHome.{HaveCome, all_come}
 use Rattle.hg_events.proofs.StandsAlone.{still_alone}
 use Rattle.hg_events.proofs.CoreHeaps.{requeued_tidy, heap_is, spot, one_right, alone}
 use Rattle.hg_events.proofs.SentParted.{order, sent_parted, as_many, listed_is}
-
--- what is there
-some_of : {X : Type 0} (o : Option X) → is_some o ≡ true → (x : X) × (o ≡ Some x)
-some_of {X} None e = absurd (cc)
-some_of {X} (Some x) e = (x, refl)
 
 -- a segment of a worker's heap
 module _ (core : Core) (worker : ℕ) (t : IsTidy (parts_of core))

@@ -22,6 +22,7 @@ use Rattle.hg_heap.specs.Held.{segment_in, is_held}
 use Rattle.hg_heap.specs.Held.{is_of as is_number}
 use Rattle.hg_heap.proofs.Founds.{at_is, get-map, passes}
 use Rattle.hg_heap.proofs.Looking.{slot_below}
+use Rattle.hg_heap.proofs.Options.{is_some_map}
 use Rattle.hg_machine.specs.Denial.{denial, denial_on}
 use Rattle.hg_machine.specs.Life.{never_used}
 use Rattle.hg_machine.specs.Shown.{IsShownBy}
@@ -48,7 +49,7 @@ use Rattle.hg_parts.proofs.SpotPuts.{spot_found}
 use Rattle.hg_events.specs.Core.{Core, parts_of, heap_of, nothing_held}
 use Rattle.hg_events.specs.Elsewhere.{word_by, word_at, IsInNoHeap, HeapWordIsWordAt}
 use Rattle.hg_events.specs.Elsewhere.{NowhereWordIsZero, UnheldIsPooled}
-use Rattle.hg_events.proofs.PlainLists.{K, some_plain}
+use Rattle.hg_events.proofs.PlainLists.{K}
 use Rattle.hg_events.proofs.Told.{found_told, heap_told}
 
 -- the segment of a number is one of the policy, and right
@@ -186,7 +187,7 @@ had_held core worker n =
     has_is n (heap_at (parts_of core) worker)
     ∙ ap (λ (xs : List Plain). is_some (find (is_of n) xs)) (heap_told core worker)
     ∙ ap is_some (found_told n heap)
-    ∙ some_plain (segment_in plain_number heap n)
+    ∙ is_some_map plain_from (segment_in plain_number heap n)
 
 -- where no heap has the segment
 

@@ -11,11 +11,10 @@ use Rattle.hg_place.specs.Plain.{plain_words}
 use Rattle.hg_place.specs.Standings.{slot_of}
 use Rattle.hg_segment.specs.Parted.{plain_number}
 use Rattle.hg_pool.specs.Pooled.{IsPooled, IsOf}
-use Rattle.hg_heap.specs.Answers.{list_denial}
+use Rattle.hg_heap.specs.Answers.{away_answer, list_denial}
 use Rattle.hg_heap.specs.Held.{is_held}
 use Rattle.hg_heap.specs.Parting.{word_in}
 use Rattle.hg_heap.specs.Reading.{use_denial}
-use Rattle.hg_machine.specs.declared.Answer.{Answer}
 use Rattle.hg_machine.specs.declared.Answer.TheVariants as answer
 use Rattle.hg_machine.specs.declared.Event.TheVariants as event
 use Rattle.hg_machine.specs.declared.Rule.{Rule}
@@ -88,11 +87,6 @@ UndeniedWordIsLive =
 pub record IsAway (core : Core) (worker segment : ℕ) : Type 0 where
   pub below : worker < length core.heaps
   pub unheld : is_held plain_number (heap_of core worker).segments segment ≡ false
-
--- by the rule that denies the use of a block; where none does, that the block is elsewhere
-abbrev pub away_answer : Option Rule → Answer
-away_answer (Some rule) = answer.Denied rule
-away_answer None = answer.Elsewhere
 
 -- a Read, a Write and a Look of such a segment's block are answered so, and nothing changes
 abbrev pub ReadElsewhere : Type 0

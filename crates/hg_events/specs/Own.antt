@@ -11,7 +11,7 @@ use Rattle.hg_segment.specs.Parted.{plain_number}
 use Rattle.hg_heap.specs.declared.refused.Refused.{Refused}
 use Rattle.hg_heap.specs.Held.{Held}
 use Rattle.hg_heap.specs.Ties.{Stepped, HeapTies, shown_at}
-use Rattle.hg_heap.specs.Answers.{read_answer, done_answer, look_answer, list_denial}
+use Rattle.hg_heap.specs.Answers.{read_answer, done_answer, row_answer, list_denial}
 use Rattle.hg_machine.specs.declared.Event.{Event}
 use Rattle.hg_machine.specs.declared.Event.TheVariants as event
 use Rattle.hg_machine.specs.declared.Answer.{Answer}
@@ -79,7 +79,7 @@ LookIsStep =
     (core : Core) (worker : ℕ) (actor : Actor) (place : Place) (word : ℕ) (row : Option Row)
     (heap : Held PlainWords)
     → OwnCallServes core worker place word word (event.Look actor place)
-    (look_answer row (list_denial core.policy actor place word)) heap
+    (row_answer row (list_denial core.policy actor place word)) heap
 
 -- and a free of a block that is denied
 abbrev pub FreeIsDenied : Type 0

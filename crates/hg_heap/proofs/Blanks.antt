@@ -1,12 +1,11 @@
 -- Which pages are blank, as a segment tells of its pages; and the first page that is.
 use Rattle.std.proofs.Common.{◌≡◌, ◌≢◌, ℕ, zero, suc, ◌+◌, ◌-◌, ◌*◌, ◌/◌, ◌%◌, ◌<◌, ◌≤◌, inl, inr}
-use Rattle.std.proofs.Common.{Bool, true, false, cond, ◌∷◌, [], List, get_or, Option, Some, None}
-use Rattle.std.proofs.Common.{refl, sym, ap, ◌∙◌, arith, find, is_some, slice_get, filter, subst}
+use Rattle.std.proofs.Common.{Bool, true, false, cond, ◌∷◌, [], List, Option, Some, None}
+use Rattle.std.proofs.Common.{refl, sym, ap, ◌∙◌, arith, find, filter, subst}
 use Rattle.std.specs.List.{range_with_len}
 use Rattle.std.proofs.lemmas.Bool.{cases_Bool, true≢false, ne_eqb, eq-eqb, cases_eq}
 use Rattle.std.proofs.lemmas.Bool.{false_from_ne_true}
-use Rattle.std.proofs.lemmas.List.Folds.{find_at}
-use Rattle.std.proofs.lemmas.Option.{slice_get-get_or, none-some}
+use Rattle.std.proofs.lemmas.Option.{none-some}
 use Rattle.hg_place.specs.declared.standing.Standing.{Standing}
 use Rattle.hg_place.specs.Places.{segment_of_page}
 use Rattle.hg_place.specs.Standings.{standing_at}
@@ -16,14 +15,10 @@ use Rattle.hg_size.proofs.Covers.{begins_not}
 use Rattle.hg_segment.specs.Kept.{Kept, slot, class_at}
 use Rattle.hg_segment.specs.Right.{is_vacant, vacant_in}
 use Rattle.hg_segment.specs.Begins.{CanBegin, IsFirstBegin}
-use Rattle.hg_heap.specs.Held.{is_of, is_held, segment_in, is_some_place, pages_in}
-use Rattle.hg_heap.specs.Found.{IsFoundAt}
+use Rattle.hg_heap.specs.Held.{is_held, segment_in, is_some_place, pages_in}
 use Rattle.hg_heap.specs.Choice.{blank_of, blank_by, blank_on}
+use Rattle.hg_heap.proofs.Options.{none_is}
 use Rattle.hg_heap.proofs.Searches.{find_none, first_in_segment}
-
-pub none_is : {X : Type 0} (o : Option X) → is_some o ≡ false → o ≡ None
-none_is None e = refl
-none_is (Some x) e = absurd (true≢false e)
 
 -- what a filtered range has
 pub filtered : (p : ℕ → Bool) (from count x : ℕ) → p (from + x) ≡ true → x < count
@@ -58,16 +53,6 @@ filtered_none p from (suc n) none =
     ∙ filtered_none p (from + 1) n (λ x low high. none x (omega (arith, low)) (omega (arith, high)))
 
 module _ {S : Type 0} (number : S → ℕ) (records : S → List Standing) where
-  -- the segment that was found
-  pub found_segment : (segments : List (Kept S)) (segment found : ℕ) (one : Kept S)
-      → IsFoundAt number segments segment found → one ≡ get_or segments found one
-      → segment_in number segments segment ≡ Some one
-  found_segment segments segment found one f e =
-      find_at (is_of number segment) segments
-      ∙ ap (slice_get segments) (sym f.first)
-      ∙ slice_get-get_or segments found one f.inside
-      ∙ ap Some (sym e)
-
   pub unheld : (segments : List (Kept S)) (segment : ℕ) → is_held number segments segment ≡ false
       → segment_in number segments segment ≡ None
   unheld segments segment e = none_is (segment_in number segments segment) e

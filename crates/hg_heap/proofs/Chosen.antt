@@ -58,11 +58,6 @@ in_range p from (suc n) x c =
     ]
 
 -- a page whose lists have a place gives one of them out next
-next_there_by : (free : List ℕ) (all : List ℕ) → is_some_place (free ++ all) ≡ true → all ≡ []
-    → (index : ℕ) × (slice_get free 0 ≡ Some index) × Contains free index
-next_there_by [] all e none = absurd (true≢false (sym e ∙ ap is_some_place none))
-next_there_by (x ∷ xs) all e none = (x, refl, (0, omega arith, refl))
-
 pub next_there : (lists : PageLists) → has_place lists ≡ true
     → (index : ℕ) × (next_index lists ≡ Some index) × Contains (listed lists) index
 next_there lists has = go lists.free lists.local_free lists refl refl has

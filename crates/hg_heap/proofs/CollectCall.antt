@@ -26,8 +26,9 @@ use Rattle.hg_heap.specs.Policies.{AreOf}
 use Rattle.hg_heap.specs.Ties.{holding, heap_view, HeapTies}
 use Rattle.hg_heap.proofs.CollectLoop.{idle_low}
 use Rattle.hg_heap.proofs.Founds.{inside_of}
+use Rattle.hg_heap.proofs.Options.{is_some_map}
 use Rattle.hg_heap.proofs.Idles.{all_shift, home_at, home_by, idle_is, rest_in}
-use Rattle.hg_heap.proofs.ViewRoom.{holding_in, found_one}
+use Rattle.hg_heap.proofs.ViewRoom.{holding_in, view_holds, found_one}
 use Rattle.hg_heap.proofs.Sums.{home_blocks, none_lost, sum_ends, three}
 use Rattle.hg_machine.specs.declared.Event.TheVariants as event
 use Rattle.hg_machine.specs.declared.Answer.TheVariants as answer
@@ -60,11 +61,6 @@ module _ {S : Type 0} (number : S → ℕ) (records : S → List Standing) where
       ≡ block_in (option_map bare o) at (class_by number o (at / 512))
   block_is None at = refl
   block_is (Some k) at = refl
-
-  held_is : (o : Option (Kept S)) → is_some (option_map (holding number records) o)
-      ≡ is_some (option_map bare o)
-  held_is None = refl
-  held_is (Some k) = refl
 
   -- on a page whose places are home no block has words
   home_told : (o : Option (Kept S)) (page at : ℕ) → at / 512 ≡ page
@@ -182,11 +178,11 @@ module _ {S : Type 0} (number : S → ℕ) (records : S → List Standing) where
 
       held_same : (segment : ℕ) → after.holds segment ≡ view.holds segment
       held_same segment =
-          ap is_some (holding_in number records new segment)
-          ∙ held_is (segment_in number new segment)
+          view_holds number records new segment
+          ∙ sym (is_some_map bare (segment_in number new segment))
           ∙ ap is_some (same_at segment)
-          ∙ sym (held_is (segment_in number old segment))
-          ∙ sym (ap is_some (holding_in number records old segment))
+          ∙ is_some_map bare (segment_in number old segment)
+          ∙ sym (view_holds number records old segment)
 
       class_same : (page : ℕ) → after.class page
           ≡ cond (is_given_up view page) None (view.class page)

@@ -20,7 +20,7 @@ use Rattle.hg_heap.proofs.Founds.{held_beyond}
 use Rattle.hg_heap.proofs.Idles.{idle_same}
 use Rattle.hg_heap.proofs.ViewCharges.{sum_next}
 use Rattle.hg_heap.specs.Held.{segment_in}
-use Rattle.hg_heap.proofs.Blanks.{none_is}
+use Rattle.hg_heap.proofs.Options.{none_is}
 
 -- an idle page below the number is out
 abbrev pub is_out : (ℕ → Bool) → ℕ → ℕ → Bool

@@ -89,9 +89,6 @@ module _ {S : Type 0} (k : Kept S) (first : ℕ) where
     pub queues : AreQueues new
     pub each : (key : ℕ) → queue_of new key ≡ reverse (entering key n) ++ queue_of old key
 
-  pub entered_none : (old : List (List ℕ)) → AreQueues old → AreEntered 0 old old
-  entered_none old are = record { queues = are; each = λ key. refl }
-
   module _ (n : ℕ) (old new : List (List ℕ)) (e : AreEntered n old new) (low : n < 16)
       (even : first % 16 ≡ 0) where
     page_is : (first + n) % 16 ≡ n

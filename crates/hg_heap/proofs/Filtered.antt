@@ -1,11 +1,13 @@
 -- Lists that are filtered, one by one and all lists of a list.
 use Rattle.std.proofs.Common.{◌≡◌, ⊎_elim, ℕ, suc, ◌&&◌, inl, inr, Bool, true}
-use Rattle.std.proofs.Common.{cond, ◌∷◌, [], List, map, length, filter, Contains, slice_index_or}
+use Rattle.std.proofs.Common.{cond, not, ◌∷◌, ◌++◌, [], List, map, length, filter, Contains, slice_index_or}
 use Rattle.std.proofs.Common.{refl, sym, ap, ◌∙◌, arith}
 use Rattle.std.proofs.lemmas.Bool.{cases_Bool, cases_lt, true≢false}
 use Rattle.std.proofs.lemmas.List.{length-map, get_or-map, get_or_past}
-use Rattle.hg_lists.specs.Repeats.{IsIn}
-use Rattle.hg_lists.proofs.RepeatsLemmas.{in_contains, Contains-in, Contains-cons}
+use Rattle.std.proofs.lemmas.List.Elements.{All-contains, All-contains_itself, All-filter}
+use Rattle.std.proofs.lemmas.List.Elements.{filter_agree, filter_passes, Contains-append_cases}
+use Rattle.std.proofs.lemmas.List.Sorted.{Contains-permutation, IsPermutation-filter_both}
+use Rattle.hg_lists.proofs.RepeatsLemmas.{Contains-cons}
 use Rattle.hg_queue.specs.Queues.{queue_of}
 
 -- lists filtered twice
@@ -34,18 +36,11 @@ filters_twice p q r h (xs ∷ xss) =
     ∙ ap (λ (yss : List (List ℕ)). filter r xs ∷ yss) (filters_twice p q r h xss)
 
 -- filtered by tests that agree
-pub filter_same : (p q : ℕ → Bool) → ((x : ℕ) → p x ≡ q x) → (xs : List ℕ)
-    → filter p xs ≡ filter q xs
-filter_same p q h [] = refl
-filter_same p q h (x ∷ xs) =
-    ap (λ (b : Bool). cond b (x ∷ filter p xs) (filter p xs)) (h x)
-    ∙ ap (λ (ys : List ℕ). cond (q x) (x ∷ ys) ys) (filter_same p q h xs)
-
 pub filters_same : (p q : ℕ → Bool) → ((x : ℕ) → p x ≡ q x) → (xss : List (List ℕ))
     → map (filter p) xss ≡ map (filter q) xss
 filters_same p q h [] = refl
 filters_same p q h (xs ∷ xss) =
-    ap (λ (ys : List ℕ). ys ∷ map (filter p) xss) (filter_same p q h xs)
+    ap (λ (ys : List ℕ). ys ∷ map (filter p) xss) (filter_agree p q h xs)
     ∙ ap (λ (yss : List (List ℕ)). filter q xs ∷ yss) (filters_same p q h xss)
 
 -- filtered by a test that all pass
@@ -80,29 +75,21 @@ queue_of-filters p xss key = elim (cases_lt key (length xss)) [
 ]
 
 -- what a filtered list has
-in_filter : (p : ℕ → Bool) (x : ℕ) (xs : List ℕ) → IsIn x (filter p xs)
-    → (p x ≡ true) × IsIn x xs
-in_filter p x [] i = absurd i
-in_filter p x (y ∷ ys) i = elim (cases_Bool (p y)) [
-  | inl t ↦ ⊎_elim (λ s. (ap p s ∙ t, inl s))
-      (λ k. let r = in_filter p x ys k in (r.0, inr r.1)) (rw t at i)
-  | inr f ↦ (let r = in_filter p x ys (rw f at i) in (r.0, inr r.1))
-]
-
-filter_in : (p : ℕ → Bool) (x : ℕ) (xs : List ℕ) → p x ≡ true → IsIn x xs → IsIn x (filter p xs)
-filter_in p x [] e i = absurd i
-filter_in p x (y ∷ ys) e i = elim (cases_Bool (p y)) [
-  | inl t ↦ rw t (⊎_elim (λ s. inl s) (λ r. inr (filter_in p x ys e r)) i)
-  | inr f ↦ rw f (⊎_elim (λ s. absurd (true≢false (sym e ∙ ap p s ∙ f)))
-      (λ r. filter_in p x ys e r) i)
-]
-
-pub contained_filter : (p : ℕ → Bool) (x : ℕ) (xs : List ℕ) → Contains (filter p xs) x
+pub contained_filter : {X : Type 0} (p : X → Bool) (x : X) (xs : List X) → Contains (filter p xs) x
     → (p x ≡ true) × Contains xs x
-contained_filter p x xs c =
-    let r = in_filter p x xs (in_contains x (filter p xs) c) in (r.0, Contains-in x xs r.1)
+contained_filter p x xs c = (
+  All-contains (λ y. p y ≡ true) (filter p xs) x (filter_passes p xs) c,
+  All-contains (Contains xs) (filter p xs) x
+      (All-filter p (Contains xs) xs (All-contains_itself xs)) c,
+)
 
-pub Contains-filter : (p : ℕ → Bool) (x : ℕ) (xs : List ℕ) → p x ≡ true → Contains xs x
-    → Contains (filter p xs) x
-Contains-filter p x xs e c =
-    Contains-in x (filter p xs) (filter_in p x xs e (in_contains x xs c))
+pub Contains-filter : {X : Type 0} (p : X → Bool) (x : X) (xs : List X) → p x ≡ true
+    → Contains xs x → Contains (filter p xs) x
+Contains-filter {X} p x xs e c =
+    let q : X → Bool = λ y. not (p y) in
+    ⊎_elim (λ (l : Contains (filter p xs) x). l)
+    (λ (r : Contains (filter q xs) x).
+    absurd (true≢false (sym (contained_filter q x xs r).0 ∙ ap not e)))
+    (Contains-append_cases (filter p xs) (filter q xs) x
+    (Contains-permutation xs (filter p xs ++ filter q xs) x
+    (IsPermutation-filter_both p q (λ y. refl) xs) c))

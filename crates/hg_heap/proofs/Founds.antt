@@ -67,6 +67,32 @@ map_same f xs n x y at same =
     ∙ sym (map-set f xs n x)
     ∙ ap (map f) (ap (set xs n) (sym (get_or_from_slice_get xs n x x at)) ∙ set-get_or xs n x)
 
+module _ {S X : Type 0} (number : S → ℕ) (told : Kept S → X) where
+  mapped : (b : Bool) (k : Kept S) (o : Option (Kept S))
+      → option_map told (cond b (Some k) o) ≡ cond b (Some (told k)) (option_map told o)
+  mapped true k o = refl
+  mapped false k o = refl
+
+  abbrev pub pair : Kept S → ℕ × X
+  pair k = (number k.slots, told k)
+
+  -- what is told of the segment of a number, by what is told of all
+  pub told_in : (xs ys : List (Kept S)) → map pair ys ≡ map pair xs → (segment : ℕ)
+      → option_map told (segment_in number ys segment)
+      ≡ option_map told (segment_in number xs segment)
+  told_in [] [] e segment = refl
+  told_in [] (y ∷ ys) e segment = absurd (cc)
+  told_in (x ∷ xs) [] e segment = absurd (cc)
+  told_in (x ∷ xs) (y ∷ ys) e segment =
+      let heads : pair y ≡ pair x = cc in
+      let tails : map pair ys ≡ map pair xs = cc in
+      mapped (number y.slots == segment) y (segment_in number ys segment)
+      ∙ ap (λ (p : ℕ × X). cond (p.0 == segment) (Some p.1)
+      (option_map told (segment_in number ys segment))) heads
+      ∙ ap (λ (o : Option X). cond (number x.slots == segment) (Some (told x)) o)
+      (told_in xs ys tails segment)
+      ∙ sym (mapped (number x.slots == segment) x (segment_in number xs segment))
+
 module _ {S : Type 0} (number : S → ℕ) where
   -- a heap has what its numbers say
   abbrev pub numbers : List (Kept S) → List ℕ

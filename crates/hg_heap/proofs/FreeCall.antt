@@ -2,7 +2,7 @@
 use Rattle.std.proofs.Common.{◌≡◌, ℕ, ◌-◌, ◌*◌, ◌/◌, ◌%◌, ◌==◌, ◌<◌, ◌&&◌, Bool}
 use Rattle.std.proofs.Common.{not, ◌∷◌, [], List, length, is_some, Option}
 use Rattle.std.proofs.Common.{Some, None, refl, sym, ap, subst, ◌∙◌, slice_set, arith, inl}
-use Rattle.std.specs.Prelude.{option_map}
+use Rattle.std.specs.Prelude.{option_map, Contains}
 use Rattle.std.proofs.lemmas.Grind.{get_or-set_at}
 use Rattle.std.proofs.lemmas.List.{get_or-set_other}
 use Rattle.hg_place.specs.declared.Actor.{Actor}
@@ -41,7 +41,7 @@ use Rattle.hg_heap.specs.Settled.{IsSettled}
 use Rattle.hg_heap.specs.Ties.{holding, heap_view, shown_at, HeapTies, Stepped}
 use Rattle.hg_heap.specs.Freeing.{free_denial}
 use Rattle.hg_heap.specs.Stays.{Looked, Closed}
-use Rattle.hg_heap.proofs.Founds.{Found, found_is, number_is}
+use Rattle.hg_heap.proofs.Founds.{Found, found_is, number_is, Contains-get}
 use Rattle.hg_heap.proofs.FoundHoldings.{held_found}
 use Rattle.hg_heap.proofs.OpenBlocks.{none_at_home, generation_read}
 use Rattle.hg_heap.proofs.PageChanged.{PageChange, kind_same, lists_now, lists_before}
@@ -103,10 +103,25 @@ module _ {S : Type 0} (number : S → ℕ) (records : S → List Standing) (show
     pub fits : FitsLaw number records shows steps
     pub closed : Closed number records shows steps place word one after
 
+-- by what stands of the segment in the heap
+pub frees_of : {S : Type 0} {number : S → ℕ} {records : S → List Standing}
+    {shows : S → ℕ → ℕ → Type 0} {steps : S → ℕ → ℕ → ℕ → S → Type 0} {items : List (Kept S)}
+    {found word : ℕ} {place : Place} {one after : Kept S} → Found number items place.segment found one
+    → ((k : Kept S) → Contains items k → IsSettled records k) → length (records one.slots) ≡ 8192
+    → FitsLaw number records shows steps → Closed number records shows steps place word one after
+    → Frees number records shows steps items found word place one after
+frees_of {items = items} {found = found} {one = one} here settled sized fits closed = record {
+  here = here;
+  was = settled one (Contains-get items found one here.at);
+  sized = sized;
+  fits = fits;
+  closed = closed;
+}
+
 module _ {S : Type 0} {number : S → ℕ} {records : S → List Standing} {shows : S → ℕ → ℕ → Type 0}
-    {steps : S → ℕ → ℕ → ℕ → S → Type 0} where
-  module _ {items : List (Kept S)} {found word : ℕ} {place : Place} {one after : Kept S}
-      (h : Frees number records shows steps items found word place one after) where
+    {steps : S → ℕ → ℕ → ℕ → S → Type 0} {items : List (Kept S)} {found word : ℕ} {place : Place}
+    {one after : Kept S} (h : Frees number records shows steps items found word place one after)
+  where
     -- it was open
     pub was_open : standing_at (records one.slots) (slot_of place) ≡ Open (word_generation word)
         (word_owner word)
@@ -233,47 +248,48 @@ module _ {S : Type 0} {number : S → ℕ} {records : S → List Standing} {show
       stepped = h.closed.step;
     }
 
-  module _ (policy : Policy) (actor : Actor) (handle : Handle) {items : List (Kept S)}
-      {found word : ℕ} {one after : Kept S}
-      (h : Frees number records shows steps items found word handle.place one after)
-      (undenied : free_denial policy actor.0 handle word ≡ None) where
-    -- what is freed is of the handle's generation
-    pub generation_freed : handle.generation ≡ word_generation word
-    generation_freed =
-        let f = h.fits one.slots (slot_of handle.place) word
-        (slot_below handle.place) h.closed.shown in
-        sym (undenied_is_live (view_of policy 0 None 0 []) (slot_in word) actor.0 right.Free handle
-        undenied).0
-        ∙ generation_read (standing_at (records one.slots) (slot_of handle.place)) word f.0 f.1
+module _ {S : Type 0} {number : S → ℕ} {records : S → List Standing} {shows : S → ℕ → ℕ → Type 0}
+    {steps : S → ℕ → ℕ → ℕ → S → Type 0} {items : List (Kept S)} {found word : ℕ}
+    {one after : Kept S} (policy : Policy) (actor : Actor) (handle : Handle)
+    (h : Frees number records shows steps items found word handle.place one after)
+    (undenied : free_denial policy actor.0 handle word ≡ None) where
+  -- what is freed is of the handle's generation
+  pub generation_freed : handle.generation ≡ word_generation word
+  generation_freed =
+      let f = h.fits one.slots (slot_of handle.place) word
+      (slot_below handle.place) h.closed.shown in
+      sym (undenied_is_live (view_of policy 0 None 0 []) (slot_in word) actor.0 right.Free handle
+      undenied).0
+      ∙ generation_read (standing_at (records one.slots) (slot_of handle.place)) word f.0 f.1
 
-    pub done_ends : FreedEnds number records shows steps policy items found actor handle
-        (slice_set items found after)
-    done_ends = (
-      word,
-      h.closed.live,
-      closed_step h,
-      λ w hand g below.
-          let view = heap_view number records policy w hand g items in
-          let p = number_of handle.place in
-          let held = held_found number records items handle.place found one h.here in
-          let none : refusal_in view (slot_in word) (event.Free actor handle) ≡ None =
-          ap (λ (o : Option Rule). reason_by number records shows steps policy items found actor handle o
-          (view.holds handle.place.segment) hand) undenied
-          ∙ ap (λ (b : Bool). reason_by number records shows steps policy items found actor handle None b hand) held in
-          let home = home_now h in
-          let standing : Home handle.generation ≡ standing_at (records after.slots)
-          (slot_of handle.place) = ap Home generation_freed ∙ sym home in
-          let block : [] ≡ block_of (holding number records after) (slot_of handle.place) =
-          sym (none_at_home number records after handle.place.page handle.place.index
-          handle.place.index_below (ap is_home home)) in
-          let ties = free_here_is_tied view word actor handle below none held in
-          put_ties number records items found handle.place one after h.here
-          (changed h) policy w hand g
-          (shown_at handle.place word) (shown_at handle.place (word - 1))
-          (event.Free actor handle) answer.Done
-          (subst (λ (b : List ℕ). Ties view (shown_at handle.place word) (event.Free actor handle)
-          answer.Done (put view p (standing_at (records after.slots) (slot_of handle.place)) b)
-          (shown_at handle.place (word - 1))) block
-          (subst (λ (s : Standing). Ties view (shown_at handle.place word) (event.Free actor handle)
-          answer.Done (put view p s []) (shown_at handle.place (word - 1))) standing ties)),
-    )
+  pub done_ends : FreedEnds number records shows steps policy items found actor handle
+      (slice_set items found after)
+  done_ends = (
+    word,
+    h.closed.live,
+    closed_step h,
+    λ w hand g below.
+        let view = heap_view number records policy w hand g items in
+        let p = number_of handle.place in
+        let held = held_found number records items handle.place found one h.here in
+        let none : refusal_in view (slot_in word) (event.Free actor handle) ≡ None =
+        ap (λ (o : Option Rule). reason_by number records shows steps policy items found actor handle o
+        (view.holds handle.place.segment) hand) undenied
+        ∙ ap (λ (b : Bool). reason_by number records shows steps policy items found actor handle None b hand) held in
+        let home = home_now h in
+        let standing : Home handle.generation ≡ standing_at (records after.slots)
+        (slot_of handle.place) = ap Home generation_freed ∙ sym home in
+        let block : [] ≡ block_of (holding number records after) (slot_of handle.place) =
+        sym (none_at_home number records after handle.place.page handle.place.index
+        handle.place.index_below (ap is_home home)) in
+        let ties = free_here_is_tied view word actor handle below none held in
+        put_ties number records items found handle.place one after h.here
+        (changed h) policy w hand g
+        (shown_at handle.place word) (shown_at handle.place (word - 1))
+        (event.Free actor handle) answer.Done
+        (subst (λ (b : List ℕ). Ties view (shown_at handle.place word) (event.Free actor handle)
+        answer.Done (put view p (standing_at (records after.slots) (slot_of handle.place)) b)
+        (shown_at handle.place (word - 1))) block
+        (subst (λ (s : Standing). Ties view (shown_at handle.place word) (event.Free actor handle)
+        answer.Done (put view p s []) (shown_at handle.place (word - 1))) standing ties)),
+  )

@@ -1,6 +1,6 @@
 -- Which places of a segment come home, where its places are taken in one after the other.
 use Rattle.std.proofs.Common.{◌≡◌, ◌≢◌, ℕ, zero, suc, ◌+◌, ◌==◌, ◌<◌, Bool, true, false, cond}
-use Rattle.std.proofs.Common.{List, [], ◌∷◌, length, find, Option, Some, None, is_some, refl, sym}
+use Rattle.std.proofs.Common.{List, [], ◌∷◌, length, find, Option, Some, refl, sym}
 use Rattle.std.proofs.Common.{ap, subst, ◌∙◌, arith, ⊎_elim, inl, inr, slice_get, slice_set}
 use Rattle.std.specs.Prelude.{Contains}
 use Rattle.std.proofs.lemmas.Bool.{true≢false, cases_lt}
@@ -22,6 +22,7 @@ use Rattle.hg_heap.specs.Homecoming.{IsHomeAgain, AreHomeAgain, HaveComeHome}
 use Rattle.hg_heap.specs.Taking.{WentHome, StayedAway, IsAnother, Takes}
 use Rattle.hg_heap.proofs.Founds.{Contains-get, get-map, inside_of, numbers, numbers_same}
 use Rattle.hg_heap.proofs.TakingKept.{taking_keeps}
+use Rattle.hg_heap.proofs.Options.{some_of}
 
 -- a place that isn't home has a record
 recorded : (rs : List Standing) (at : ℕ) → is_home (standing_at rs at) ≡ false → at < length rs
@@ -202,10 +203,6 @@ same_some x y e = cc
 
 slot_whole : (place : ℕ) → slot (page_of place) (index_of place) ≡ place
 slot_whole place = omega arith
-
-some_of : {X : Type 0} (o : Option X) → is_some o ≡ true → (x : X) × (o ≡ Some x)
-some_of None e = absurd (cc)
-some_of (Some x) e = (x, refl)
 
 module _ {S : Type 0} (number : S → ℕ) (records : S → List Standing) (shows : S → ℕ → ℕ → Type 0)
     (steps : S → ℕ → ℕ → ℕ → S → Type 0) where

@@ -1,3 +1,4 @@
+pub mod Options
 pub mod Founds
 pub mod FoundHoldings
 pub mod RightKept

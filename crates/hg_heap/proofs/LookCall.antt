@@ -21,7 +21,7 @@ use Rattle.hg_segment.specs.Blocks.{block_at}
 use Rattle.hg_agreement.specs.Seen.{refusal_in}
 use Rattle.hg_agreement.proofs.Reading.{look_is_tied}
 use Rattle.hg_heap.specs.Ties.{heap_view, shown_at, HeapTies}
-use Rattle.hg_heap.specs.Answers.{look_answer, list_denial}
+use Rattle.hg_heap.specs.Answers.{row_answer, list_denial}
 use Rattle.hg_heap.specs.Stays.{Looked}
 use Rattle.hg_heap.specs.Reading.{IsRowOf}
 use Rattle.hg_heap.proofs.Founds.{Found}
@@ -54,8 +54,8 @@ module _ {S : Type 0} (number : S → ℕ) (records : S → List Standing) (show
       ap (reason_by denial) (held_found number records items place found one here)
       ∙ ap (λ (d : Option Rule). reason_by d true) e
 
-  denied_tied : (rule : Rule) → denial ≡ Some rule → TiedSo (look_answer None denial)
-  denied_tied rule e = subst (λ (o : Option Rule). TiedSo (look_answer None o)) (sym e)
+  denied_tied : (rule : Rule) → denial ≡ Some rule → TiedSo (row_answer None denial)
+  denied_tied rule e = subst (λ (o : Option Rule). TiedSo (row_answer None o)) (sym e)
       (refused_ends number records shows steps items found word place one after here looked words
       policy (event.Look actor place) (answer.Denied rule) (λ w h g. refl)
       (reason (Some rule) e))
@@ -90,6 +90,6 @@ module _ {S : Type 0} (number : S → ℕ) (records : S → List Standing) (show
       → IfSome result (λ row. denial ≡ None)
       → IfSome result (λ row. IsRowOf place word
       (block_at after.words after.classes place.page place.index) row)
-      → TiedSo (look_answer result denial)
+      → TiedSo (row_answer result denial)
   look_tied None none allowed row = denied_tied none.0 none.1
   look_tied (Some r) none allowed row = row_tied r allowed row

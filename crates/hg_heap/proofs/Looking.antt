@@ -39,6 +39,14 @@ use Rattle.hg_heap.proofs.OpenBlocks.{block_is, live_open, generation_read}
 use Rattle.hg_place.specs.declared.Right.TheVariants as right
 use Rattle.hg_machine.specs.declared.Answer.TheVariants as answer
 
+-- why a row isn't shown is why the generation that the word shows may not be listed
+pub listed_as : (policy : Policy) (actor : Actor) (place : Place) (word generation : ℕ)
+    → generation ≡ max 1 (slot_in word).generation
+    → list_denial policy actor place word
+    ≡ denial_on policy actor.0 right.List place.segment generation (slot_in word)
+listed_as policy actor place word generation shown =
+    ap (λ (n : ℕ). denial_on policy actor.0 right.List place.segment n (slot_in word)) (sym shown)
+
 abbrev pub held_as : ℕ → List Standing → List (Option ℕ) → List ℕ → Holding
 held_as n rs cs ws = record { number = n; standings = rs; classes = cs; words = ws }
 
@@ -128,19 +136,6 @@ module _ {S : Type 0} (number : S → ℕ) (records : S → List Standing) (show
         (slot_of handle.place) ≡ block_at one.words one.classes handle.place.page handle.place.index
     block_here = block_is number records one handle.place.page handle.place.index
         handle.place.index_below open_one
-
-  -- why a row isn't shown is why the generation of the word may not be listed
-  pub listed_as : (fits : FitsLaw) (policy : Policy) (actor : Actor) (place : Place)
-      (word generation : ℕ) (one after : Kept S)
-      → Looked number records shows steps place word one after
-      → generation ≡ max 1 (word_generation word)
-      → list_denial policy actor place word ≡ denial_on policy actor.0 right.List place.segment
-      generation (slot_in word)
-  listed_as fits policy actor place word generation one after looked used =
-      let f = fits one.slots (slot_of place) word (slot_below place) looked.shown in
-      ap (λ (n : ℕ). denial_on policy actor.0 right.List place.segment n (slot_in word))
-      (ap (λ (n : ℕ). max 1 n) (generation_read (standing_at (records one.slots) (slot_of place))
-      word f.0 f.1) ∙ sym used)
 
   -- what a word says that no rule denies
   pub generation_shown : (fits : FitsLaw) (policy : Policy) (actor : ℕ) (which : Right)

@@ -21,7 +21,7 @@ use Rattle.hg_heap.specs.Table.{IsAt, IsTabled}
 use Rattle.hg_heap.specs.Queues.{AreQueued, key_on, key_by}
 use Rattle.hg_heap.specs.Releasing.{is_of_other, without_pages, without_by, without_segment}
 use Rattle.hg_heap.specs.Right.{IsRight}
-use Rattle.hg_heap.proofs.Blanks.{none_is}
+use Rattle.hg_heap.proofs.Options.{none_is}
 use Rattle.hg_heap.proofs.Filtered.{filters_kept, queue_of-filters, contained_filter}
 use Rattle.hg_heap.proofs.Filtered.{Contains-filter}
 use Rattle.hg_heap.proofs.Founds.{Found, found_is, found_held, held_beyond, Contains-get}

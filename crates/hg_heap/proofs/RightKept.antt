@@ -1,9 +1,8 @@
 -- A heap stays right where one segment is another of the same number, classes, lists and records.
-use Rattle.std.proofs.Common.{◌≡◌, ℕ, ◌+◌, ◌%◌, ◌==◌, ◌<◌, inl, inr, cond, ◌∷◌, []}
-use Rattle.std.proofs.Common.{List, map, get_or, Option, Some, None, refl, sym, ap, subst}
-use Rattle.std.proofs.Common.{◌∙◌, arith, find, slice_get, slice_set, ⊎_elim}
+use Rattle.std.proofs.Common.{◌≡◌, ℕ, ◌+◌, ◌%◌, ◌<◌}
+use Rattle.std.proofs.Common.{List, get_or, Option, Some, None, refl, sym, ap, subst}
+use Rattle.std.proofs.Common.{◌∙◌, arith, slice_get, slice_set, ⊎_elim}
 use Rattle.std.specs.Prelude.{option_map, sum_by}
-use Rattle.std.proofs.lemmas.Bool.{cases_Bool}
 use Rattle.std.proofs.lemmas.Option.{get_or_from_slice_get}
 use Rattle.std.proofs.lemmas.List.Sums.{sum_by-set}
 use Rattle.hg_place.specs.declared.standing.Standing.{Standing}
@@ -14,13 +13,14 @@ use Rattle.hg_page.specs.PageLists.{PageLists}
 use Rattle.hg_segment.specs.Kept.{Kept, no_lists, lists_at}
 use Rattle.hg_segment.specs.Kept.{class_at as class_in}
 use Rattle.hg_segment.specs.Charges.{charge_of}
-use Rattle.hg_heap.specs.Held.{Kind, kind_of, segment_in, lists_by, class_by}
-use Rattle.hg_heap.specs.Held.{class_on, has_place, KeepsLists}
+use Rattle.hg_heap.specs.Held.{Kind, kind_of, segment_in, lists_by}
+use Rattle.hg_heap.specs.Held.{has_place, KeepsLists}
 use Rattle.hg_heap.specs.Queues.{key_by, key_on, AreQueued}
 use Rattle.hg_heap.specs.Charges.{charge_in}
 use Rattle.hg_heap.specs.Settled.{IsSettled}
 use Rattle.hg_heap.specs.Right.{IsRight}
 use Rattle.hg_heap.proofs.Founds.{inside_of, Contains-get, contained_set, map_same, tabled_same}
+use Rattle.hg_heap.proofs.Founds.{pair, told_in}
 
 -- what the queues go by
 pub record Shape : Type 0 where
@@ -44,10 +44,6 @@ abbrev lists_told : Option Shape → ℕ → PageLists
 lists_told None page = no_lists
 lists_told (Some k) page = lists_at k.lists page
 
-abbrev class_told : Option Shape → ℕ → Option ℕ
-class_told None page = None
-class_told (Some k) page = class_in k.classes page
-
 abbrev key_told : Option Shape → ℕ → Option ℕ
 key_told None page = None
 key_told (Some k) page = option_map (λ size. key_of k.arena (number_of_size size))
@@ -66,28 +62,10 @@ module _ {S : Type 0} (number : S → ℕ) where
   abbrev shape_of : Kept S → Shape
   shape_of k = shape_with (kind_of number k) k.classes k.lists
 
-  shape_in : (heap : List (Kept S)) (segment : ℕ)
-      → option_map shape_of (segment_in number heap segment) ≡ find (λ k. k.number == segment)
-      (map shape_of heap)
-  shape_in [] segment = refl
-  shape_in (x ∷ xs) segment = elim (cases_Bool (number x.slots == segment))
-      as (λ _. option_map shape_of
-      (cond (number x.slots == segment) (Some x) (segment_in number xs segment)) ≡ cond
-      (number x.slots == segment) (Some (shape_of x))
-      (find (λ k. k.number == segment) (map shape_of xs))) [
-        | inl t ↦ rw t refl
-        | inr f ↦ rw f (shape_in xs segment)
-      ]
-
   lists_by_shape : (o : Option (Kept S)) (page : ℕ)
       → lists_by number o page ≡ lists_told (option_map shape_of o) page
   lists_by_shape None page = refl
   lists_by_shape (Some k) page = refl
-
-  class_by_shape : (o : Option (Kept S)) (page : ℕ)
-      → class_by number o page ≡ class_told (option_map shape_of o) page
-  class_by_shape None page = refl
-  class_by_shape (Some k) page = refl
 
   key_by_shape : (o : Option (Kept S)) (page : ℕ)
       → key_by number o page ≡ key_told (option_map shape_of o) page
@@ -108,21 +86,16 @@ module _ {S : Type 0} (number : S → ℕ) where
 
     told_same : (segment : ℕ) → option_map shape_of
         (segment_in number new segment) ≡ option_map shape_of (segment_in number heap segment)
-    told_same segment = shape_in new segment
-        ∙ ap (λ ks. find (λ k. k.number == segment) ks)
-        (map_same shape_of heap found one after at shape_kept)
-        ∙ sym (shape_in heap segment)
+    told_same =
+        told_in number shape_of heap new
+        (map_same (pair number shape_of) heap found one after at
+        (ap (λ (s : Shape). (s.number, s)) shape_kept))
 
     -- the lists, the class and the key of each page are as they were
     pub lists_kept : KeepsLists number heap new
     lists_kept page = lists_by_shape (segment_in number new (segment_of_page page)) (page % 16)
         ∙ ap (λ o. lists_told o (page % 16)) (told_same (segment_of_page page))
         ∙ sym (lists_by_shape (segment_in number heap (segment_of_page page)) (page % 16))
-
-    pub class_kept : (page : ℕ) → class_on number new page ≡ class_on number heap page
-    class_kept page = class_by_shape (segment_in number new (segment_of_page page)) (page % 16)
-        ∙ ap (λ o. class_told o (page % 16)) (told_same (segment_of_page page))
-        ∙ sym (class_by_shape (segment_in number heap (segment_of_page page)) (page % 16))
 
     pub key_kept : (page : ℕ) → key_on number new page ≡ key_on number heap page
     key_kept page = key_by_shape (segment_in number new (segment_of_page page)) (page % 16)

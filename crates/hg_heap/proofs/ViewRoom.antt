@@ -17,9 +17,10 @@ use Rattle.hg_segment.specs.Kept.{Kept, slot, class_at}
 use Rattle.hg_segment.specs.Right.{is_vacant}
 use Rattle.hg_agreement.specs.Holdings.{Holding, holding_of, class_told, standing_told, has}
 use Rattle.hg_agreement.specs.Seen.{is_open_to_in}
-use Rattle.hg_heap.specs.Held.{is_of, segment_in}
+use Rattle.hg_heap.specs.Held.{is_of, is_held, segment_in}
 use Rattle.hg_heap.specs.Policies.{AreOf}
 use Rattle.hg_heap.specs.Ties.{holding, heap_view}
+use Rattle.hg_heap.proofs.Options.{is_some_map}
 
 module _ {S : Type 0} (number : S → ℕ) (records : S → List Standing) where
   -- the holding of a number is that of the segment
@@ -34,6 +35,13 @@ module _ {S : Type 0} (number : S → ℕ) (records : S → List Standing) where
         | inl t ↦ rw t refl
         | inr f ↦ rw f (holding_in xs segment)
       ]
+
+  -- and the view holds what the heap holds
+  pub view_holds : (segments : List (Kept S)) (segment : ℕ)
+      → has (map (holding number records) segments) segment ≡ is_held number segments segment
+  view_holds segments segment =
+      ap is_some (holding_in segments segment)
+      ∙ is_some_map (holding number records) (segment_in number segments segment)
 
   -- a segment that is found is one of them, and has the number
   pub found_one : (segments : List (Kept S)) (segment : ℕ) (k : Kept S)

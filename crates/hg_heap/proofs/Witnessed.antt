@@ -1,10 +1,10 @@
 -- A heap's segments are such as the witness state wants, so that it agrees.
 use Rattle.std.proofs.Common.{◌≡◌, ℕ, ◌%◌, ◌<◌, ◌≤◌, inl, inr, true, List, map, length}
-use Rattle.std.proofs.Common.{Option, Some, None, option_map, is_some, refl, sym, ap, subst, ◌∙◌}
+use Rattle.std.proofs.Common.{Option, Some, None, option_map, is_some, sym, ap, subst, ◌∙◌}
 use Rattle.std.proofs.Common.{arith}
 use Rattle.std.proofs.lemmas.Bool.{cases_lt, true≢false}
 use Rattle.std.proofs.lemmas.List.{get_or_past}
-use Rattle.std.proofs.lemmas.Option.{slice_get_within, same_Some, none-some}
+use Rattle.std.proofs.lemmas.Option.{slice_get_within}
 use Rattle.hg_place.specs.declared.Place.{Place}
 use Rattle.hg_place.specs.declared.geometry.TheConstants.{SEGMENT_PLACES}
 use Rattle.hg_place.specs.declared.standing.Standing.{Standing}
@@ -27,23 +27,14 @@ use Rattle.hg_heap.specs.Held.{segment_in, is_held}
 use Rattle.hg_heap.specs.Ties.{holding, heap_view}
 use Rattle.hg_heap.specs.Witnessed.{SettledAreRight, IsOwner, NoTieIsEmpty}
 use Rattle.hg_heap.proofs.Founds.{at_is}
-use Rattle.hg_heap.proofs.ViewRoom.{holding_in, found_one}
+use Rattle.hg_heap.proofs.ViewRoom.{holding_in, view_holds, found_one}
+use Rattle.hg_heap.proofs.Options.{of_map}
 
 home_is_sane : IsSane (Home 0)
 home_is_sane = record {
   given_out = λ e. absurd (true≢false e);
   owner = λ e. absurd (true≢false e);
 }
-
--- what there is of a list's image is the image of something
-of_map : {A B : Type 0} (f : A → B) (o : Option A) (b : B) → option_map f o ≡ Some b
-    → (a : A) × (o ≡ Some a) × (f a ≡ b)
-of_map f None b e = absurd (none-some b e)
-of_map f (Some a) b e = (a, refl, same_Some (f a) b e)
-
-is_some_map : {A B : Type 0} (f : A → B) (o : Option A) → is_some (option_map f o) ≡ is_some o
-is_some_map f None = refl
-is_some_map f (Some a) = refl
 
 module _ {S : Type 0} (number : S → ℕ) (records : S → List Standing) (shows : S → ℕ → ℕ → Type 0)
     (sized : (s : S) → length (records s) ≡ SEGMENT_PLACES)
@@ -77,9 +68,7 @@ module _ {S : Type 0} (number : S → ℕ) (records : S → List Standing) (show
     view = heap_view number records policy worker hand generation segments
 
     holds_is : (segment : ℕ) → view.holds segment ≡ is_held number segments segment
-    holds_is segment =
-        ap is_some (holding_in number records segments segment)
-        ∙ is_some_map (holding number records) (segment_in number segments segment)
+    holds_is = view_holds number records segments
 
     are_right : (segment : ℕ) (h : Holding)
         → holding_of (map (holding number records) segments) segment ≡ Some h

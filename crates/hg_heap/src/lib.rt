@@ -4,6 +4,7 @@
 
 mod adopting;
 mod allocating;
+mod answers;
 mod collecting;
 mod freeing;
 mod heap;
@@ -16,5 +17,9 @@ mod releasing;
 mod requeue;
 mod taking;
 
+pub use answers::{
+    alloc_answer, denied_or_elsewhere, done_answer, look_answer, read_answer, refused_answer,
+    unlisted,
+};
 pub use heap::Heap;
 pub use refused::Refused;

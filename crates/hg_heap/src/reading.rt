@@ -1,10 +1,10 @@
 //! Words and rows of blocks, by a step that looks at the place.
 
-ghost use Rattle.std.specs.Prelude.{◌≡◌, ◌≢◌, ◌<◌, ℕ, true, false, None, Some, Err, max, length};
+ghost use Rattle.std.specs.Prelude.{◌≡◌, ◌≢◌, ◌<◌, ℕ, true, false, None, Some, Err, length};
 ghost use Rattle.std.specs.Prelude.{slice_index, slice_set, IfSome, IfNone, OnOk, OnErr};
 ghost use Rattle.hg_place.specs.declared.geometry.TheConstants.{SEGMENT_PAGES, PAGE_PLACES};
 ghost use Rattle.hg_place.specs.declared.Right.TheVariants as Right;
-ghost use Rattle.hg_place.specs.Lives.{word_generation, IsLiveWord};
+ghost use Rattle.hg_place.specs.Lives.{IsLiveWord};
 ghost use Rattle.hg_place.specs.Standings.{standing_at, is_home};
 ghost use Rattle.hg_segment.specs.Kept.{slot, class_at};
 ghost use Rattle.hg_segment.specs.Blocks.{block_at, KeepsOtherBlocks};
@@ -13,16 +13,17 @@ ghost use Rattle.hg_machine.specs.declared.Rule.{Rule};
 ghost use Rattle.hg_heap.specs.declared.refused.Refused.TheVariants.{Elsewhere};
 ghost use Rattle.hg_heap.specs.Held.{is_held, KeepsLists};
 ghost use Rattle.hg_heap.specs.Ties.{HeapTies, Stepped, shown_at};
-ghost use Rattle.hg_heap.specs.Answers.{read_answer, done_answer, look_answer, list_denial};
+ghost use Rattle.hg_heap.specs.Answers.{read_answer, done_answer, row_answer, list_denial};
 ghost use Rattle.hg_heap.specs.Stays.{Looked};
 ghost use Rattle.hg_heap.specs.Reading.{use_denial, reached, block_in, IsRowOf};
 ghost use Rattle.hg_heap.specs.Judged.{IsJudged, rule_in};
 ghost use Rattle.hg_heap.specs.Keeping.{KeepsAll, Wrote};
 
+use crate::answers::listed_generation;
 use crate::{Heap, Refused};
 use hg_decision::{Verdict, judge};
 use hg_machine::Row;
-use hg_place::{Actor, Handle, Place, Right, SlotWords, WORD_BYTES, word_generation, word_owner};
+use hg_place::{Actor, Handle, Place, Right, SlotWords, WORD_BYTES, word_owner};
 use hg_policy::Policy;
 use hg_segment::Segment;
 use hg_size::block_words;
@@ -121,7 +122,7 @@ impl<S: SlotWords> Heap<S> {
             self.old.segments self.new.segments }
         ensures ties { HeapTies S.number S.records policy.now (shown_at place shown.new)
             (shown_at place shown.new) (Event.Look actor place)
-            (look_answer result (list_denial policy.now actor place shown.new))
+            (row_answer result (list_denial policy.now actor place shown.new))
             self.old.segments self.new.segments }
         ensures lists { KeepsLists S.number self.old.segments self.new.segments }
         ensures queues { self.new.queues ≡ self.old.queues }
@@ -225,7 +226,7 @@ fn row_of<S: SlotWords>(
     *shown = word;
     let handle = Handle {
         place,
-        generation: used_generation(word),
+        generation: listed_generation(word),
     };
     if let Verdict::Denied(_) = judge(policy, actor, Right::List, handle, word) {
         return None;
@@ -235,13 +236,6 @@ fn row_of<S: SlotWords>(
         owner: word_owner(word),
         bytes: WORD_BYTES as u32 * u32::from(size_of(segment, place.page, place.index)),
     })
-}
-
-/// The generation of a word, 1 where the place was never given out.
-fn used_generation(word: u64) -> u32
-    ensures { result ≡ max 1 (word_generation word) }
-{
-    word_generation(word).max(1)
 }
 
 /// How many words the block at an open place has.

@@ -1,6 +1,6 @@
 -- Allocations, and pages that lose their class.
-use Rattle.std.proofs.Common.{◌≡◌, ℕ, ◌-◌, ◌==◌, ◌<◌, ◌≤◌, Bool, true, false, cond, List, []}
-use Rattle.std.proofs.Common.{◌∷◌, ◌++◌, map, Some, None, refl, sym, ap, subst, ◌∙◌, arith}
+use Rattle.std.proofs.Common.{◌≡◌, ℕ, ◌-◌, ◌<◌, ◌≤◌, List, []}
+use Rattle.std.proofs.Common.{◌++◌, map, Some, None, refl, sym, ap, subst, ◌∙◌, arith}
 use Rattle.std.specs.Prelude.{Option, option_map, MatchOption, IfSome}
 use Rattle.std.proofs.lemmas.List.{append-nil}
 use Rattle.hg_place.specs.declared.Handle.{Handle}
@@ -18,6 +18,8 @@ use Rattle.hg_heap.specs.Idle.{bare}
 use Rattle.hg_heap.specs.Policies.{AreOf}
 use Rattle.hg_heap.proofs.Founds.{Contains-get}
 use Rattle.hg_heap.proofs.Looking.{slot_below}
+use Rattle.hg_heap.proofs.Founds.{told_in}
+use Rattle.std.proofs.lemmas.Simd.{map-map}
 use Rattle.hg_table.specs.declared.segment.UnnamedSegment.{UnnamedSegment}
 use Rattle.hg_table.specs.Fitting.{fitting}
 use Rattle.hg_table.specs.Seats.{ended_after}
@@ -86,27 +88,12 @@ module _ (policy : Policy) (size owner : ℕ) (handle : Handle)
             ∙ of.arena st.before (Contains-get old st.found st.before st.at),
       )
 
-module _ {S X : Type 0} (number : S → ℕ) (part : S → X) where
-  mapped : (b : Bool) (k : Kept S) (o : Option (Kept S))
-      → option_map (λ (j : Kept S). part j.slots) (cond b (Some k) o)
-      ≡ cond b (Some (part k.slots)) (option_map (λ (j : Kept S). part j.slots) o)
-  mapped true k o = refl
-  mapped false k o = refl
-
-  -- segments that differ in classes and lists alone have the same slot words
-  pub slots_in : (xs ys : List (Kept S)) → map bare ys ≡ map bare xs → (segment : ℕ)
-      → option_map (λ (j : Kept S). part j.slots) (segment_in number ys segment)
-      ≡ option_map (λ (j : Kept S). part j.slots) (segment_in number xs segment)
-  slots_in [] [] e segment = refl
-  slots_in [] (y ∷ ys) e segment = absurd (cc)
-  slots_in (x ∷ xs) [] e segment = absurd (cc)
-  slots_in (x ∷ xs) (y ∷ ys) e segment =
-      let heads : bare y ≡ bare x = cc in
-      let tails : map bare ys ≡ map bare xs = cc in
-      let slots : y.slots ≡ x.slots = ap (λ (k : Kept S). k.slots) heads in
-      mapped (number y.slots == segment) y (segment_in number ys segment)
-      ∙ ap (λ (s : S). cond (number s == segment) (Some (part s))
-      (option_map (λ (j : Kept S). part j.slots) (segment_in number ys segment))) slots
-      ∙ ap (λ (o : Option X). cond (number x.slots == segment) (Some (part x.slots)) o)
-      (slots_in xs ys tails segment)
-      ∙ sym (mapped (number x.slots == segment) x (segment_in number xs segment))
+-- segments that differ in classes and lists alone have the same slot words
+pub slots_in : {S X : Type 0} (number : S → ℕ) (part : S → X) (xs ys : List (Kept S))
+    → map bare ys ≡ map bare xs → (segment : ℕ)
+    → option_map (λ (j : Kept S). part j.slots) (segment_in number ys segment)
+    ≡ option_map (λ (j : Kept S). part j.slots) (segment_in number xs segment)
+slots_in {S} {X} number part xs ys e =
+    let told : Kept S → ℕ × X = λ k. (number k.slots, part k.slots) in
+    told_in number (λ k. part k.slots) xs ys
+    (sym (map-map told bare ys) ∙ ap (map told) e ∙ map-map told bare xs)

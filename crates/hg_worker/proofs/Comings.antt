@@ -11,6 +11,7 @@ use Rattle.hg_place.specs.declared.Handle.{Handle}
 use Rattle.hg_place.specs.declared.standing.Standing.{Standing}
 use Rattle.hg_segment.specs.Kept.{Kept}
 use Rattle.hg_heap.specs.Held.{is_held, segment_in}
+use Rattle.hg_heap.proofs.Options.{none_is}
 use Rattle.hg_table.specs.declared.view.Part.{Part}
 use Rattle.hg_table.specs.Seats.{HaveMet}
 use Rattle.hg_table.specs.Told.{IsShown}
@@ -21,7 +22,6 @@ use Rattle.hg_worker.specs.Hands.{SawEnd, KnowsHand}
 use Rattle.hg_worker.specs.Met.{ComesTo}
 use Rattle.hg_worker.specs.Seen.{word_of, EndsNothing}
 use Rattle.hg_worker.proofs.Hands.{SawMore, the_same, some_left, knows_still, knows_more}
-use Rattle.hg_worker.proofs.Steps.{none_in}
 
 -- who meets one that has seen the end of a life has seen it too
 saw_met : (handle : Handle) (word : ℕ) (old new theirs : Part) → SawEnd handle theirs
@@ -114,13 +114,6 @@ module _ {S : Type 0} (number : S → ℕ) (records : S → List Standing) (part
         u f)
   ]
 
-  -- nothing has happened
-  pub lives_stay : (old : Had S) → EndsNothing number part old old
-  lives_stay old = record {
-    own = refl;
-    segments = λ segment a b e f. ap (λ (p : Part). p.ended) (same_Some b a (sym f ∙ e));
-  }
-
   -- a segment has come
   pub lives_come : (old new : Had S) (one : Kept S) → new.own.ended ≡ old.own.ended
       → new.heap.segments ≡ old.heap.segments ++ one ∷ [] → EndsNothing number part old new
@@ -146,7 +139,7 @@ module _ {S : Type 0} (number : S → ℕ) (records : S → List Standing) (part
           absurd (none-some b
           (sym (ap (option_map (λ (k : Kept S). part k.slots))
           (ap (segment_in number new.heap.segments) same
-          ∙ none_in (segment_in number new.heap.segments segment) gone)) ∙ f))
+          ∙ none_is (segment_in number new.heap.segments segment) gone)) ∙ f))
       | inr ne ↦
           ap (λ (p : Part). p.ended)
           (same_Some b a

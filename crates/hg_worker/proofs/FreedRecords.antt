@@ -31,8 +31,9 @@ use Rattle.hg_heap.specs.Ties.{holding, heap_view, shown_at, HeapTies, Stepped}
 use Rattle.hg_heap.specs.Witnessed.{IsOwner}
 use Rattle.hg_heap.proofs.Founds.{at_is, numbers, segment_contained}
 use Rattle.hg_heap.proofs.Looking.{slot_below}
-use Rattle.hg_heap.proofs.ViewRoom.{holding_in}
+use Rattle.hg_heap.proofs.ViewRoom.{holding_in, view_holds}
 use Rattle.hg_heap.proofs.Witnessed.{no_tie_is_empty}
+use Rattle.hg_heap.proofs.Options.{is_some_map}
 use Rattle.hg_machine.specs.SoundPolicy.{IsSoundPolicy}
 use Rattle.hg_table.specs.declared.segment.UnnamedSegment.{UnnamedSegment}
 use Rattle.hg_table.specs.Fitting.{fitting}
@@ -72,10 +73,6 @@ there_as : (q : Option Standing) (s : Standing) → is_some q ≡ true → or_ho
 there_as None s e f = absurd (cc)
 there_as (Some t) s e f = ap Some f
 
-some_mapped : {X Y : Type 0} (f : X → Y) (o : Option X) → is_some (option_map f o) ≡ is_some o
-some_mapped f None = refl
-some_mapped f (Some x) = refl
-
 -- the record that a live word fits
 open_by : (standing : Standing) (word : ℕ) → Fits standing word → word % 2 ≡ 1
     → standing ≡ Open (word_generation word) (word_owner word)
@@ -102,17 +99,11 @@ module _ {S : Type 0} (number : S → ℕ) (records : S → List Standing) where
       ap (λ h. standing_told h (place % 8192)) (holding_in number records segments (segment_of place))
       ∙ told (segment_in number segments (segment_of place)) (place % 8192)
 
-  holds_is : (policy : Policy) (worker : ℕ) (segments : List (Kept S)) (segment : ℕ)
-      → (seen policy worker segments).holds segment ≡ is_held number segments segment
-  holds_is policy worker segments segment =
-      ap is_some (holding_in number records segments segment)
-      ∙ some_mapped (holding number records) (segment_in number segments segment)
-
   recorded : (segments : List (Kept S)) (place : ℕ)
       → is_some (record_in number records segments place)
       ≡ is_held number segments (segment_of place)
   recorded segments place =
-      some_mapped (λ (k : Kept S). standing_at (records k.slots) (place % 8192))
+      is_some_map (λ (k : Kept S). standing_at (records k.slots) (place % 8192))
       (segment_in number segments (segment_of place))
 
   -- of a state before, in which the place of a number went home, and one after
@@ -121,13 +112,13 @@ module _ {S : Type 0} (number : S → ℕ) (records : S → List Standing) where
       (after : Agrees (with_life m p home) (seen policy worker new) left) where
     held_same : (segment : ℕ) → is_held number new segment ≡ is_held number old segment
     held_same segment =
-        sym (holds_is policy worker new segment) ∙ sym (after.holding segment)
-        ∙ before.holding segment ∙ holds_is policy worker old segment
+        sym (view_holds number records new segment) ∙ sym (after.holding segment)
+        ∙ before.holding segment ∙ view_holds number records old segment
 
     was_standing : (place : ℕ) → is_held number old (segment_of place) ≡ true
         → standing_of (record_at m place) ≡ or_home (record_in number records old place)
     was_standing place held =
-        before.standings place (holds_is policy worker old (segment_of place) ∙ held)
+        before.standings place (view_holds number records old (segment_of place) ∙ held)
         ∙ standing_is policy worker old place
 
     now_standing : (place : ℕ) → is_held number old (segment_of place) ≡ true
@@ -135,7 +126,7 @@ module _ {S : Type 0} (number : S → ℕ) (records : S → List Standing) where
         ≡ or_home (record_in number records new place)
     now_standing place held =
         after.standings place
-        (holds_is policy worker new (segment_of place) ∙ held_same (segment_of place) ∙ held)
+        (view_holds number records new (segment_of place) ∙ held_same (segment_of place) ∙ held)
         ∙ standing_is policy worker new place
 
     others_stay : (place : ℕ) → place ≢ p

@@ -136,14 +136,6 @@ module _ {S : Type 0} (number : S → ℕ) (part : S → Part) where
   own_saw more seen knows =
       knows_still (record { more = more; seen = seen }) (some_left (λ k there. there)) knows
 
-  -- an empty hand holds nothing to know
-  pub knows_nothing : {own : Part} {segments : List (Kept S)}
-      → KnowsHand number part None own segments
-  knows_nothing = record {
-    by_own = λ handle e. absurd (none-some handle e);
-    by_held = λ handle k e c is. absurd (none-some handle e);
-  }
-
   -- one after the other
   pub grown_on : {one two three : List (Kept S)} → Grown one two → Grown two three
       → Grown one three

@@ -13,11 +13,11 @@ use Rattle.hg_machine.specs.declared.Rule.{Rule}
 use Rattle.hg_agreement.specs.Views.{Shown, slot_shown}
 use Rattle.hg_heap.specs.declared.refused.Refused.{Refused}
 use Rattle.hg_heap.specs.declared.refused.Refused.TheVariants as refused
-use Rattle.hg_heap.specs.Answers.{refused_answer, read_answer, done_answer}
+use Rattle.hg_heap.specs.Answers.{refused_answer, read_answer, done_answer, away_answer}
 use Rattle.hg_heap.specs.Judged.{IsJudged, refused_rule, rule_in}
 use Rattle.hg_heap.specs.Reading.{use_denial}
 use Rattle.hg_table.specs.declared.view.Part.{Part}
-use Rattle.hg_worker.specs.Answers.{away_answer, is_done}
+use Rattle.hg_worker.specs.Answers.{is_done}
 use Rattle.hg_worker.specs.Had.{Had}
 use Rattle.hg_worker.specs.Judged.{found_word, rule_of}
 use Rattle.hg_worker.specs.Seen.{Looked}

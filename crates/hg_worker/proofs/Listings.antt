@@ -22,6 +22,7 @@ use Rattle.hg_agreement.specs.Views.{Shown}
 use Rattle.hg_heap.specs.Held.{is_held, segment_in}
 use Rattle.hg_heap.specs.Keeping.{KeepsAll}
 use Rattle.hg_heap.specs.Ties.{HeapTies, shown_at}
+use Rattle.hg_heap.proofs.Options.{none_is}
 use Rattle.hg_table.specs.declared.view.Part.{Part}
 use Rattle.hg_worker.specs.Answers.{rows_in}
 use Rattle.hg_worker.specs.Had.{Had}
@@ -29,7 +30,6 @@ use Rattle.hg_worker.specs.Listing.{is_open_by, is_open, open_among, places_belo
 use Rattle.hg_worker.specs.Listing.{IsLook, AreLooks}
 use Rattle.hg_worker.specs.Seen.{Looked, StepsWithin}
 use Rattle.hg_worker.specs.Tied.{IsTied}
-use Rattle.hg_worker.proofs.Steps.{none_in}
 use Rattle.hg_worker.proofs.WorkerLaws.{one_word_is_left}
 
 range_then : (a m n : ℕ)
@@ -108,7 +108,7 @@ module _ {S : Type 0} (number : S → ℕ) (records : S → List Standing) where
       ap (λ s. is_open_by number records (segment_in number segments s) (k % 8192))
       (in_segment segment k from below)
       ∙ ap (λ o. is_open_by number records o (k % 8192))
-      (none_in (segment_in number segments segment) away)))
+      (none_is (segment_in number segments segment) away)))
 
   -- the places of no segment, of one more, and so far of one
   pub below_none : (segments : List (Kept S))

@@ -1,11 +1,10 @@
 -- Segments that come to a worker from a pool, and leave it for one.
-use Rattle.std.proofs.Common.{◌≡◌, ◌⊎◌, ℕ, ◌<◌, ◌++◌, Bool, cond, not, List, []}
-use Rattle.std.proofs.Common.{◌∷◌, length, filter, find, get_or, Some, None, sym, ap, subst}
+use Rattle.std.proofs.Common.{◌≡◌, ◌⊎◌, ℕ, ◌<◌, ◌++◌, Bool, not, List, []}
+use Rattle.std.proofs.Common.{◌∷◌, length, find, get_or, Some, None, sym, ap, subst, is_some, true}
 use Rattle.std.proofs.Common.{◌∙◌, arith, inl, inr, ⊎_elim}
 use Rattle.std.specs.Prelude.{Option, Contains, IfSome, IfNone, MatchOption}
 use Rattle.std.specs.List.{position_or_len}
 use Rattle.std.specs.Option.{option_or}
-use Rattle.std.proofs.lemmas.Bool.{cases_Bool}
 use Rattle.std.proofs.lemmas.List.Elements.{Contains-append_left, Contains-append_right}
 use Rattle.std.proofs.lemmas.List.Elements.{Contains-append_cases, filter-append}
 use Rattle.std.proofs.lemmas.List.Folds.{find_at}
@@ -17,6 +16,7 @@ use Rattle.hg_machine.specs.SoundPolicy.{IsSoundPolicy}
 use Rattle.hg_segment.specs.Kept.{Kept}
 use Rattle.hg_heap.specs.Policies.{AreOf, IsOf}
 use Rattle.hg_heap.proofs.Founds.{Contains-get}
+use Rattle.hg_heap.proofs.Filtered.{contained_filter}
 use Rattle.hg_pool.specs.Pooled.{Pooled, next_in, is_of_arena, is_numbered, without_segment}
 use Rattle.hg_pool.specs.Pooled.{without_number}
 
@@ -25,27 +25,10 @@ pub either_option : {X G : Type 0} (o : Option X) (P : X → Type 0) (Q : Type 0
 either_option None P Q has lacks f h = h lacks
 either_option (Some x) P Q has lacks f h = f x has
 
-pub by_some : {X : Type 0} (o : Option X) (P : Type 0) (Q : X → Type 0) (x : X) → o ≡ Some x → Q x
-    → MatchOption o P Q
-by_some None P Q x e q = absurd (cc)
-by_some (Some y) P Q x e q = let is : y ≡ x = cc in subst Q (sym is) q
-
--- what a filter has is there without it
-pub contained_in : {X : Type 0} (p : X → Bool) (xs : List X) (k : X) → Contains (filter p xs) k
-    → Contains xs k
-contained_in p [] k c = c
-contained_in {X} p (x ∷ xs) k c = elim (cases_Bool (p x)) [
-  | inl t ↦
-      ⊎_elim (λ (l : Contains (x ∷ []) k). Contains-append_left (x ∷ []) xs k l)
-      (λ (r : Contains (filter p xs) k).
-      Contains-append_right (x ∷ []) xs k (contained_in p xs k r))
-      (Contains-append_cases (x ∷ []) (filter p xs) k
-      (subst (λ (b : Bool). Contains (cond b (x ∷ filter p xs) (filter p xs)) k) t c))
-  | inr f ↦
-      Contains-append_right (x ∷ []) xs k
-      (contained_in p xs k
-      (subst (λ (b : Bool). Contains (cond b (x ∷ filter p xs) (filter p xs)) k) f c))
-]
+pub by_some : {X : Type 0} (o : Option X) (P : Type 0) (Q : X → Type 0) → is_some o ≡ true
+    → ((x : X) → Q x) → MatchOption o P Q
+by_some None P Q there q = absurd (cc)
+by_some (Some x) P Q there q = q x
 
 pub only : {X : Type 0} (x k : X) → Contains (x ∷ []) k → x ≡ k
 only x k c =
@@ -155,9 +138,9 @@ module _ {S : Type 0} (number : S → ℕ) where
       → Contains (pool.orphans ++ pool.fresh) k
   without_there pool segment k c =
       let p : Kept S → Bool = λ one. not (is_numbered number segment one) in
-      contained_in p (pool.orphans ++ pool.fresh) k
+      (contained_filter p k (pool.orphans ++ pool.fresh)
       (subst (λ (l : List (Kept S)). Contains l k)
-      (sym (filter-append p pool.orphans pool.fresh)) c)
+      (sym (filter-append p pool.orphans pool.fresh)) c)).1
 
   pub pool_without : (policy : Policy) (pool : Pooled S) (segment : ℕ)
       → AreOf number policy (pool.orphans ++ pool.fresh)

@@ -22,13 +22,13 @@ use Rattle.hg_heap.specs.Held.{is_of, is_held, segment_in}
 use Rattle.hg_heap.specs.Homecoming.{HaveComeHome}
 use Rattle.hg_heap.specs.Idle.{bare}
 use Rattle.hg_heap.specs.Keeping.{Rest, rest_of, KeepsAll, Wrote}
-use Rattle.hg_heap.proofs.Founds.{map_same, numbers}
+use Rattle.hg_heap.proofs.Founds.{map_same, numbers, pair, told_in}
+use Rattle.hg_heap.proofs.Options.{is_some_map}
+use Rattle.hg_heap.proofs.Options.{none_is}
 use Rattle.hg_table.specs.declared.view.Part.{Part}
 use Rattle.hg_worker.specs.Records.{record_in, GoHome, IsHomeAlone}
 use Rattle.hg_worker.proofs.Allocs.{slots_in}
-use Rattle.hg_worker.proofs.Away.{some_mapped}
-use Rattle.hg_worker.proofs.Steps.{none_in, seat_shows, seat_steps, before_in, after_in, others_in}
-use Rattle.hg_worker.proofs.Takings.{pair, told_in}
+use Rattle.hg_worker.proofs.Steps.{seat_shows, seat_steps, before_in, after_in, others_in}
 
 -- a place that is recorded alike isn't home where it was open
 stays : {before after : Standing} (o q : Option Standing) → q ≡ o → o ≡ Some before
@@ -72,13 +72,13 @@ module _ {S : Type 0} (number : S → ℕ) (records : S → List Standing) where
   all_held old new kept segment =
       let told : Kept S → ℕ = λ k. k.arena in
       let pick : Rest → ℕ × ℕ = λ r. (r.number, r.arena) in
-      sym (some_mapped told (segment_in number new segment))
+      sym (is_some_map told (segment_in number new segment))
       ∙ ap is_some
       (told_in number told old new
       (sym (map-map pick (rest_of number records) new) ∙ ap (map pick) kept
       ∙ map-map pick (rest_of number records) old)
       segment)
-      ∙ some_mapped told (segment_in number old segment)
+      ∙ is_some_map told (segment_in number old segment)
 
   -- where classes and lists alone change
   pub bare_goes : (old new : List (Kept S)) → map bare new ≡ map bare old
@@ -142,7 +142,7 @@ module _ {S : Type 0} (number : S → ℕ) (records : S → List Standing) where
         | inl is ↦
             none-some after
             (sym (ap (record_by place)
-            (ap (segment_in number new) is ∙ none_in (segment_in number new segment) gone)) ∙ now)
+            (ap (segment_in number new) is ∙ none_is (segment_in number new segment) gone)) ∙ now)
         | inr other ↦
             stays (record_in number records old place) (record_in number records new place)
             (ap (record_by place) (others (segment_of place) other)) was opened now home

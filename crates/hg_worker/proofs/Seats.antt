@@ -21,7 +21,8 @@ use Rattle.hg_heap.specs.Policies.{AreOf}
 use Rattle.hg_heap.specs.Ties.{Stepped, holding, shown_at}
 use Rattle.hg_heap.proofs.Founds.{numbers, at_is}
 use Rattle.hg_heap.proofs.Looking.{slot_below}
-use Rattle.hg_heap.proofs.ViewRoom.{holding_in, found_one}
+use Rattle.hg_heap.proofs.ViewRoom.{view_holds, holding_in, found_one}
+use Rattle.hg_heap.proofs.Options.{some_of}
 use Rattle.hg_table.specs.declared.segment.UnnamedSegment.{UnnamedSegment}
 use Rattle.hg_table.specs.Fitting.{fitting}
 use Rattle.hg_table.specs.Seats.{word_at}
@@ -32,16 +33,12 @@ use Rattle.hg_worker.specs.Seats.{number_in, records_in, part_of_seat}
 use Rattle.hg_worker.specs.Seats.{seat_shows, seat_steps}
 use Rattle.hg_worker.specs.Seen.{word_of, part_by, part_for, Decided, Looked, MayShow}
 use Rattle.hg_worker.specs.Tied.{IsTied, KeepsRest}
-use Rattle.hg_worker.proofs.Away.{holds_in, same_view}
+use Rattle.hg_worker.proofs.Away.{same_view}
 use Rattle.hg_worker.proofs.Hands.{past_hand, saw_for}
 use Rattle.hg_worker.proofs.Witnessed.{IsWhole, usual_agrees}
 use Rattle.hg_worker.specs.Hands.{KnowsHand}
 use Rattle.hg_worker.proofs.Steps.{held_decides, looked_ends}
 use Rattle.hg_worker.proofs.Tables.{stepped_as}
-
-pub some_arena : (o : Option ℕ) → is_some o ≡ true → (arena : ℕ) × (o ≡ Some arena)
-some_arena None e = absurd (cc)
-some_arena (Some arena) e = (arena, refl)
 
 -- what a worker keeps
 abbrev pub Whole : Had UnnamedSegment → Type 0
@@ -90,7 +87,7 @@ found_by had place word arena knows is shown = record {
       let o = segment_in number_in had.heap.segments place.segment in
       let some : is_some o ≡ true =
       sym (ap (view_in number_in records_in had).holds (segment_is place)
-      ∙ holds_in number_in records_in had place.segment) ∙ held in
+      ∙ view_holds number_in records_in had.heap.segments place.segment) ∙ held in
       let fits = word_fits had place word o refl some shown in
       let told : standing_told
       (holding_of (map (holding number_in records_in) had.heap.segments)
@@ -165,7 +162,7 @@ machines_any old new None event answer left whole may ties =
 machines_any old new (Some s) event answer left whole may ties = record {
   ties = ties;
   witness = λ usual.
-      let arena = some_arena (arena_of old.policy may.0.segment) may.1 in
+      let arena = some_of (arena_of old.policy may.0.segment) may.1 in
       agrees old (Some s) whole
       (subst (λ n. IsFoundBy (view_in number_in records_in old)
       (record { place = n; word = s.word })) (sym may.2)

@@ -1,6 +1,6 @@
 -- What a step of one seat is to the worker that has it.
-use Rattle.std.proofs.Common.{◌≡◌, ◌≢◌, ◌≤◌, ℕ, false, List, [], ◌∷◌, ◌++◌, map, length, Some, None}
-use Rattle.std.proofs.Common.{is_some, slice_set, refl, sym, ap, subst, ◌∙◌, ⊎_elim, arith}
+use Rattle.std.proofs.Common.{◌≡◌, ◌≢◌, ◌≤◌, ℕ, false, List, [], ◌∷◌, ◌++◌, map, length, Some}
+use Rattle.std.proofs.Common.{slice_set, sym, ap, subst, ◌∙◌, ⊎_elim, arith}
 use Rattle.std.specs.Prelude.{Option, option_map, Result, Ok, Err, OnOk, IfOk, IfErr}
 use Rattle.std.proofs.lemmas.List.{append-nil}
 use Rattle.std.proofs.lemmas.Bool.{true≢false}
@@ -17,6 +17,7 @@ use Rattle.hg_heap.specs.Ties.{Stepped}
 use Rattle.hg_heap.proofs.Founds.{numbers, Found, found_is, found_after}
 use Rattle.hg_heap.proofs.Gone.{found_there}
 use Rattle.hg_heap.proofs.PageChanged.{other_found}
+use Rattle.hg_heap.proofs.Options.{none_is}
 use Rattle.hg_table.specs.declared.view.Part.{Part}
 use Rattle.hg_table.specs.Seats.{word_at, HasStepped, ended_after}
 use Rattle.hg_table.specs.Told.{IsShown}
@@ -43,10 +44,6 @@ newest_of at found left a b shown goes is k word e =
 pub looked_ends : (at word : ℕ) (ended : List (ℕ × ℕ))
     → ended_after at word word ended ≡ ended ++ []
 looked_ends at word ended = not_ended at word word ended (λ e. e) ∙ sym (append-nil ended)
-
-pub none_in : {X : Type 0} (o : Option X) → is_some o ≡ false → o ≡ None
-none_in None e = refl
-none_in (Some x) e = absurd (cc)
 
 -- what follows of either end of a call
 pub either_end : {X E G : Type 0} (r : Result X E) (P : Type 0) (Q : E → Type 0) → OnOk r P
@@ -171,7 +168,7 @@ module _ {S : Type 0} (number : S → ℕ) (part : S → Part) where
       → part_for number part old place ≡ old.own
   own_before place old away =
       ap (λ (o : Option (Kept S)). part_by number part o old.own)
-      (none_in (segment_in number old.heap.segments place.segment) away)
+      (none_is (segment_in number old.heap.segments place.segment) away)
 
   own_after : (place : Place) (old new : Had S)
       → is_held number old.heap.segments place.segment ≡ false → new.heap ≡ old.heap
@@ -179,7 +176,7 @@ module _ {S : Type 0} (number : S → ℕ) (part : S → Part) where
   own_after place old new away same =
       ap (λ h. part_by number part (segment_in number h.segments place.segment) new.own) same
       ∙ ap (λ (o : Option (Kept S)). part_by number part o new.own)
-      (none_in (segment_in number old.heap.segments place.segment) away)
+      (none_is (segment_in number old.heap.segments place.segment) away)
 
   -- a seat that makes no step, and the worker's own, for a place of a segment that isn't held
   pub no_step : (most : ℕ) (place : Place) (had : Had S)
@@ -198,10 +195,6 @@ module _ {S : Type 0} (number : S → ℕ) (part : S → Part) where
         ∙ ap (λ (p : Part). p.seen ++ map (λ word. (word_of place, word)) words)
         (sym (own_before place old away)),
   )
-
-  pub more_steps : (few most : ℕ) (place : Place) (old new : Had S) → few ≤ most
-      → StepsWithin number part few place old new → StepsWithin number part most place old new
-  more_steps few most place old new le s = (s.0, omega (arith, le, s.1), s.2)
 
   -- what the worker's own seat does for a place of a segment that isn't held
   pub own_decides : (place : Place) (found left : ℕ) (lives : List (ℕ × ℕ)) (words : List ℕ)
@@ -243,6 +236,16 @@ module _ {S : Type 0} (number : S → ℕ) (part : S → Part) where
       (stepped.2 ∙ looked_ends (word_of place) word old.own.ended)
 
   -- nothing was looked at
+  -- of a place of the policy
+  pub own_looked : (place : Place) (word : ℕ) (old new : Had S)
+      → is_some (arena_of old.policy place.segment) ≡ true
+      → is_held number old.heap.segments place.segment ≡ false → new.heap ≡ old.heap
+      → IsShown (word_of place) word old.own
+      → HasStepped old.own (word_of place) word word new.own
+      → Looked number part place (shown_at place word) old new
+  own_looked place word old new some away same shown step =
+      (some, refl, own_looks place word old new away same shown step)
+
   pub seats_stay : (old new : Had S) → new.heap ≡ old.heap → new.own ≡ old.own
       → KeepsSeats number part old new
   seats_stay old new same own = record {

@@ -1,13 +1,13 @@
 -- What is taken in ends no life.
-use Rattle.std.proofs.Common.{◌≡◌, ◌⊎◌, ℕ, ◌==◌, Bool, true, false, cond, List, [], ◌∷◌, map}
+use Rattle.std.proofs.Common.{◌≡◌, ◌⊎◌, ℕ, List, [], ◌∷◌, map}
 use Rattle.std.proofs.Common.{Some, None}
-use Rattle.std.proofs.Common.{refl, sym, ap, subst, ◌∙◌, ⊎_elim, inl, inr}
+use Rattle.std.proofs.Common.{sym, ap, subst, ◌∙◌, ⊎_elim, inl, inr}
 use Rattle.std.specs.Prelude.{Option, option_map, Contains}
 use Rattle.hg_place.specs.Places.{page_of, index_of}
 use Rattle.hg_segment.specs.Kept.{Kept}
 use Rattle.hg_heap.specs.Held.{Held, segment_in}
 use Rattle.hg_heap.specs.Taking.{IsAnother, IsTaken, IsPassed, Takes}
-use Rattle.hg_heap.proofs.Founds.{map_same}
+use Rattle.hg_heap.proofs.Founds.{map_same, pair, told_in}
 use Rattle.hg_table.specs.declared.segment.UnnamedSegment.{UnnamedSegment}
 use Rattle.hg_table.specs.declared.view.Part.{Part}
 use Rattle.hg_table.proofs.Told.{not_ended}
@@ -15,32 +15,6 @@ use Rattle.hg_worker.specs.Had.{Had}
 use Rattle.hg_worker.specs.Seats.{number_in, records_in, part_of_seat, seat_shows, seat_steps}
 use Rattle.hg_worker.specs.Seen.{EndsNothing}
 use Rattle.hg_worker.proofs.Hands.{SawMore, Grown, the_same, some_left, set_grown, grown_on}
-
-module _ {S X : Type 0} (number : S → ℕ) (told : Kept S → X) where
-  mapped : (b : Bool) (k : Kept S) (o : Option (Kept S))
-      → option_map told (cond b (Some k) o) ≡ cond b (Some (told k)) (option_map told o)
-  mapped true k o = refl
-  mapped false k o = refl
-
-  abbrev pub pair : Kept S → ℕ × X
-  pair k = (number k.slots, told k)
-
-  -- what is told of the segment of a number, by what is told of all
-  pub told_in : (xs ys : List (Kept S)) → map pair ys ≡ map pair xs → (segment : ℕ)
-      → option_map told (segment_in number ys segment)
-      ≡ option_map told (segment_in number xs segment)
-  told_in [] [] e segment = refl
-  told_in [] (y ∷ ys) e segment = absurd (cc)
-  told_in (x ∷ xs) [] e segment = absurd (cc)
-  told_in (x ∷ xs) (y ∷ ys) e segment =
-      let heads : pair y ≡ pair x = cc in
-      let tails : map pair ys ≡ map pair xs = cc in
-      mapped (number y.slots == segment) y (segment_in number ys segment)
-      ∙ ap (λ (p : ℕ × X). cond (p.0 == segment) (Some p.1)
-      (option_map told (segment_in number ys segment))) heads
-      ∙ ap (λ (o : Option X). cond (number x.slots == segment) (Some (told x)) o)
-      (told_in xs ys tails segment)
-      ∙ sym (mapped (number x.slots == segment) x (segment_in number xs segment))
 
 abbrev ended_of : Kept UnnamedSegment → List (ℕ × ℕ)
 ended_of k = (part_of_seat k.slots).ended

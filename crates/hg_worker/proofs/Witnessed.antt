@@ -1,8 +1,8 @@
 -- The witness state of a worker agrees with it.
-use Rattle.std.proofs.Common.{◌≡◌, ℕ, ◌*◌, ◌<◌, ◌≤◌, List, length, map, Some, None, refl, sym}
+use Rattle.std.proofs.Common.{◌≡◌, ℕ, ◌*◌, ◌<◌, ◌≤◌, List, length, map, Some, None, sym}
 use Rattle.std.proofs.Common.{subst, ◌∙◌}
-use Rattle.std.specs.Prelude.{Option, option_map, Contains, IfSome}
-use Rattle.std.proofs.lemmas.Option.{none-some, same_Some}
+use Rattle.std.specs.Prelude.{Option, Contains, IfSome}
+use Rattle.std.proofs.lemmas.Option.{none-some}
 use Rattle.hg_place.specs.declared.Handle.{Handle}
 use Rattle.hg_place.specs.declared.standing.Standing.{Standing}
 use Rattle.hg_place.specs.Lives.{IsSlotWord}
@@ -23,14 +23,10 @@ use Rattle.hg_heap.specs.Ties.{holding}
 use Rattle.hg_heap.proofs.Founds.{segment_contained}
 use Rattle.hg_heap.proofs.ViewRoom.{holding_in}
 use Rattle.hg_heap.proofs.Witnessed.{settled_are_right}
+use Rattle.hg_heap.proofs.Options.{of_map}
 use Rattle.hg_table.specs.declared.view.Part.{Part}
 use Rattle.hg_worker.specs.Had.{Had, view_in, hand_place, hand_generation}
 use Rattle.hg_worker.specs.Hands.{KnowsHand}
-
-some_of : {X Y : Type 0} (f : X → Y) (o : Option X) (y : Y) → option_map f o ≡ Some y
-    → (x : X) × (o ≡ Some x) × (f x ≡ y)
-some_of f None y e = absurd (none-some y e)
-some_of f (Some x) y e = (x, refl, same_Some (f x) y e)
 
 -- the life in hand was given out
 hand_given : (hand : Option Handle) (place : ℕ) → hand_place hand ≡ Some place
@@ -58,7 +54,7 @@ module _ {S : Type 0} (number : S → ℕ) (records : S → List Standing) (part
         → holding_of (map (holding number records) had.heap.segments) segment ≡ Some h
         → IsHoldingRight had.policy h
     are_right segment h is =
-        let o = some_of (holding number records) (segment_in number had.heap.segments segment) h
+        let o = of_map (holding number records) (segment_in number had.heap.segments segment) h
         (sym (holding_in number records had.heap.segments segment) ∙ is) in
         let here = segment_contained number had.heap.segments segment o.0 o.1 in
         subst (IsHoldingRight had.policy) o.2

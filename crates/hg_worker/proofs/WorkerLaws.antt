@@ -9,7 +9,6 @@ use Rattle.std.proofs.lemmas.List.{append-nil}
 use Rattle.std.proofs.lemmas.List.Elements.{Contains-append_right}
 use Rattle.std.proofs.lemmas.List.Folds.{find-append}
 use Rattle.std.proofs.lemmas.Option.{none-some, same_Some}
-use Rattle.std.proofs.lemmas.Simd.{map-map}
 use mathlib.Core.Option.{some, some-injective, some-ne-none}
 use lib.ListN.{get_elem?}
 use Rattle.atomic_table.proofs.Lists.{at_last, at_longer, at_snoc}
@@ -18,7 +17,7 @@ use Rattle.hg_place.specs.declared.Place.{Place}
 use Rattle.hg_place.specs.declared.standing.Standing.{Standing}
 use Rattle.hg_segment.specs.Kept.{Kept}
 use Rattle.hg_heap.specs.Held.{is_of, segment_in}
-use Rattle.hg_heap.specs.Keeping.{Rest, rest_of, KeepsAll}
+use Rattle.hg_heap.specs.Keeping.{Rest}
 use Rattle.hg_table.specs.declared.view.Part.{Part}
 use Rattle.hg_table.specs.KnownLaws.{HasSeen}
 use Rattle.hg_table.proofs.Told.{not_ended}
@@ -29,7 +28,7 @@ use Rattle.hg_worker.specs.Seen.{word_of, part_by, part_for, Decided}
 use Rattle.hg_worker.specs.Seen.{EndsNothing}
 use Rattle.hg_worker.specs.WorkerLaws.{OneWordIsLeft, FreesEndTheirs, TheirLivesAreApart}
 use Rattle.hg_worker.specs.WorkerLaws.{ViewsChangeAtSteps, LooksEndNothing, SeatsGoAlong}
-use Rattle.hg_worker.proofs.Takings.{told_in}
+use Rattle.hg_worker.proofs.Records.{all_held}
 
 -- the last of a list, or this where there is none
 abbrev final : {X : Type 0} → X → List X → X
@@ -157,25 +156,6 @@ module _ {S : Type 0} (number : S → ℕ) (part : S → Part) where
   }
 
   module _ (records : S → List Standing) where
-    -- which segments are held stays
-    held_still : (old new : List (Kept S)) → KeepsAll number records old new → (segment : ℕ)
-        → is_some (segment_in number new segment) ≡ is_some (segment_in number old segment)
-    held_still old new kept segment =
-        let one : Kept S → ℕ = λ k. number k.slots in
-        let pick : Rest → ℕ × ℕ = λ r. (r.number, r.number) in
-        let told : option_map one (segment_in number new segment)
-        ≡ option_map one (segment_in number old segment) =
-        told_in number one old new
-        (sym (map-map pick (rest_of number records) new) ∙ ap (map pick) kept
-        ∙ map-map pick (rest_of number records) old) segment in
-        sym (some_mapped one (segment_in number new segment)) ∙ ap is_some told
-        ∙ some_mapped one (segment_in number old segment)
-      where
-        some_mapped : (f : Kept S → ℕ) (o : Option (Kept S))
-            → is_some (option_map f o) ≡ is_some o
-        some_mapped f None = refl
-        some_mapped f (Some x) = refl
-
     -- by the segment of the place, before and after
     ends_by : (place : Place) (found left : ℕ) (old new : Had S) (o q : Option (Kept S))
         → segment_in number old.heap.segments place.segment ≡ o
@@ -228,7 +208,7 @@ module _ {S : Type 0} (number : S → ℕ) (part : S → Part) where
         ends_by place shown.word shown.word old new
         (segment_in number old.heap.segments place.segment)
         (segment_in number new.heap.segments place.segment) refl refl
-        (held_still old.heap.segments new.heap.segments kept place.segment) looked.2
+        (all_held number records old.heap.segments new.heap.segments kept place.segment) looked.2
 
     first_of : (o : Option (Kept S)) (one : Kept S) → is_some o ≡ false
         → option_or o (Some one) ≡ Some one

@@ -1,17 +1,17 @@
 -- A worker has what its witness asks for, and what a look is to it: one lemma for all events.
-use Rattle.std.proofs.Common.{◌≡◌, ℕ, Bool, true, refl, sym, subst}
+use Rattle.std.proofs.Common.{◌≡◌, ℕ, Bool, true, false, List, refl, sym, subst}
 use Rattle.std.specs.Prelude.{Option, Contains}
 use Rattle.atomic_table.specs.Seated.{TableId}
 use Rattle.hg_lists.specs.Repeats.{HasNoRepeats}
 use Rattle.hg_place.specs.declared.Place.{Place}
 use Rattle.hg_machine.specs.declared.Event.{Event}
 use Rattle.hg_machine.specs.declared.Answer.{Answer}
+use Rattle.hg_machine.specs.declared.Rule.{Rule}
 use Rattle.hg_machine.specs.Policy.{Policy}
 use Rattle.hg_segment.specs.Kept.{Kept}
 use Rattle.hg_segment.specs.Settled.{IsSettled}
-use Rattle.hg_agreement.specs.Agreement.{Ties}
-use Rattle.hg_agreement.specs.Seen.{IsShownAt}
 use Rattle.hg_agreement.specs.Views.{Shown}
+use Rattle.hg_heap.specs.Answers.{away_answer}
 use Rattle.hg_heap.specs.Held.{Held, is_held}
 use Rattle.hg_heap.specs.Policies.{AreOf}
 use Rattle.hg_heap.specs.Ties.{HeapTies, Stepped, shown_at}
@@ -20,6 +20,7 @@ use Rattle.hg_heap.proofs.PolicyKept.{steps_keep_policy}
 use Rattle.hg_table.specs.declared.segment.UnnamedSegment.{UnnamedSegment}
 use Rattle.hg_worker.specs.declared.state.WorkerState.{WorkerState}
 use Rattle.hg_worker.specs.Had.{Had, view_in, hand_place, hand_generation}
+use Rattle.hg_worker.specs.Judged.{found_word}
 use Rattle.hg_worker.specs.Hands.{KnowsHand}
 use Rattle.hg_table.specs.Named.{table_of_worker}
 use Rattle.hg_worker.specs.Seats.{number_in, records_in, part_of_seat}
@@ -29,7 +30,7 @@ use Rattle.hg_worker.specs.Seen.{Looked, StepsWithin}
 use Rattle.hg_worker.specs.Tied.{IsTied, KeepsRest}
 use Rattle.hg_worker.specs.States.{IsNamed}
 use Rattle.hg_worker.specs.Workers.{had_in}
-use Rattle.hg_worker.proofs.Away.{shown_where}
+use Rattle.hg_worker.proofs.Away.{IsOfBlock, shown_where, tied_away}
 use Rattle.hg_worker.proofs.Hands.{knows_still, stepped_grown, the_same}
 use Rattle.hg_worker.proofs.Seats.{Whole, looked_held, machines_held, machines_away}
 use Rattle.hg_worker.proofs.Steps.{held_once}
@@ -67,27 +68,28 @@ pub named_by : {s t : WorkerState} {policy : Policy} {table : TableId} → s ≡
     → IsNamed policy table t → IsNamed policy table s
 named_by {s} {t} {policy} {table} same is = subst (IsNamed policy table) (sym same) is
 
--- a step of the heap
-module _ (w : WorkerState) (new : Held UnnamedSegment) (place : Place)
-    (word left : ℕ)
-    (st : Stepped number_in seat_shows
-    seat_steps place word left w.heap.segments new.segments) where
-  -- leaves the segments as the policy has them
-  pub stepped_of : AreOf number_in w.policy new.segments
-  stepped_of =
-      steps_keep_policy number_in seat_shows
-      seat_steps w.policy place word left w.heap.segments new.segments
-      st w.of
+-- what a worker's box asks of its segments
+pub record Stays (w : WorkerState) (new : Held UnnamedSegment) : Type 0 where
+  pub of : AreOf number_in w.policy new.segments
+  pub together : AreOnTable (table_of_worker w.seat) new.segments
+  pub known : KnowsHand number_in part_of_seat w.hand (had_in w).own new.segments
 
-  -- and of their table
-  pub stepped_together : AreOnTable (table_of_worker w.seat) new.segments
-  stepped_together = stepped_on_table st w.together
+-- a step of the heap leaves it
+pub stepped_stays : (w : WorkerState) (new : Held UnnamedSegment) (place : Place) (word left : ℕ)
+    → Stepped number_in seat_shows seat_steps place word left w.heap.segments new.segments
+    → Stays w new
+stepped_stays w new place word left st = record {
+  of = steps_keep_policy number_in seat_shows seat_steps w.policy place word left
+      w.heap.segments new.segments st w.of;
+  together = stepped_on_table st w.together;
+  known = knows_still number_in part_of_seat (the_same (had_in w).own)
+      (stepped_grown number_in part_of_seat (stepped_as st)) w.known;
+}
 
-  -- and what the seats know of the hand
-  pub stepped_known : KnowsHand number_in part_of_seat w.hand (had_in w).own new.segments
-  stepped_known =
-      knows_still number_in part_of_seat (the_same (had_in w).own)
-      (stepped_grown number_in part_of_seat (stepped_as st)) w.known
+-- so does a call that leaves the heap as it was
+pub same_stays : (w : WorkerState) (new : Held UnnamedSegment) → new ≡ w.heap → Stays w new
+same_stays w new same =
+    subst (Stays w) (sym same) (record { of = w.of; together = w.together; known = w.known })
 
 -- a look by the heap
 module _ (w : WorkerState) (new : Held UnnamedSegment) (place : Place)
@@ -122,22 +124,63 @@ module _ (w : WorkerState) (new : Held UnnamedSegment) (place : Place)
         (ties w.number (hand_place w.hand) (hand_generation w.hand) w.below),
   )
 
--- a look by the worker's own seat
+-- what the use of a block comes to
+pub record IsUse (place : Place) (event : Event) (answer : Answer) (old new : Had UnnamedSegment)
+    : Type 0 where
+  pub seen : IsSeen place event answer old new
+  pub once : StepsWithin number_in part_of_seat 1 place old new
+  pub any_hand :
+      (word : ℕ) × Looked number_in part_of_seat place (shown_at place word) old new
+      × HeapTies number_in records_in old.policy (shown_at place word) (shown_at place word) event
+      answer old.heap.segments new.heap.segments
+
+-- that of a held block, of a worker that had what is in its box
+module _ {w box : WorkerState} (same : w ≡ box) (new : Held UnnamedSegment) (place : Place)
+    (settled : (k : Kept UnnamedSegment) → Contains w.heap.segments k → IsSettled records_in k)
+    (once : HasNoRepeats (numbers number_in w.heap.segments))
+    (held : is_held number_in w.heap.segments place.segment ≡ true) (word : ℕ)
+    (st : Stepped number_in seat_shows seat_steps place word word w.heap.segments new.segments)
+  where
+    pub held_use : (event : Event) (answer told : Answer) → answer ≡ told
+        → HeapTies number_in records_in w.policy (shown_at place word) (shown_at place word) event
+        told w.heap.segments new.segments
+        → IsUse place event answer (had_in box) (record (had_in w) { heap = new })
+    held_use event answer told is ties =
+        subst (λ a. IsUse place event a (had_in box) (record (had_in w) { heap = new })) (sym is)
+        (subst (λ b. IsUse place event told (had_in b) (record (had_in w) { heap = new })) same
+        (record {
+          seen = held_call w new place settled once held word st event told ties;
+          once = held_tries w new place settled once held word st;
+          any_hand = (word, held_looks w new place settled once held word st, ties);
+        }))
+
+    -- what is so of the word
+    pub held_finds : (P : WorkerState → ℕ → Type 0) → P w word
+        → (shown : Option Shown)
+        × Looked number_in part_of_seat place shown (had_in box) (record (had_in w) { heap = new })
+        × P box (found_word shown)
+    held_finds P is = (
+      shown_at place word,
+      subst (λ b. Looked number_in part_of_seat place (shown_at place word) (had_in b)
+          (record (had_in w) { heap = new })) same (held_looks w new place settled once held word st),
+      subst (λ b. P b word) same is,
+    )
+
+-- a look by the worker's own seat, by the verdict on the word that it found
 pub away_call : (w new : WorkerState) (place : Place) (event : Event) (answer : Answer)
-    (reason : Option Shown → Answer)
+    (rule : Option Shown → Option Rule) (others : List (Bool × Answer))
     → ((k : Kept UnnamedSegment) → Contains w.heap.segments k → IsSettled records_in k)
     → new.heap ≡ w.heap → KeepsRest (had_in w) (had_in new)
     → ((shown : Option Shown) × Looked number_in part_of_seat place shown (had_in w) (had_in new)
-    × (answer ≡ reason shown))
-    → ((shown : Option Shown) → IsShownAt (view_in number_in records_in (had_in w)) place shown
-    → Ties (view_in number_in records_in (had_in w)) shown event (reason shown)
-    (view_in number_in records_in (had_in w)) shown)
+    × (answer ≡ away_answer (rule shown)))
+    → is_held number_in w.heap.segments place.segment ≡ false
+    → IsOfBlock (view_in number_in records_in (had_in w)) place event rule others
     → IsSeen place event answer (had_in w) (had_in new)
-away_call w new place event answer reason settled heap rest told ties = (
+away_call w new place event answer rule others settled heap rest told away is = (
   told.0,
   told.1,
-  machines_away (had_in w) (had_in new) place told.0 event answer (reason told.0)
+  machines_away (had_in w) (had_in new) place told.0 event answer (away_answer (rule told.0))
       (whole_of w settled) heap rest told.1 told.2
-      (ties told.0
+      (tied_away number_in records_in (had_in w) told.0 w.below place event rule others is away
       (shown_where number_in records_in part_of_seat place told.0 (had_in w) (had_in new) told.1)),
 )

@@ -21,8 +21,8 @@ ghost use Rattle.hg_worker.specs.Seats.{number_in, records_in, seat_shows, seat_
 ghost use Rattle.hg_worker.specs.Workers.{Decides, StaysUnseen, IsMachines, Keeps};
 ghost use Rattle.hg_worker.specs.Workers.{Finds, SendsNoneHome};
 
-use crate::answers::refused_answer;
 use crate::{ServiceName, Worker};
+use hg_heap::refused_answer;
 use hg_machine::Answer;
 use hg_place::Actor;
 

@@ -6,11 +6,13 @@ ghost use Rattle.hg_place.specs.declared.Right.TheVariants as Right;
 ghost use Rattle.hg_place.specs.Places.{number_of, page_number};
 ghost use Rattle.hg_machine.specs.declared.Answer.TheVariants as Answer;
 ghost use Rattle.hg_machine.specs.declared.Event.TheVariants as Event;
+ghost use Rattle.hg_machine.specs.declared.Rule.{Rule};
 ghost use Rattle.hg_agreement.specs.Views.{Shown};
 ghost use Rattle.hg_heap.specs.Held.{is_held, lists_on, has_place, greatest_in};
 ghost use Rattle.hg_heap.specs.Judged.{IsJudged};
 ghost use Rattle.hg_heap.specs.Lists.{CameHome};
 ghost use Rattle.hg_heap.specs.Queues.{key_on};
+ghost use Rattle.hg_heap.specs.Reading.{use_denial};
 ghost use Rattle.hg_heap.specs.Requeued.{requeued};
 ghost use Rattle.hg_heap.specs.Ties.{shown_at, HeapTies};
 ghost use Rattle.hg_worker.specs.Answers.{is_done, is_freed, hand_after};
@@ -19,11 +21,12 @@ ghost use Rattle.hg_worker.specs.Records.{IsHomeAlone};
 ghost use Rattle.hg_worker.specs.Seats.{number_in, records_in};
 ghost use Rattle.hg_worker.specs.Workers.{Ends, Looks, IsMachines, KeepsSegments, SendsHome, Tries};
 
-use crate::answers::{denied_answer, refused_answer};
 use crate::{ServiceName, Worker};
 use hg_decision::{Verdict, judge};
+use hg_heap::refused_answer;
 use hg_machine::Answer;
 use hg_place::{Actor, Handle, Right};
+use hg_policy::Policy;
 
 impl<N: ServiceName> Worker<N> {
     /// Frees a block: `Done` where the worker holds its segment, and its place is home; else
@@ -182,5 +185,17 @@ impl<N: ServiceName> Worker<N> {
         }
         inner.hand = Some(handle);
         Answer::Parted
+    }
+}
+
+/// The answer to a call that a rule denies, by the word that was found.
+fn denied_answer(policy: &Policy, actor: Actor, right: Right, handle: Handle, word: u64) -> Answer
+    requires { use_denial policy.now actor.0 right handle word ≢ None }
+    ensures { (rule : Rule) × (use_denial policy.now actor.0 right handle word ≡ Some rule)
+        × (result ≡ Answer.Denied rule) }
+{
+    match judge(policy, actor, right, handle, word) {
+        Verdict::Denied(rule) => Answer::Denied(rule),
+        Verdict::Allowed => unreachable!(),
     }
 }

@@ -3,7 +3,6 @@
 #![tactic(auto)]
 
 mod allocating;
-mod answers;
 mod caller_locked;
 mod freeing;
 mod kept_pool;

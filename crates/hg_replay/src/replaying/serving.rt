@@ -2,8 +2,8 @@
 //! would go through memory, which the processor waits for.
 
 ghost use Rattle.std.specs.Prelude.{◌≡◌, ◌<◌, [], ◌∷◌, Some, None, IfOk};
-ghost use Rattle.hg_core.specs.Answers.{alloc_answer, free_answer};
-ghost use Rattle.hg_heap.specs.Answers.{read_answer, done_answer};
+ghost use Rattle.hg_core.specs.Answers.{free_answer};
+ghost use Rattle.hg_heap.specs.Answers.{alloc_answer, read_answer, done_answer};
 ghost use Rattle.hg_machine.specs.declared.Answer.{Answer};
 ghost use Rattle.hg_machine.specs.declared.Event.TheVariants as Event;
 ghost use Rattle.hg_replay.specs.Replays.{handle_in};

@@ -10,9 +10,9 @@ size_of-requires-clause-open g c = let w = g.S.SlotWords in let l = c.look-word.
     open_after w.number w.records w.shows w.steps g.met.S.SlotWords.fits c.args.policy.now
     c.args.actor.0 right.List (record {
       place = c.args.place;
-      generation = c.used_generation.result;
+      generation = c.listed_generation.result;
       given_out =
-          subst (λ n. 1 ≤ n) (sym c.used_generation.ensures) (omega arith);
+          subst (λ n. 1 ≤ n) (sym c.listed_generation.ensures) (omega arith);
     }) c.look-word.result
     c.args.segment.now c.look-word.new.self
     (looked_of w.number w.records w.shows w.steps c.args.place c.look-word.result c.args.segment.now
@@ -28,9 +28,8 @@ returns-in-Denied g c = let w = g.S.SlotWords in let l = c.look-word.ensures in
       words = ap (λ (k : Kept g.row.S.Denot). k.words) l.others;
       none = (
         c.in-Denied.field-0,
-        listed_as w.number w.records w.shows w.steps g.met.S.SlotWords.fits c.args.policy.now
-            c.args.actor c.args.place c.look-word.result c.used_generation.result c.args.segment.now
-            c.look-word.new.self looked c.used_generation.ensures
+        listed_as c.args.policy.now c.args.actor c.args.place c.look-word.result
+            c.listed_generation.result c.listed_generation.ensures
             ∙ denied_by _ c.in-Denied.field-0 (sym c.in-Denied.is ∙ c.judge.ensures),
       );
       allowed = tt;
@@ -45,9 +44,8 @@ returns g c = let w = g.S.SlotWords in let l = c.look-word.ensures in
       looked = looked;
       words = ap (λ (k : Kept g.row.S.Denot). k.words) l.others;
       none = tt;
-      allowed = listed_as w.number w.records w.shows w.steps g.met.S.SlotWords.fits
-          c.args.policy.now c.args.actor c.args.place c.look-word.result c.used_generation.result
-          c.args.segment.now c.look-word.new.self looked c.used_generation.ensures
+      allowed = listed_as c.args.policy.now c.args.actor c.args.place c.look-word.result
+          c.listed_generation.result c.listed_generation.ensures
           ∙ allowed_by _ (sym c.in_default.is ∙ c.judge.ensures);
       row = record {
         stands = refl;
@@ -55,9 +53,9 @@ returns g c = let w = g.S.SlotWords in let l = c.look-word.ensures in
             c.args.policy.now c.args.actor.0 right.List
             (record {
               place = c.args.place;
-              generation = c.used_generation.result;
+              generation = c.listed_generation.result;
               given_out =
-                  subst (λ n. 1 ≤ n) (sym c.used_generation.ensures) (omega arith);
+                  subst (λ n. 1 ≤ n) (sym c.listed_generation.ensures) (omega arith);
             }) c.look-word.result
             c.args.segment.now c.look-word.new.self looked
             (allowed_by _ (sym c.in_default.is ∙ c.judge.ensures));

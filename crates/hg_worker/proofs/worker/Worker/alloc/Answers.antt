@@ -1,9 +1,7 @@
-use Rattle.std.proofs.Common.{◌≡◌, [], None, refl, sym, ap, ◌∙◌, subst}
+use Rattle.std.proofs.Common.{◌≡◌, [], None, refl, sym, ap, ◌∙◌}
 use Rattle.hg_place.specs.Lives.{live_word}
 use Rattle.hg_heap.specs.Held.{Held}
-use Rattle.hg_heap.specs.Policies.{AreOf}
 use Rattle.hg_heap.specs.Ties.{shown_at}
-use Rattle.hg_heap.proofs.PolicyKept.{steps_keep_policy}
 use Rattle.hg_heap.specs.declared.refused.Refused.{Refused}
 use Rattle.hg_heap.specs.Answers.{refused_answer}
 use Rattle.hg_machine.specs.declared.Answer.{Answer}
@@ -13,13 +11,10 @@ use Rattle.hg_machine.specs.Request.{size_of}
 use Rattle.hg_worker.specs.Answers.{block_in}
 use Rattle.hg_worker.specs.Had.{hand_place, hand_generation}
 use Rattle.hg_worker.specs.Seats.{number_in, part_of_seat}
-use Rattle.hg_worker.specs.Seats.{seat_shows, seat_steps}
 use Rattle.hg_worker.specs.Seen.{word_of, Decided}
 use Rattle.hg_worker.specs.Workers.{had_in}
 use Rattle.hg_worker.proofs.Allocs.{no_block, by_none, if_no_block, given_follows, given_arena}
 use Rattle.hg_worker.proofs.Allocs.{live_ends_none}
-use Rattle.hg_worker.specs.Hands.{KnowsHand}
-use Rattle.hg_worker.proofs.Hands.{knows_still, stepped_grown, the_same}
 use Rattle.hg_heap.specs.declared.refused.Refused.TheVariants as refused
 use Rattle.hg_worker.specs.Records.{record_in}
 use Rattle.hg_worker.specs.Seats.{records_in}
@@ -27,37 +22,26 @@ use Rattle.hg_worker.proofs.Records.{same_goes, given_goes}
 use Rattle.hg_worker.proofs.Seats.{machines_shown, machines_unseen, machines_any}
 use Rattle.std.specs.Prelude.{Option, Some, Err, IfNone}
 use Rattle.hg_worker.proofs.Steps.{either_way, held_decides}
-use Rattle.hg_table.specs.Named.{table_of_worker}
-use Rattle.hg_worker.specs.Seats.{AreOnTable}
-use Rattle.hg_worker.proofs.Tables.{allotted_as, stepped_as, stepped_on_table}
-use Rattle.hg_worker.proofs.Workers.{whole_of}
+use Rattle.hg_worker.proofs.Tables.{allotted_as, stepped_as}
+use Rattle.hg_worker.proofs.Workers.{Stays, stepped_stays, same_stays, whole_of}
 use Rattle.hg_worker.proofs.worker.Worker.alloc.Goals as goal
 
 pub invariant_of-inner : goal.invariant_of-inner
 invariant_of-inner g c =
     let s = c.deref_mut-inner.result.now in
-    let of : AreOf number_in s.policy c.alloc.new.self.segments =
+    let new = c.alloc.new.self in
+    let stays : Stays s new =
     either_way c.alloc.result _ _ c.alloc.ensures.given c.alloc.ensures.refused
-    (λ handle e. steps_keep_policy number_in seat_shows
-    seat_steps s.policy handle.place e.0.word
-    (live_word handle.generation c.args.actor.0) s.heap.segments c.alloc.new.self.segments
-    e.0.stepped s.of)
-    (λ _ e. subst (λ (h : Held _). AreOf number_in s.policy h.segments) (sym e.0) s.of) in
+    (λ handle e. stepped_stays s new handle.place e.0.word
+    (live_word handle.generation c.args.actor.0) e.0.stepped) (λ _ e. same_stays s new e.0) in
     record {
       sound = s.sound;
       below = s.below;
       words = s.words;
-      of = of;
-      together = either_way c.alloc.result _ _ c.alloc.ensures.given c.alloc.ensures.refused
-          (λ handle e. stepped_on_table e.0.stepped s.together)
-          (λ _ e. subst (λ (h : Held _). AreOnTable (table_of_worker s.seat) h.segments) (sym e.0)
-          s.together);
+      of = stays.of;
+      together = stays.together;
       reach = s.reach;
-      known = either_way c.alloc.result _ _ c.alloc.ensures.given c.alloc.ensures.refused
-          (λ handle e. knows_still number_in part_of_seat (the_same (had_in s).own)
-          (stepped_grown number_in part_of_seat (stepped_as e.0.stepped)) s.known)
-          (λ _ e. subst (λ (h : Held _). KnowsHand number_in part_of_seat s.hand (had_in s).own
-          h.segments) (sym e.0) s.known);
+      known = stays.known;
     }
 
 pub returns-in-Ok-clause-alloc : goal.returns-in-Ok-clause-alloc

@@ -1,15 +1,12 @@
 use Rattle.std.proofs.Common.{◌-◌, [], ◌∷◌, refl}
 use Rattle.hg_place.specs.Lives.{word_generation}
-use Rattle.hg_heap.specs.Policies.{AreOf}
 use Rattle.hg_heap.specs.Ties.{shown_at}
-use Rattle.hg_heap.proofs.PolicyKept.{steps_keep_policy}
 use Rattle.hg_machine.specs.declared.Answer.TheVariants as answer
 use Rattle.hg_machine.specs.declared.Event.TheVariants as event
 use Rattle.hg_table.proofs.Told.{is_ended}
 use Rattle.hg_table.proofs.WordSteps.{freed_word_after}
 use Rattle.hg_worker.specs.Had.{hand_place, hand_generation}
 use Rattle.hg_worker.specs.Seats.{number_in, part_of_seat}
-use Rattle.hg_worker.specs.Seats.{seat_shows, seat_steps}
 use Rattle.hg_worker.specs.Seen.{word_of, Decided}
 use Rattle.hg_worker.specs.Workers.{had_in}
 use Rattle.hg_worker.specs.Answers.{is_done}
@@ -20,39 +17,30 @@ use Rattle.hg_worker.proofs.Judged.{rule_refused, not_refused}
 use Rattle.hg_worker.proofs.Records.{all_goes, none_goes, alone_goes}
 use Rattle.std.proofs.lemmas.Bool.{true≢false}
 use Rattle.std.proofs.Common.{ap, sym, ◌∙◌}
-use Rattle.hg_worker.proofs.Hands.{knows_still, stepped_grown, the_same}
 use Rattle.hg_worker.proofs.Seats.{arena_held, looked_held, machines_held, machines_shown}
 use Rattle.hg_worker.proofs.Steps.{either_end, held_once, held_decides}
-use Rattle.hg_worker.proofs.Tables.{stepped_as, stepped_on_table}
-use Rattle.hg_worker.proofs.Workers.{held_by, whole_of}
+use Rattle.hg_worker.proofs.Tables.{stepped_as}
+use Rattle.hg_worker.proofs.Workers.{Stays, stepped_stays, held_by, whole_of}
 use Rattle.hg_worker.proofs.worker.Worker.free_here.Goals as goal
 
 pub invariant_of-inner : goal.invariant_of-inner
 invariant_of-inner g c =
     let s = c.deref_mut-inner.result.now in
-    let kept = steps_keep_policy number_in seat_shows
-    seat_steps s.policy c.args.handle.place in
-    let of : AreOf number_in s.policy c.free_here.new.self.segments =
+    let new = c.free_here.new.self in
+    let place = c.args.handle.place in
+    let stays : Stays s new =
     either_end c.free_here.result _ _ c.free_here.ensures.freed
     (c.free_here.ensures.denied (held_by _ c.deref_mut-inner.ensures.value c.requires))
-    (λ e. kept e.0 (e.0 - 1) s.heap.segments c.free_here.new.self.segments e.2 s.of)
-    (λ _ e. kept e.0 e.0 s.heap.segments c.free_here.new.self.segments e.3 s.of) in
+    (λ e. stepped_stays s new place e.0 (e.0 - 1) e.2)
+    (λ _ e. stepped_stays s new place e.0 e.0 e.3) in
     record {
       sound = s.sound;
       below = s.below;
       words = s.words;
-      of = of;
-      together = either_end c.free_here.result _ _ c.free_here.ensures.freed
-          (c.free_here.ensures.denied (held_by _ c.deref_mut-inner.ensures.value
-          c.requires)) (λ e. stepped_on_table e.2 s.together)
-          (λ _ e. stepped_on_table e.3 s.together);
+      of = stays.of;
+      together = stays.together;
       reach = s.reach;
-      known = either_end c.free_here.result _ _ c.free_here.ensures.freed
-          (c.free_here.ensures.denied (held_by _ c.deref_mut-inner.ensures.value c.requires))
-          (λ e. knows_still number_in part_of_seat (the_same (had_in s).own)
-          (stepped_grown number_in part_of_seat (stepped_as e.2)) s.known)
-          (λ _ e. knows_still number_in part_of_seat (the_same (had_in s).own)
-          (stepped_grown number_in part_of_seat (stepped_as e.3)) s.known);
+      known = stays.known;
     }
 
 pub returns-in-Err-clause-refused : goal.returns-in-Err-clause-refused

@@ -1,20 +1,17 @@
-use Rattle.std.proofs.Common.{◌≡◌, [], ◌∷◌, true, not, is_some, refl, sym, ap, ◌∙◌}
-use Rattle.hg_heap.proofs.PolicyKept.{steps_keep_policy}
+use Rattle.std.proofs.Common.{[], ◌∷◌, not, is_some, refl, sym, ap, ◌∙◌}
 use Rattle.hg_machine.specs.Policy.{arena_of}
 use Rattle.hg_place.specs.Standings.{slot_of}
 use Rattle.hg_table.specs.Seats.{part_on, word_at}
 use Rattle.hg_worker.specs.Seen.{word_of}
-use Rattle.hg_worker.proofs.Hands.{knows_still, stepped_grown, the_same, own_saw}
+use Rattle.hg_worker.proofs.Hands.{own_saw}
 use Rattle.hg_worker.specs.Seats.{number_in, records_in, part_of_seat}
-use Rattle.hg_worker.specs.Seats.{seat_shows, seat_steps}
 use Rattle.hg_worker.specs.Workers.{had_in}
 use Rattle.hg_worker.proofs.Pools.{by_some}
-use Rattle.hg_worker.proofs.Meetings.{met_away, met_held, met_held_other, met_keeps, met_stepped}
+use Rattle.hg_worker.proofs.Meetings.{met_away, met_held, met_turned, met_keeps, met_stepped}
 use Rattle.hg_worker.proofs.Records.{all_goes}
-use Rattle.hg_worker.proofs.Seats.{some_arena}
 use Rattle.hg_heap.proofs.ViewRoom.{found_one}
-use Rattle.hg_worker.proofs.Tables.{same_together, stepped_as, stepped_on_table}
-use Rattle.hg_worker.proofs.Workers.{named_by}
+use Rattle.hg_worker.proofs.Tables.{same_together}
+use Rattle.hg_worker.proofs.Workers.{stepped_stays, named_by}
 use Rattle.hg_worker.proofs.worker.Worker.meet.Goals as goal
 
 pub returns-then-not-holds-2-clause-met : goal.returns-then-not-holds-2-clause-met
@@ -23,11 +20,9 @@ returns-then-not-holds-2-clause-met g c =
     (let s = c.deref_mut-inner.result.now in
     let o = c.deref_mut-theirs.result.now in
     let place = c.args.handle.place in
-    let there : is_some (arena_of s.policy place.segment) ≡ true =
-    ap is_some (sym c.arena_of.ensures) ∙ (c.is_none.ensures ∙ ap not c.if-is_none.false) in
-    let arena = some_arena (arena_of s.policy place.segment) there in
-    by_some (arena_of s.policy place.segment) _ _ arena.0 arena.1
-    (met_away place c.meet.result (had_in s) (had_in o)
+    by_some (arena_of s.policy place.segment) _ _
+    (ap is_some (sym c.arena_of.ensures) ∙ (c.is_none.ensures ∙ ap not c.if-is_none.false))
+    (λ _. met_away place c.meet.result (had_in s) (had_in o)
     (record (had_in s) { own = part_on c.meet.new.self.badge })
     (record (had_in o) { own = part_on c.meet.new.other.badge })
     (sym c.holds.ensures ∙ c.if-not-holds.true)
@@ -39,24 +34,17 @@ invariant_of-theirs-then-not-holds g c =
     let o = c.deref_mut-theirs.result.now in
     let place = c.args.handle.place in
     let word = c.meet-then-not-holds.result in
+    let stays = stepped_stays o c.meet-then-not-holds.new.self place word word
+    (met_stepped place word o.heap.segments c.meet-then-not-holds.new.self.segments s.seat _
+    c.meet-then-not-holds.ensures.met) in
     record {
       sound = o.sound;
       below = o.below;
       words = o.words;
-      of = steps_keep_policy number_in seat_shows
-          seat_steps o.policy place word word o.heap.segments
-          c.meet-then-not-holds.new.self.segments
-          (met_stepped place word o.heap.segments c.meet-then-not-holds.new.self.segments s.seat
-          _ c.meet-then-not-holds.ensures.met) o.of;
-      together = stepped_on_table (met_stepped place word o.heap.segments
-          c.meet-then-not-holds.new.self.segments s.seat _ c.meet-then-not-holds.ensures.met)
-          o.together;
+      of = stays.of;
+      together = stays.together;
       reach = o.reach;
-      known = knows_still number_in part_of_seat (the_same (had_in o).own)
-          (stepped_grown number_in part_of_seat
-          (stepped_as (met_stepped place word o.heap.segments
-          c.meet-then-not-holds.new.self.segments s.seat _ c.meet-then-not-holds.ensures.met)))
-          o.known;
+      known = stays.known;
     }
 
 pub returns-then-not-holds-clause-met : goal.returns-then-not-holds-clause-met
@@ -67,15 +55,13 @@ returns-then-not-holds-clause-met g c =
     let place = c.args.handle.place in
     let word = c.meet-then-not-holds.result in
     let after = c.meet-then-not-holds.new.other in
-    let there : is_some (arena_of s.policy place.segment) ≡ true =
-    ap is_some (sym c.arena_of.ensures) ∙ (c.is_none.ensures ∙ ap not c.if-is_none.false) in
-    let arena = some_arena (arena_of s.policy place.segment) there in
-    by_some (arena_of s.policy place.segment) _ _ arena.0 arena.1
-    (met_held_other place word (had_in o) (had_in s)
+    by_some (arena_of s.policy place.segment) _ _
+    (ap is_some (sym c.arena_of.ensures) ∙ (c.is_none.ensures ∙ ap not c.if-is_none.false))
+    (λ _. met_turned (met_held place word (had_in o) (had_in s)
     (record (had_in o) { heap = c.meet-then-not-holds.new.self })
     (record (had_in s) { own = part_on after.badge })
     c.settled-2.ensures.once (sym c.holds.ensures ∙ c.if-not-holds.true) refl refl s.seat after
-    refl refl c.meet-then-not-holds.ensures.met))
+    refl refl c.meet-then-not-holds.ensures.met)))
 
 pub invariant_of-inner-then-not-holds-3 : goal.invariant_of-inner-then-not-holds-3
 invariant_of-inner-then-not-holds-3 g c =
@@ -83,24 +69,17 @@ invariant_of-inner-then-not-holds-3 g c =
     let o = c.deref_mut-theirs.result.now in
     let place = c.args.handle.place in
     let word = c.meet-then-not-holds-3.result in
+    let stays = stepped_stays s c.meet-then-not-holds-3.new.self place word word
+    (met_stepped place word s.heap.segments c.meet-then-not-holds-3.new.self.segments o.seat _
+    c.meet-then-not-holds-3.ensures.met) in
     record {
       sound = s.sound;
       below = s.below;
       words = s.words;
-      of = steps_keep_policy number_in seat_shows
-          seat_steps s.policy place word word s.heap.segments
-          c.meet-then-not-holds-3.new.self.segments
-          (met_stepped place word s.heap.segments c.meet-then-not-holds-3.new.self.segments o.seat
-          _ c.meet-then-not-holds-3.ensures.met) s.of;
-      together = stepped_on_table (met_stepped place word s.heap.segments
-          c.meet-then-not-holds-3.new.self.segments o.seat _ c.meet-then-not-holds-3.ensures.met)
-          s.together;
+      of = stays.of;
+      together = stays.together;
       reach = s.reach;
-      known = knows_still number_in part_of_seat (the_same (had_in s).own)
-          (stepped_grown number_in part_of_seat
-          (stepped_as (met_stepped place word s.heap.segments
-          c.meet-then-not-holds-3.new.self.segments o.seat _ c.meet-then-not-holds-3.ensures.met)))
-          s.known;
+      known = stays.known;
     }
 
 pub returns-then-not-holds-3-clause-met : goal.returns-then-not-holds-3-clause-met
@@ -111,11 +90,9 @@ returns-then-not-holds-3-clause-met g c =
     let place = c.args.handle.place in
     let word = c.meet-then-not-holds-3.result in
     let after = c.meet-then-not-holds-3.new.other in
-    let there : is_some (arena_of s.policy place.segment) ≡ true =
-    ap is_some (sym c.arena_of.ensures) ∙ (c.is_none.ensures ∙ ap not c.if-is_none.false) in
-    let arena = some_arena (arena_of s.policy place.segment) there in
-    by_some (arena_of s.policy place.segment) _ _ arena.0 arena.1
-    (met_held place word (had_in s) (had_in o)
+    by_some (arena_of s.policy place.segment) _ _
+    (ap is_some (sym c.arena_of.ensures) ∙ (c.is_none.ensures ∙ ap not c.if-is_none.false))
+    (λ _. met_held place word (had_in s) (had_in o)
     (record (had_in s) { heap = c.meet-then-not-holds-3.new.self })
     (record (had_in o) { own = part_on after.badge })
     c.settled.ensures.once (sym c.holds-2.ensures ∙ c.if-not-holds-3.true) refl refl o.seat after

@@ -1,54 +1,25 @@
-use Rattle.std.proofs.Common.{◌≡◌, [], ◌∷◌, true, not, is_some, refl, sym, ap, ◌∙◌, arith}
-use Rattle.hg_heap.specs.Ties.{shown_at}
-use Rattle.hg_machine.specs.Policy.{arena_of}
-use Rattle.hg_table.specs.Seats.{part_on}
-use Rattle.hg_worker.specs.Seats.{number_in, part_of_seat}
-use Rattle.hg_worker.specs.Workers.{had_in}
-use Rattle.hg_worker.specs.Seen.{word_of}
-use Rattle.hg_worker.proofs.Hands.{own_saw}
-use Rattle.hg_worker.proofs.Steps.{own_looks, own_steps, no_step}
-use Rattle.hg_worker.proofs.Tables.{same_together}
-use Rattle.hg_worker.proofs.Workers.{held_by}
+use Rattle.std.proofs.Common.{ap, ◌∙◌}
+use Rattle.hg_heap.specs.Answers.{away_answer}
+use Rattle.hg_heap.specs.Reading.{use_denial}
+use Rattle.hg_machine.specs.Denial.{denial_on}
+use Rattle.hg_place.specs.Slots.{slot_in}
+use Rattle.hg_worker.specs.declared.state.WorkerState.{WorkerState}
+use Rattle.hg_worker.proofs.Judged.{found_slot}
 use Rattle.hg_worker.proofs.worker.Worker.out_of_reach.Goals as goal
 
 pub returns-clause-judged : goal.returns-clause-judged
 returns-clause-judged g c =
-    rw (sym c.deref_mut-inner.ensures.value)
-    (let place = c.args.handle.place in
-    let word = c.look-word.result in
-    let some : is_some (arena_of c.deref_mut-inner.result.now.policy place.segment) ≡ true =
-    ap is_some (sym c.arena_of.ensures)
-    ∙ (c.is_none.ensures ∙ ap not c.if-is_none.false) in (
-      shown_at place word,
-      (
-        some,
-        refl,
-        own_looks number_in part_of_seat place word (had_in c.deref_mut-inner.result.now) _
-            (held_by _ c.deref_mut-inner.ensures.value c.requires) refl
-            c.look-word.ensures.shown c.look-word.ensures.step,
-      ),
-      c.away_answer-2.ensures _ c.judge-2.ensures,
-    ))
-
-pub invariant_of-inner-clause-known : goal.invariant_of-inner-clause-known
-invariant_of-inner-clause-known g c =
-    own_saw number_in part_of_seat ((word_of c.args.handle.place, c.look-word.result) ∷ [])
-    c.look-word.ensures.step.1 c.deref_mut-inner.result.now.known
-
-pub returns-then-is_none-clause-once : goal.returns-then-is_none-clause-once
-returns-then-is_none-clause-once g c =
-    rw (sym c.deref_mut-inner.ensures.value)
-    (no_step number_in part_of_seat 1 c.args.handle.place (had_in c.deref_mut-inner.result.now))
-
-pub returns-clause-once : goal.returns-clause-once
-returns-clause-once g c =
-    rw (sym c.deref_mut-inner.ensures.value)
-    (own_steps number_in part_of_seat 1 c.args.handle.place (c.look-word.result ∷ [])
-    (had_in c.deref_mut-inner.result.now) (record (had_in
-    c.deref_mut-inner.result.now) { own = part_on c.look-word.new.self.badge })
-    (held_by _ c.deref_mut-inner.ensures.value c.requires) refl (omega arith)
-    c.look-word.ensures.step.1)
-
-pub invariant_of-inner-clause-together : goal.invariant_of-inner-clause-together
-invariant_of-inner-clause-together g c =
-    same_together _ c.look-word.ensures.same c.deref_mut-inner.result.now.together
+    let e = c.look_away-word.ensures.looks in
+    let h = c.args.handle in
+    let denial = denial_on c.args.self.now.inner.value.policy c.args.actor.0 c.args.right
+    h.place.segment h.generation in (
+      e.0,
+      e.1,
+      c.refused_answer.ensures ∙ c.denied_or_elsewhere.ensures
+          ∙ ap (λ (w : WorkerState). away_answer (use_denial w.policy c.args.actor.0 c.args.right h
+          c.look_away-word.result)) c.deref.ensures
+          ∙ ap (λ p. away_answer (use_denial p c.args.actor.0 c.args.right h c.look_away-word.result))
+          c.look_away-word.ensures.rest.policy
+          ∙ ap (λ w. away_answer (denial (slot_in w))) e.2
+          ∙ ap (λ s. away_answer (denial s)) (found_slot e.0),
+    )
