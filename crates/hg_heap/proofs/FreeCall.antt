@@ -86,8 +86,8 @@ module _ {S : Type 0} (number : S → ℕ) (records : S → List Standing) (show
         → DeniedEnds rule (slice_set items found after)
     denied_ends word one after here looked words rule e = (
       word,
-      stepped number records shows steps items found word handle.place one after here looked,
-      refused_ends number records shows steps items found word handle.place one after here looked
+      stepped here looked,
+      refused_ends here looked
           words policy (event.Free actor handle) (answer.Denied rule) (λ w h g. refl)
           (λ w h g. ap (λ (o : Option Rule). reason_by o
           ((heap_view number records policy w h g items).holds handle.place.segment) h) e),

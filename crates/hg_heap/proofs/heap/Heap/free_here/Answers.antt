@@ -34,12 +34,9 @@ close_block-closed-requires g c = let w = g.S.SlotWords in
 pub invariant_of-self : goal.invariant_of-self
 invariant_of-self g c = let w = g.S.SlotWords in let d = c.in-Err.ensures.denied in let s =
     c.settled.ensures in
-    heap_right w.number w.records w.shows w.steps c.self.inside.segments.items c.in-Some.found d.0
-    c.args.handle.place c.index_mut-segment.result.now c.close_block-closed.new.segment
-    (found_of w.number c.self.inside.segments.items c.args.handle.place.segment c.in-Some.found
+    heap_right (found_of w.number c.self.inside.segments.items c.args.handle.place.segment c.in-Some.found
     c.index_mut-segment.result.now (rw (← c.self.view_is) at c.in-Some.ensures.some)
-    c.index_mut-segment.ensures.value)
-    d.1 _ _ _ _ c.self.invariant
+    c.index_mut-segment.ensures.value) d.1 _ _ _ _ c.self.invariant
     (record {
       lists = s.lists;
       sizes = s.sizes;
@@ -77,12 +74,9 @@ returns-in-Err-clause-judged g c = let w = g.S.SlotWords in let d = c.in-Err.ens
       d.0,
       c.in-Err.rule,
       refl,
-      stepped w.number w.records w.shows w.steps c.self.inside.segments.items c.in-Some.found d.0
-          c.args.handle.place c.index_mut-segment.result.now c.close_block-closed.new.segment
-          (found_of w.number c.self.inside.segments.items c.args.handle.place.segment
+      stepped (found_of w.number c.self.inside.segments.items c.args.handle.place.segment
           c.in-Some.found c.index_mut-segment.result.now
-          (rw (← c.self.view_is) at c.in-Some.ensures.some) c.index_mut-segment.ensures.value)
-          d.1,
+          (rw (← c.self.view_is) at c.in-Some.ensures.some) c.index_mut-segment.ensures.value) d.1,
       judged_as w.number w.records w.shows w.steps g.met.S.SlotWords.fits c.args.policy.now
           c.args.actor.0 right.Free c.args.handle d.0 c.index_mut-segment.result.now
           (Some c.in-Err.rule) d.1.shown d.2,
@@ -90,19 +84,13 @@ returns-in-Err-clause-judged g c = let w = g.S.SlotWords in let d = c.in-Err.ens
 
 pub returns-in-Err-clause-kept : goal.returns-in-Err-clause-kept
 returns-in-Err-clause-kept g c = let w = g.S.SlotWords in let d = c.in-Err.ensures.denied in
-    rw (← c.self.view_is) (all_kept w.number w.records w.shows w.steps
-    c.self.inside.segments.items c.in-Some.found d.0 c.args.handle.place
-    c.index_mut-segment.result.now c.close_block-closed.new.segment
-    (found_of w.number c.self.inside.segments.items c.args.handle.place.segment c.in-Some.found
+    rw (← c.self.view_is) (all_kept (found_of w.number c.self.inside.segments.items c.args.handle.place.segment c.in-Some.found
     c.index_mut-segment.result.now (rw (← c.self.view_is) at c.in-Some.ensures.some)
     c.index_mut-segment.ensures.value) d.1 c.in-Err.ensures.words)
 
 pub returns-in-Err-clause-same_lists : goal.returns-in-Err-clause-same_lists
 returns-in-Err-clause-same_lists g c = let w = g.S.SlotWords in let d = c.in-Err.ensures.denied in
-    rw (← c.self.view_is) (heap_lists w.number w.records w.shows w.steps
-    c.self.inside.segments.items c.in-Some.found d.0 c.args.handle.place
-    c.index_mut-segment.result.now c.close_block-closed.new.segment
-    (found_of w.number c.self.inside.segments.items c.args.handle.place.segment c.in-Some.found
+    rw (← c.self.view_is) (heap_lists (found_of w.number c.self.inside.segments.items c.args.handle.place.segment c.in-Some.found
     c.index_mut-segment.result.now (rw (← c.self.view_is) at c.in-Some.ensures.some)
     c.index_mut-segment.ensures.value) d.1)
 

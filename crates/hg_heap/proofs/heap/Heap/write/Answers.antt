@@ -11,12 +11,9 @@ use Rattle.hg_heap.proofs.heap.Heap.write.Goals as goal
 pub invariant_of-self : goal.invariant_of-self
 invariant_of-self g c = let w = g.S.SlotWords in let r = c.write_word-written.ensures.wrote in
     let s = c.settled.ensures in
-    heap_right w.number w.records w.shows w.steps c.self.inside.segments.items c.in-Some.found r.0
-    c.args.handle.place c.index_mut-segment.result.now c.write_word-written.new.segment
-    (found_of w.number c.self.inside.segments.items c.args.handle.place.segment c.in-Some.found
+    heap_right (found_of w.number c.self.inside.segments.items c.args.handle.place.segment c.in-Some.found
     c.index_mut-segment.result.now (rw (← c.self.view_is) at c.in-Some.ensures.some)
-    c.index_mut-segment.ensures.value)
-    r.1 _ _ _ _ c.self.invariant
+    c.index_mut-segment.ensures.value) r.1 _ _ _ _ c.self.invariant
     (record {
       lists = s.lists;
       sizes = s.sizes;
@@ -46,18 +43,14 @@ returns g c = let w = g.S.SlotWords in let r = c.write_word-written.ensures.wrot
       r.1 c.write_word-written.result r.2 c.write_word-written.ensures.err
       c.write_word-written.ensures.ok c.write_word-written.ensures.others);
   lists = rw (← c.self.view_is)
-      (heap_lists w.number w.records w.shows w.steps c.self.inside.segments.items c.in-Some.found
-      r.0 c.args.handle.place c.index_mut-segment.result.now c.write_word-written.new.segment
-      (found_of w.number c.self.inside.segments.items c.args.handle.place.segment c.in-Some.found
+      (heap_lists (found_of w.number c.self.inside.segments.items c.args.handle.place.segment c.in-Some.found
       c.index_mut-segment.result.now (rw (← c.self.view_is) at c.in-Some.ensures.some)
       c.index_mut-segment.ensures.value) r.1);
   queues = ap (λ h. h.queues) c.self.view_is;
   here = λ _. never_elsewhere _ _ c.args.index _ c.write_word-written.result r.2;
   judged = λ _. rw (← c.self.view_is) (
     r.0,
-    stepped w.number w.records w.shows w.steps c.self.inside.segments.items c.in-Some.found r.0
-        c.args.handle.place c.index_mut-segment.result.now c.write_word-written.new.segment
-        (found_of w.number c.self.inside.segments.items c.args.handle.place.segment c.in-Some.found
+    stepped (found_of w.number c.self.inside.segments.items c.args.handle.place.segment c.in-Some.found
         c.index_mut-segment.result.now (rw (← c.self.view_is) at c.in-Some.ensures.some)
         c.index_mut-segment.ensures.value) r.1,
     judged_as w.number w.records w.shows w.steps g.met.S.SlotWords.fits c.args.policy.now
@@ -66,16 +59,12 @@ returns g c = let w = g.S.SlotWords in let r = c.write_word-written.ensures.wrot
         (sym (ap rule_in r.2 ∙ rule_reached _ _ c.args.index _)),
   );
   kept = rw (← c.self.view_is) (on_err _ c.write_word-written.ensures.err
-      (all_kept w.number w.records w.shows w.steps c.self.inside.segments.items c.in-Some.found
-      r.0 c.args.handle.place c.index_mut-segment.result.now c.write_word-written.new.segment
-      (found_of w.number c.self.inside.segments.items c.args.handle.place.segment c.in-Some.found
+      (all_kept (found_of w.number c.self.inside.segments.items c.args.handle.place.segment c.in-Some.found
       c.index_mut-segment.result.now (rw (← c.self.view_is) at c.in-Some.ensures.some)
       c.index_mut-segment.ensures.value) r.1));
   wrote = rw (← c.self.view_is) (on_ok _ c.write_word-written.ensures.ok
       c.write_word-written.ensures.others
-      (wrote w.number w.records w.shows w.steps c.self.inside.segments.items c.in-Some.found
-      r.0 c.args.handle.place c.index_mut-segment.result.now c.write_word-written.new.segment
-      (found_of w.number c.self.inside.segments.items c.args.handle.place.segment c.in-Some.found
+      (wrote (found_of w.number c.self.inside.segments.items c.args.handle.place.segment c.in-Some.found
       c.index_mut-segment.result.now (rw (← c.self.view_is) at c.in-Some.ensures.some)
       c.index_mut-segment.ensures.value) r.1 c.args.index c.args.value));
 }

@@ -1,20 +1,17 @@
-use Rattle.std.proofs.Common.{◌≡◌, ◌-◌, [], ◌∷◌, true, false, not, is_some, Some, None, refl, sym, ap}
+use Rattle.std.proofs.Common.{◌≡◌, ◌-◌, [], ◌∷◌, not, is_some, Some, None, refl, sym, ap}
 use Rattle.std.proofs.Common.{◌∙◌, arith}
 use Rattle.hg_place.specs.declared.Right.TheVariants as right
 use Rattle.hg_place.specs.Lives.{word_generation, IsLiveWord}
-use Rattle.hg_heap.specs.Held.{is_held}
 use Rattle.hg_heap.specs.Ties.{shown_at}
 use Rattle.hg_heap.proofs.Looking.{denied_by, allowed_by}
 use Rattle.hg_heap.proofs.Options.{none_is, some_of}
 use Rattle.hg_machine.specs.declared.Answer.TheVariants as answer
 use Rattle.hg_machine.specs.declared.Event.TheVariants as event
 use Rattle.hg_machine.specs.Policy.{arena_of}
-use Rattle.hg_table.specs.declared.segment.UnnamedSegment.{UnnamedSegment}
 use Rattle.hg_table.specs.Seats.{part_on}
 use Rattle.hg_table.proofs.Knowing.{itself}
 use Rattle.hg_table.proofs.Told.{is_ended}
 use Rattle.hg_table.proofs.WordSteps.{freed_word_after}
-use Rattle.hg_worker.specs.Had.{Had}
 use Rattle.hg_worker.specs.Judged.{rule_of}
 use Rattle.hg_worker.specs.Seats.{number_in, records_in, part_of_seat}
 use Rattle.hg_worker.specs.Seen.{word_of, Decided, Looked}
@@ -25,7 +22,7 @@ use Rattle.hg_worker.proofs.Frees.{free_parted, own_steps_twice}
 use Rattle.hg_worker.proofs.Hands.{own_saw, saw_freed, knows_new}
 use Rattle.hg_worker.proofs.Judged.{judged_by}
 use Rattle.hg_worker.proofs.Seats.{machines_unseen, machines_looked, machines_shown}
-use Rattle.hg_worker.proofs.Steps.{no_step, own_looks, own_steps, seats_stay, looked_ends}
+use Rattle.hg_worker.proofs.Steps.{no_step, own_looked, own_steps, seats_stay, looked_ends}
 use Rattle.hg_worker.proofs.Tables.{same_together, same_words}
 use Rattle.hg_worker.proofs.Workers.{held_by, whole_of}
 use Rattle.hg_worker.proofs.worker.Worker.free_away.Given.{Over}
@@ -234,7 +231,7 @@ invariant_of-inner-2 g c =
       of = s.of;
       together = same_together s.heap.segments (c.part.ensures.same ∙
           c.look-word.ensures.same) s.together;
-      reach = within_reach s.policy c.args.handle 
+      reach = within_reach s.policy c.args.handle
           (ap is_some (sym c.arena_of.ensures) ∙ (c.is_none.ensures ∙ ap not c.if-is_none.false));
       known =
           let live = undenied_live s.policy c.args.actor.0 right.Free c.args.handle
@@ -255,7 +252,7 @@ returns-clause-freed g c =
     let old = had_in s in
     let place = c.args.handle.place in
     let word = c.look-word.result in
-    let arena = some_of (arena_of s.policy place.segment) 
+    let arena = some_of (arena_of s.policy place.segment)
     (ap is_some (sym c.arena_of.ensures) ∙ (c.is_none.ensures ∙ ap not c.if-is_none.false)) in
     let ties = free_parted number_in records_in old word c.args.actor c.args.handle s.below
     (held_by _ c.deref_mut-inner.ensures.value c.requires) (allowed_by _ c.in_default.ensures) (none_is s.hand (sym c.if-is_some.ensures)) in (
