@@ -71,15 +71,25 @@ module _ {S : Type 0} (number : S → ℕ) (records : S → List Standing) (show
     pub opened : standing_at (records one.slots) (slot page index) ≡ Open generation owner
     pub home : WentHome records shows steps page index one after
 
-  pub back_of : (items : List (Kept S)) (found segment page index owner : ℕ) (one after : Kept S)
+-- what a step that takes nothing leaves
+passed_records : {S : Type 0} (records : S → List Standing) (shows : S → ℕ → ℕ → Type 0)
+    (steps : S → ℕ → ℕ → ℕ → S → Type 0) (place : ℕ) (s t : S)
+    → Passed records shows steps place s t → records t ≡ records s
+passed_records records shows steps place s t p =
+    ⊎_elim (λ home. ap records home.1) (λ lives. lives.4) p
+
+module _ {S : Type 0} {number : S → ℕ} {records : S → List Standing} {shows : S → ℕ → ℕ → Type 0}
+    {steps : S → ℕ → ℕ → ℕ → S → Type 0} where
+  pub back_of : {items : List (Kept S)} {found segment page index owner : ℕ} {one after : Kept S}
       → Found number items segment found one
       → ((k : Kept S) → Contains items k → IsSettled records k)
       → length (records one.slots) ≡ SEGMENT_PLACES
       → ((at : ℕ) → at < SEGMENT_PLACES → IsSane (standing_at (records one.slots) at))
       → page < SEGMENT_PAGES → index < PAGE_PLACES → number after.slots ≡ number one.slots
-      → Brought page index owner one after
-      → CameBack items found segment page index owner one after
-  back_of items found segment page index owner one after here settled sized sane low small same o =
+      → Brought number records shows steps page index owner one after
+      → CameBack number records shows steps items found segment page index owner one after
+  back_of {items} {found} {page = page} {index = index} {owner = owner} {one = one} here settled
+      sized sane low small same o =
       record {
         here = here;
         was = settled one (Contains-get items found one here.at);
@@ -94,8 +104,8 @@ module _ {S : Type 0} (number : S → ℕ) (records : S → List Standing) (show
         home = o.2;
       }
 
-  module _ (items : List (Kept S)) (found segment page index owner : ℕ) (one after : Kept S)
-      (h : CameBack items found segment page index owner one after) where
+  module _ {items : List (Kept S)} {found segment page index owner : ℕ} {one after : Kept S}
+      (h : CameBack number records shows steps items found segment page index owner one after) where
     abbrev at : ℕ
     at = slot page index
 
@@ -224,12 +234,7 @@ module _ {S : Type 0} (number : S → ℕ) (records : S → List Standing) (show
               (charge_lowered records items found one after at (8 * size) owner charges r.counted
               h.owned r.charged h.generation h.generation place_change h.opened))
 
-  -- what a step that takes nothing leaves
-  passed_records : (place : ℕ) (s t : S) → Passed records shows steps place s t
-      → records t ≡ records s
-  passed_records place s t p = ⊎_elim (λ home. ap records home.1) (λ lives. lives.4) p
-
-  module _ (items : List (Kept S)) (found segment page index : ℕ) (one after : Kept S)
+  module _ {items : List (Kept S)} {found segment page index : ℕ} {one after : Kept S}
       (here : Found number items segment found one) (same : number after.slots ≡ number one.slots)
       (away : StayedAway records shows steps page index one after) where
     pub is_passed : (queues : List (List ℕ)) → IsPassed number records shows steps segment page
@@ -252,4 +257,4 @@ module _ {S : Type 0} (number : S → ℕ) (records : S → List Standing) (show
         (kind_same number one after same (ap (λ (k : Kept S). k.arena) away.rest)
         (ap (λ (k : Kept S). k.greatest) away.rest))
         (ap (λ (k : Kept S). k.classes) away.rest) (ap (λ (k : Kept S). k.lists) away.rest) records
-        (passed_records (slot page index) one.slots after.slots away.passed)
+        (passed_records records shows steps (slot page index) one.slots after.slots away.passed)

@@ -81,7 +81,7 @@ invariant_of-self g c =
       classes = c.settled.ensures.all.1;
       words = c.settled.ensures.all.2;
     } in
-    right_given _ _ _ _ _ _ _ _ _ _ _ p c.self.inside.queues c.requeue.new.queues
+    right_given p c.self.inside.queues c.requeue.new.queues
     c.is_full-is_full.result c.is_full-is_full.ensures.0 c.is_full-is_full.ensures.1
     c.requeue.ensures.requeued g.met.S.SlotWords.numbered g.met.S.SlotWords.sized
     c.self.inside.table.value c.self.inside.charges c.raise.new.self
@@ -112,9 +112,9 @@ returns-clause-opened g c =
       popped = i.popped;
       lists = i.lists;
     } in
-    rw (← c.self.view_is) (opened _ _ _ _ _ _ _ _ _ _ _ p i.step.0 g.S.SlotWords.shows
+    rw (← c.self.view_is) (opened p i.step.0 g.S.SlotWords.shows
     g.S.SlotWords.steps i.step.1 i.step.2 i.generation
-    (i.zero c.args.class (class_given _ _ _ _ _ _ _ _ _ _ _ p)) i.others)
+    (i.zero c.args.class (class_given p)) i.others)
 
 pub returns-clause-lists : goal.returns-clause-lists
 returns-clause-lists g c =
@@ -140,7 +140,7 @@ returns-clause-lists g c =
       popped = i.popped;
       lists = i.lists;
     } in
-    rw (← c.self.view_is) (given_out _ _ _ _ _ _ _ _ _ _ _ p)
+    rw (← c.self.view_is) (given_out p)
 
 pub returns-clause-queues : goal.returns-clause-queues
 returns-clause-queues g c =
@@ -166,6 +166,6 @@ returns-clause-queues g c =
       popped = i.popped;
       lists = i.lists;
     } in
-    rw (← c.self.view_is) (queues_given _ _ _ _ _ _ _ _ _ _ _ p c.self.inside.queues
+    rw (← c.self.view_is) (queues_given p c.self.inside.queues
     c.requeue.new.queues c.is_full-is_full.result c.is_full-is_full.ensures.0
     c.is_full-is_full.ensures.1 c.requeue.ensures.requeued)

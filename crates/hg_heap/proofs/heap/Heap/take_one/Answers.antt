@@ -2,7 +2,7 @@ use Rattle.std.proofs.Common.{◌≡◌, ◌∙◌, Some, sym, arith}
 use Rattle.hg_segment.specs.Kept.{class_at}
 use Rattle.hg_heap.specs.Settled.{IsSettled}
 use Rattle.hg_heap.proofs.Founds.{Found, found_of, number_is}
-use Rattle.hg_heap.proofs.CameBack.{CameBack, back_of, arena_below, owner_pays}
+use Rattle.hg_heap.proofs.CameBack.{back_of, arena_below, owner_pays}
 use Rattle.hg_heap.proofs.CameBack.{in_its_own, is_taken, right_back, is_passed, right_passed}
 use Rattle.hg_heap.proofs.heap.Heap.take_one.Goals as goal
 
@@ -28,8 +28,7 @@ invariant_of-self g c =
       classes = s.all.1;
       words = s.all.2;
     } in
-    right_passed w.number w.records w.shows w.steps items c.in-Some.found c.args.segment
-    c.args.page c.args.index one after here c.bring_home-owner.ensures.number
+    right_passed here c.bring_home-owner.ensures.number
     c.in_default-owner.ensures.away _ _ _ _ c.self.invariant settled
 
 pub returns-in_default-owner-clause-passed : goal.returns-in_default-owner-clause-passed
@@ -40,8 +39,7 @@ returns-in_default-owner-clause-passed g c =
     let here : Found w.number items c.args.segment c.in-Some.found one =
     found_of w.number items c.args.segment c.in-Some.found one
     (rw (← c.self.view_is) at c.in-Some.ensures.some) c.index_mut-segment.ensures.value in
-    rw (← c.self.view_is) (λ _. is_passed w.number w.records w.shows w.steps items c.in-Some.found
-    c.args.segment c.args.page c.args.index one c.bring_home-owner.new.segment here
+    rw (← c.self.view_is) (λ _. is_passed here
     c.bring_home-owner.ensures.number c.in_default-owner.ensures.away c.self.inside.queues)
 
 pub lower-requires-clause-left : goal.lower-requires-clause-left
@@ -56,16 +54,12 @@ lower-requires-clause-left g c =
     let here : Found w.number items c.args.segment c.in-Some.found one =
     found_of w.number items c.args.segment c.in-Some.found one
     (rw (← c.self.view_is) at c.in-Some.ensures.some) c.index_mut-segment.ensures.value in
-    let h : CameBack w.number w.records w.shows w.steps items c.in-Some.found c.args.segment
-    c.args.page c.args.index owner one after =
-    back_of w.number w.records w.shows w.steps items c.in-Some.found c.args.segment c.args.page
-    c.args.index owner one after here c.self.invariant.settled (m.sized one.slots)
+    let h = back_of here c.self.invariant.settled (m.sized one.slots)
     (m.sane one.slots) c.requires.page c.requires.index c.bring_home-owner.ensures.number
     c.in-Some-owner.ensures.home in
     let class : class_at after.classes c.args.page ≡ Some size =
     sym c.class_of.ensures ∙ c.in-Some-class_of.is in
-    owner_pays w.number w.records w.shows w.steps items c.in-Some.found c.args.segment
-    c.args.page c.args.index owner one after h size class c.self.inside.charges
+    owner_pays h size class c.self.inside.charges
     c.block_bytes.result c.self.inside.table.value c.self.inside.segments.cap
     c.self.inside.queues c.block_bytes.ensures.value c.self.invariant
 
@@ -97,14 +91,10 @@ requeue-requires-clause-arena g c =
     let here : Found w.number items c.args.segment c.in-Some.found one =
     found_of w.number items c.args.segment c.in-Some.found one
     (rw (← c.self.view_is) at c.in-Some.ensures.some) c.index_mut-segment.ensures.value in
-    let h : CameBack w.number w.records w.shows w.steps items c.in-Some.found c.args.segment
-    c.args.page c.args.index owner one after =
-    back_of w.number w.records w.shows w.steps items c.in-Some.found c.args.segment c.args.page
-    c.args.index owner one after here c.self.invariant.settled (m.sized one.slots)
+    let h = back_of here c.self.invariant.settled (m.sized one.slots)
     (m.sane one.slots) c.requires.page c.requires.index c.bring_home-owner.ensures.number
     c.in-Some-owner.ensures.home in
-    arena_below w.number w.records w.shows w.steps items c.in-Some.found c.args.segment
-    c.args.page c.args.index owner one after h c.arena-arena.result
+    arena_below h c.arena-arena.result
     c.arena-arena.ensures c.self.invariant.arenas
 
 pub requeue-requires-clause-its_own : goal.requeue-requires-clause-its_own
@@ -119,16 +109,12 @@ requeue-requires-clause-its_own g c =
     let here : Found w.number items c.args.segment c.in-Some.found one =
     found_of w.number items c.args.segment c.in-Some.found one
     (rw (← c.self.view_is) at c.in-Some.ensures.some) c.index_mut-segment.ensures.value in
-    let h : CameBack w.number w.records w.shows w.steps items c.in-Some.found c.args.segment
-    c.args.page c.args.index owner one after =
-    back_of w.number w.records w.shows w.steps items c.in-Some.found c.args.segment c.args.page
-    c.args.index owner one after here c.self.invariant.settled (m.sized one.slots)
+    let h = back_of here c.self.invariant.settled (m.sized one.slots)
     (m.sane one.slots) c.requires.page c.requires.index c.bring_home-owner.ensures.number
     c.in-Some-owner.ensures.home in
     let class : class_at after.classes c.args.page ≡ Some size =
     sym c.class_of.ensures ∙ c.in-Some-class_of.is in
-    in_its_own w.number w.records w.shows w.steps items c.in-Some.found c.args.segment
-    c.args.page c.args.index owner one after h size class c.arena-arena.result
+    in_its_own h size class c.arena-arena.result
     c.page_of.result c.arena-arena.ensures c.page_of.ensures.number c.self.inside.table.value
     c.self.inside.charges c.self.inside.segments.cap c.self.inside.queues c.self.invariant
 
@@ -144,10 +130,7 @@ invariant_of-self-2 g c =
     let here : Found w.number items c.args.segment c.in-Some.found one =
     found_of w.number items c.args.segment c.in-Some.found one
     (rw (← c.self.view_is) at c.in-Some.ensures.some) c.index_mut-segment.ensures.value in
-    let h : CameBack w.number w.records w.shows w.steps items c.in-Some.found c.args.segment
-    c.args.page c.args.index owner one after =
-    back_of w.number w.records w.shows w.steps items c.in-Some.found c.args.segment c.args.page
-    c.args.index owner one after here c.self.invariant.settled (m.sized one.slots)
+    let h = back_of here c.self.invariant.settled (m.sized one.slots)
     (m.sane one.slots) c.requires.page c.requires.index c.bring_home-owner.ensures.number
     c.in-Some-owner.ensures.home in
     let class : class_at after.classes c.args.page ≡ Some size =
@@ -165,8 +148,7 @@ invariant_of-self-2 g c =
       classes = s.all.1;
       words = s.all.2;
     } in
-    right_back w.number w.records w.shows w.steps items c.in-Some.found c.args.segment
-    c.args.page c.args.index owner one after h size class c.arena-arena.result
+    right_back h size class c.arena-arena.result
     c.page_of.result c.arena-arena.ensures c.page_of.ensures.number c.self.inside.queues
     c.requeue.new.queues c.is_full-is_full.result c.is_full-is_full.ensures.0
     c.is_full-is_full.ensures.1 c.requeue.ensures.requeued settled m.numbered
@@ -185,16 +167,12 @@ returns-clause-taken g c =
     let here : Found w.number items c.args.segment c.in-Some.found one =
     found_of w.number items c.args.segment c.in-Some.found one
     (rw (← c.self.view_is) at c.in-Some.ensures.some) c.index_mut-segment.ensures.value in
-    let h : CameBack w.number w.records w.shows w.steps items c.in-Some.found c.args.segment
-    c.args.page c.args.index owner one after =
-    back_of w.number w.records w.shows w.steps items c.in-Some.found c.args.segment c.args.page
-    c.args.index owner one after here c.self.invariant.settled (m.sized one.slots)
+    let h = back_of here c.self.invariant.settled (m.sized one.slots)
     (m.sane one.slots) c.requires.page c.requires.index c.bring_home-owner.ensures.number
     c.in-Some-owner.ensures.home in
     let class : class_at after.classes c.args.page ≡ Some size =
     sym c.class_of.ensures ∙ c.in-Some-class_of.is in
-    rw (← c.self.view_is) (λ _. is_taken w.number w.records w.shows w.steps items c.in-Some.found
-    c.args.segment c.args.page c.args.index owner one after h size class
+    rw (← c.self.view_is) (λ _. is_taken h size class
     c.arena-arena.result c.page_of.result c.arena-arena.ensures c.page_of.ensures.number
     c.self.inside.queues c.requeue.new.queues c.is_full-is_full.result
     c.is_full-is_full.ensures.0 c.is_full-is_full.ensures.1 c.requeue.ensures.requeued)
