@@ -113,7 +113,8 @@ module _ {S : Type 0} (number : S → ℕ) (records : S → List Standing) where
 
 module _ {S : Type 0} {number : S → ℕ} {records : S → List Standing} where
   module _ {items : List (Kept S)} {found arena size page owner : ℕ} {one after : Kept S}
-      {handle : Handle} (h : Gives number records items found arena size page owner one after handle) where
+      {handle : Handle} (h : Gives number records items found arena size page owner one after
+      handle) where
     abbrev at : ℕ
     at = page % SEGMENT_PAGES
 

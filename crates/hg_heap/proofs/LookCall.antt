@@ -62,7 +62,8 @@ module _ {S : Type 0} (number : S → ℕ) (records : S → List Standing) (show
   row_tied : (row : Row) → denial ≡ None
       → IsRowOf place word (block_at after.words after.classes place.page place.index) row
       → TiedSo (answer.Listed row)
-  row_tied row none is = ends here looked words policy (event.Look actor place) (answer.Listed row) (λ w h g below.
+  row_tied row none is = ends here looked words policy (event.Look actor place) (answer.Listed row)
+      (λ w h g below.
       let view = heap_view number records policy w h g items in
       let f = fits one.slots (slot_of place) word (slot_below place) looked.shown in
       let st = standing_at (records one.slots) (slot_of place) in

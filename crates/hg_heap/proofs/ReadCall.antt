@@ -59,7 +59,8 @@ module _ {S : Type 0} (number : S → ℕ) (records : S → List Standing) (show
 
   read_by : (o : Option Rule) → denial ≡ o
       → TiedSo (read_answer (reached o block index (slice_index block index)))
-  read_by (Some rule) e = refused_ends here looked words policy (event.Read actor handle index) (answer.Denied rule)
+  read_by (Some rule) e = refused_ends here looked words policy (event.Read actor handle index)
+      (answer.Denied rule)
       (λ w h g. refl)
       (denied_reach fits policy actor.0 right.Read handle here looked index rule e)
   read_by None e = elim (cases_lt index (length block))

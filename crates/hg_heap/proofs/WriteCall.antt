@@ -127,14 +127,16 @@ module _ {S : Type 0} (number : S → ℕ) (records : S → List Standing) (show
         | inr ge ↦ subst (λ (b : Bool). Wrote (cond b (Ok (tt {0})) (Err refused.OutOfBlock))
             → TiedSo (done_answer (cond b (Ok (tt {0})) (Err refused.OutOfBlock))))
             (sym (le-ltb index (length block) ge))
-            (λ wrote. refused_ends here looked wrote.0 policy (event.Write actor handle index value) answer.OutOfBlock
+            (λ wrote. refused_ends here looked wrote.0 policy (event.Write actor handle index
+            value) answer.OutOfBlock
             (λ w h g. refl)
             (outside_reach fits policy actor.0 right.Write handle here looked index e ge))
       ]
 
   write_by : (o : Option Rule) → denial ≡ o → Wrote (reached o block index (tt {0}))
       → TiedSo (done_answer (reached o block index (tt {0})))
-  write_by (Some rule) e wrote = refused_ends here looked wrote.0 policy (event.Write actor handle index value)
+  write_by (Some rule) e wrote = refused_ends here looked wrote.0 policy (event.Write actor handle
+      index value)
       (answer.Denied rule) (λ w h g. refl)
       (denied_reach fits policy actor.0 right.Write handle here looked index rule e)
   write_by None e wrote = write_undenied e wrote

@@ -12,8 +12,10 @@ size_of-requires-clause-open g c = let w = g.S.SlotWords in let l = c.look-word.
       generation = c.listed_generation.result;
       given_out =
           subst (λ n. 1 ≤ n) (sym c.listed_generation.ensures) (omega arith);
-    }) (looked_of w.number w.records w.shows w.steps c.args.place c.look-word.result c.args.segment.now
-    c.look-word.new.self l.shown l.step l.number l.records l.others) (allowed_by _ (sym c.in_default.is ∙ c.judge.ensures))
+    }) (looked_of w.number w.records w.shows w.steps c.args.place c.look-word.result
+    c.args.segment.now
+    c.look-word.new.self l.shown l.step l.number l.records l.others) (allowed_by _ (sym
+    c.in_default.is ∙ c.judge.ensures))
 
 pub returns-in-Denied : goal.returns-in-Denied
 returns-in-Denied g c = let w = g.S.SlotWords in let l = c.look-word.ensures in
@@ -45,12 +47,13 @@ returns g c = let w = g.S.SlotWords in let l = c.look-word.ensures in
           ∙ allowed_by _ (sym c.in_default.is ∙ c.judge.ensures);
       row = record {
         stands = refl;
-        generation = generation_shown g.met.S.SlotWords.fits c.args.policy.now c.args.actor.0 right.List (record {
-          place = c.args.place;
-          generation = c.listed_generation.result;
-          given_out =
-              subst (λ n. 1 ≤ n) (sym c.listed_generation.ensures) (omega arith);
-        }) looked
+        generation = generation_shown g.met.S.SlotWords.fits c.args.policy.now c.args.actor.0
+            right.List (record {
+              place = c.args.place;
+              generation = c.listed_generation.result;
+              given_out =
+                  subst (λ n. 1 ≤ n) (sym c.listed_generation.ensures) (omega arith);
+            }) looked
             (allowed_by _ (sym c.in_default.is ∙ c.judge.ensures));
         owner = c.word_owner.ensures.value;
         bytes = ap (λ (n : ℕ). 8 * n) (c.from.ensures ∙ c.size_of.ensures.words);

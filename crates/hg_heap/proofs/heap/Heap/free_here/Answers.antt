@@ -1,4 +1,5 @@
-use Rattle.std.proofs.Common.{◌≡◌, ◌∙◌, ◌*◌, ◌-◌, ℕ, Bool, not, Some, None, sym, refl, ap, slice_set}
+use Rattle.std.proofs.Common.{◌≡◌, ◌∙◌, ◌*◌, ◌-◌, ℕ, Bool, not, Some, None, sym, refl, ap}
+use Rattle.std.proofs.Common.{slice_set}
 use Rattle.std.proofs.Common.{slice_index}
 use Rattle.std.proofs.lemmas.Bool.{true≢false}
 use Rattle.std.proofs.lemmas.List.{length-set}
@@ -34,7 +35,8 @@ close_block-closed-requires g c = let w = g.S.SlotWords in
 pub invariant_of-self : goal.invariant_of-self
 invariant_of-self g c = let w = g.S.SlotWords in let d = c.in-Err.ensures.denied in let s =
     c.settled.ensures in
-    heap_right (found_of w.number c.self.inside.segments.items c.args.handle.place.segment c.in-Some.found
+    heap_right (found_of w.number c.self.inside.segments.items c.args.handle.place.segment
+    c.in-Some.found
     c.index_mut-segment.result.now (rw (← c.self.view_is) at c.in-Some.ensures.some)
     c.index_mut-segment.ensures.value) d.1 _ _ _ _ c.self.invariant
     (record {
@@ -84,13 +86,15 @@ returns-in-Err-clause-judged g c = let w = g.S.SlotWords in let d = c.in-Err.ens
 
 pub returns-in-Err-clause-kept : goal.returns-in-Err-clause-kept
 returns-in-Err-clause-kept g c = let w = g.S.SlotWords in let d = c.in-Err.ensures.denied in
-    rw (← c.self.view_is) (all_kept (found_of w.number c.self.inside.segments.items c.args.handle.place.segment c.in-Some.found
+    rw (← c.self.view_is) (all_kept (found_of w.number c.self.inside.segments.items
+    c.args.handle.place.segment c.in-Some.found
     c.index_mut-segment.result.now (rw (← c.self.view_is) at c.in-Some.ensures.some)
     c.index_mut-segment.ensures.value) d.1 c.in-Err.ensures.words)
 
 pub returns-in-Err-clause-same_lists : goal.returns-in-Err-clause-same_lists
 returns-in-Err-clause-same_lists g c = let w = g.S.SlotWords in let d = c.in-Err.ensures.denied in
-    rw (← c.self.view_is) (heap_lists (found_of w.number c.self.inside.segments.items c.args.handle.place.segment c.in-Some.found
+    rw (← c.self.view_is) (heap_lists (found_of w.number c.self.inside.segments.items
+    c.args.handle.place.segment c.in-Some.found
     c.index_mut-segment.result.now (rw (← c.self.view_is) at c.in-Some.ensures.some)
     c.index_mut-segment.ensures.value) d.1)
 
