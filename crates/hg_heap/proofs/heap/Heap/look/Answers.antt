@@ -40,7 +40,8 @@ returns g c =
           (stepped here r.looked);
       ties = rw (← c.self.view_is)
           (look_tied w.number w.records w.shows w.steps g.met.S.SlotWords.fits c.args.policy.now
-          c.self.inside.segments.items c.in-Some.found c.row_of-row.new.shown c.args.actor c.args.place
+          c.self.inside.segments.items c.in-Some.found c.row_of-row.new.shown c.args.actor
+          c.args.place
           c.index_mut-segment.result.now c.row_of-row.new.segment
           here
           r.looked r.words c.row_of-row.result r.none r.allowed r.row);

@@ -40,7 +40,8 @@ returns g c =
     c.index_mut-segment.ensures.value in
     let r = c.read_word-value.ensures.read in record {
       elsewhere = λ e. absurd (true≢false
-          (sym (found_held w.number c.args.self.now.segments c.args.handle.place.segment c.in-Some.found
+          (sym (found_held w.number c.args.self.now.segments c.args.handle.place.segment
+          c.in-Some.found
           c.in-Some.ensures.some) ∙ e));
       held = λ _. rw (← c.self.view_is)
           (read_ends w.number w.records w.shows w.steps g.met.S.SlotWords.fits c.args.policy.now

@@ -109,7 +109,8 @@ returns-in-Denied-clause-refused g c =
     let looked = own_looked number_in part_of_seat c.args.handle.place c.look-word.result old
     (record old { own = part_on c.look-word.new.self.badge })
     (ap is_some (sym c.arena_of.ensures) ∙ (c.is_none.ensures ∙ ap not c.if-is_none.false))
-    (held_by _ c.deref_mut-inner.ensures.value c.requires) refl c.look-word.ensures.shown c.look-word.ensures.step in
+    (held_by _ c.deref_mut-inner.ensures.value c.requires) refl c.look-word.ensures.shown
+    c.look-word.ensures.step in
     let ties = free_denied number_in records_in old shown s.below c.args.actor c.args.handle
     refl c.in-Denied.rule (denied_by _ c.in-Denied.rule c.in-Denied.ensures) in (
       shown,
@@ -129,7 +130,8 @@ returns-then-is_some-clause-refused g c =
     let looked = own_looked number_in part_of_seat c.args.handle.place c.look-word.result old
     (record old { own = part_on c.look-word.new.self.badge })
     (ap is_some (sym c.arena_of.ensures) ∙ (c.is_none.ensures ∙ ap not c.if-is_none.false))
-    (held_by _ c.deref_mut-inner.ensures.value c.requires) refl c.look-word.ensures.shown c.look-word.ensures.step in
+    (held_by _ c.deref_mut-inner.ensures.value c.requires) refl c.look-word.ensures.shown
+    c.look-word.ensures.step in
     let ties = free_busy number_in records_in old shown s.below c.args.actor c.args.handle
     refl (held_by _ c.deref_mut-inner.ensures.value c.requires) (allowed_by _ c.in_default.ensures)
     (hand_full s.hand (sym c.if-is_some.ensures)) in (
@@ -255,7 +257,8 @@ returns-clause-freed g c =
     let arena = some_of (arena_of s.policy place.segment)
     (ap is_some (sym c.arena_of.ensures) ∙ (c.is_none.ensures ∙ ap not c.if-is_none.false)) in
     let ties = free_parted number_in records_in old word c.args.actor c.args.handle s.below
-    (held_by _ c.deref_mut-inner.ensures.value c.requires) (allowed_by _ c.in_default.ensures) (none_is s.hand (sym c.if-is_some.ensures)) in (
+    (held_by _ c.deref_mut-inner.ensures.value c.requires) (allowed_by _ c.in_default.ensures)
+    (none_is s.hand (sym c.if-is_some.ensures)) in (
       word,
       ((live g c).0, decided g c),
       machines_shown old _ place word arena.0
@@ -290,7 +293,8 @@ returns-in-Denied-clause-judged g c =
     let looked = own_looked number_in part_of_seat c.args.handle.place c.look-word.result old
     (record old { own = part_on c.look-word.new.self.badge })
     (ap is_some (sym c.arena_of.ensures) ∙ (c.is_none.ensures ∙ ap not c.if-is_none.false))
-    (held_by _ c.deref_mut-inner.ensures.value c.requires) refl c.look-word.ensures.shown c.look-word.ensures.step in (
+    (held_by _ c.deref_mut-inner.ensures.value c.requires) refl c.look-word.ensures.shown
+    c.look-word.ensures.step in (
       shown,
       looked,
       judged_by number_in part_of_seat c.deref_mut-inner.result.now.policy c.args.actor.0
@@ -307,7 +311,8 @@ returns-then-is_some-clause-judged g c =
     let looked = own_looked number_in part_of_seat c.args.handle.place c.look-word.result old
     (record old { own = part_on c.look-word.new.self.badge })
     (ap is_some (sym c.arena_of.ensures) ∙ (c.is_none.ensures ∙ ap not c.if-is_none.false))
-    (held_by _ c.deref_mut-inner.ensures.value c.requires) refl c.look-word.ensures.shown c.look-word.ensures.step in (
+    (held_by _ c.deref_mut-inner.ensures.value c.requires) refl c.look-word.ensures.shown
+    c.look-word.ensures.step in (
       shown,
       looked,
       judged_by number_in part_of_seat c.deref_mut-inner.result.now.policy c.args.actor.0
@@ -350,23 +355,28 @@ returns-then-is_none-clause-few g c =
 pub returns-in-Denied-clause-few : goal.returns-in-Denied-clause-few
 returns-in-Denied-clause-few g c =
     rw (sym c.deref_mut-inner.ensures.value)
-    (own_steps number_in part_of_seat 2 c.args.handle.place (c.look-word.result ∷ []) (had_in c.deref_mut-inner.result.now)
+    (own_steps number_in part_of_seat 2 c.args.handle.place (c.look-word.result ∷ []) (had_in
+    c.deref_mut-inner.result.now)
     (record (had_in c.deref_mut-inner.result.now) { own = part_on c.look-word.new.self.badge })
-    (held_by _ c.deref_mut-inner.ensures.value c.requires) refl (omega arith) c.look-word.ensures.step.1)
+    (held_by _ c.deref_mut-inner.ensures.value c.requires) refl (omega arith)
+    c.look-word.ensures.step.1)
 
 pub returns-then-is_some-clause-few : goal.returns-then-is_some-clause-few
 returns-then-is_some-clause-few g c =
     rw (sym c.deref_mut-inner.ensures.value)
-    (own_steps number_in part_of_seat 2 c.args.handle.place (c.look-word.result ∷ []) (had_in c.deref_mut-inner.result.now)
+    (own_steps number_in part_of_seat 2 c.args.handle.place (c.look-word.result ∷ []) (had_in
+    c.deref_mut-inner.result.now)
     (record (had_in c.deref_mut-inner.result.now) { own = part_on c.look-word.new.self.badge })
-    (held_by _ c.deref_mut-inner.ensures.value c.requires) refl (omega arith) c.look-word.ensures.step.1)
+    (held_by _ c.deref_mut-inner.ensures.value c.requires) refl (omega arith)
+    c.look-word.ensures.step.1)
 
 pub returns-in-Err-clause-few : goal.returns-in-Err-clause-few
 returns-in-Err-clause-few g c =
     rw (sym c.deref_mut-inner.ensures.value)
     (own_steps_twice number_in part_of_seat c.args.handle.place c.look-word.result c.in-Err.found
     (had_in c.deref_mut-inner.result.now)
-    (record (had_in c.deref_mut-inner.result.now) { own = part_on c.part.new.self.badge }) (part_on c.look-word.new.self.badge) (held_by _ c.deref_mut-inner.ensures.value c.requires) refl
+    (record (had_in c.deref_mut-inner.result.now) { own = part_on c.part.new.self.badge }) (part_on
+    c.look-word.new.self.badge) (held_by _ c.deref_mut-inner.ensures.value c.requires) refl
     c.look-word.ensures.step.1 c.in-Err.ensures.err.2.1)
 
 pub returns-clause-few : goal.returns-clause-few
