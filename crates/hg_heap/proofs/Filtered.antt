@@ -1,6 +1,7 @@
 -- Lists that are filtered, one by one and all lists of a list.
 use Rattle.std.proofs.Common.{◌≡◌, ⊎_elim, ℕ, suc, ◌&&◌, inl, inr, Bool, true}
-use Rattle.std.proofs.Common.{cond, not, ◌∷◌, ◌++◌, [], List, map, length, filter, Contains, slice_index_or}
+use Rattle.std.proofs.Common.{cond, not, ◌∷◌, ◌++◌, [], List, map, length, filter, Contains}
+use Rattle.std.proofs.Common.{slice_index_or}
 use Rattle.std.proofs.Common.{refl, sym, ap, ◌∙◌, arith}
 use Rattle.std.proofs.lemmas.Bool.{cases_Bool, cases_lt, true≢false}
 use Rattle.std.proofs.lemmas.List.{length-map, get_or-map, get_or_past}

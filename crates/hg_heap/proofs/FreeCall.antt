@@ -87,8 +87,8 @@ module _ {S : Type 0} (number : S → ℕ) (records : S → List Standing) (show
         → DeniedEnds rule (slice_set items found after)
     denied_ends word one after here looked words rule e = (
       word,
-      stepped number records shows steps items found word handle.place one after here looked,
-      refused_ends number records shows steps items found word handle.place one after here looked
+      stepped here looked,
+      refused_ends here looked
           words policy (event.Free actor handle) (answer.Denied rule) (λ w h g. refl)
           (λ w h g. ap (λ (o : Option Rule). reason_by o
           ((heap_view number records policy w h g items).holds handle.place.segment) h) e),
@@ -106,7 +106,8 @@ module _ {S : Type 0} (number : S → ℕ) (records : S → List Standing) (show
 -- by what stands of the segment in the heap
 pub frees_of : {S : Type 0} {number : S → ℕ} {records : S → List Standing}
     {shows : S → ℕ → ℕ → Type 0} {steps : S → ℕ → ℕ → ℕ → S → Type 0} {items : List (Kept S)}
-    {found word : ℕ} {place : Place} {one after : Kept S} → Found number items place.segment found one
+    {found word : ℕ} {place : Place} {one after : Kept S} → Found number items place.segment found
+    one
     → ((k : Kept S) → Contains items k → IsSettled records k) → length (records one.slots) ≡ 8192
     → FitsLaw number records shows steps → Closed number records shows steps place word one after
     → Frees number records shows steps items found word place one after
@@ -273,9 +274,11 @@ module _ {S : Type 0} {number : S → ℕ} {records : S → List Standing} {show
         let p = number_of handle.place in
         let held = held_found number records items handle.place found one h.here in
         let none : refusal_in view (slot_in word) (event.Free actor handle) ≡ None =
-        ap (λ (o : Option Rule). reason_by number records shows steps policy items found actor handle o
+        ap (λ (o : Option Rule). reason_by number records shows steps policy items found actor
+        handle o
         (view.holds handle.place.segment) hand) undenied
-        ∙ ap (λ (b : Bool). reason_by number records shows steps policy items found actor handle None b hand) held in
+        ∙ ap (λ (b : Bool). reason_by number records shows steps policy items found actor handle
+        None b hand) held in
         let home = home_now h in
         let standing : Home handle.generation ≡ standing_at (records after.slots)
         (slot_of handle.place) = ap Home generation_freed ∙ sym home in

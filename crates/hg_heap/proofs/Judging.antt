@@ -113,42 +113,43 @@ module _ {S : Type 0} (number : S → ℕ) (records : S → List Standing) (show
         given_out = omega arith;
       }) word one None shown allowed).live refl
 
-  module _ (items : List (Kept S)) (found word : ℕ) (place : Place) (one after : Kept S)
-      (here : Found number items place.segment found one)
-      (looked : Looked number records shows steps place word one after) where
-    -- without a write, each segment is as it was
-    pub all_kept : after.words ≡ one.words → KeepsAll number records items (slice_set items found
-        after)
-    all_kept words = map_same (rest_of number records) items found one after here.at
-        (rest_same number records one after looked.same_number looked.same_records words
-        looked.rest)
+module _ {S : Type 0} {number : S → ℕ} {records : S → List Standing} {shows : S → ℕ → ℕ → Type 0}
+    {steps : S → ℕ → ℕ → ℕ → S → Type 0} {items : List (Kept S)} {found word : ℕ} {place : Place}
+    {one after : Kept S} (here : Found number items place.segment found one)
+    (looked : Looked number records shows steps place word one after) where
+  -- without a write, each segment is as it was
+  pub all_kept : after.words ≡ one.words → KeepsAll number records items (slice_set items found
+      after)
+  all_kept words = map_same (rest_of number records) items found one after here.at
+      (rest_same number records one after looked.same_number looked.same_records words
+      looked.rest)
 
-    -- with one, all but a word of the block
-    pub wrote : (index value : ℕ)
-        → block_at after.words one.classes place.page place.index ≡ slice_set
-        (block_at one.words one.classes place.page place.index) index value
-        → KeepsOtherBlocks (records one.slots) one.classes place.page place.index one.words
-        after.words
-        → Wrote number records place index value items (slice_set items found after)
-    wrote index value written others = record {
-      found = found;
-      before = one;
-      after = after;
-      at = here.at;
-      now = refl;
-      segment = number_is number items place.segment found one here;
-      same_number = looked.same_number;
-      same_records = looked.same_records;
-      rest = looked.rest;
-      written = written;
-      others = others;
-    }
+  -- with one, all but a word of the block
+  pub wrote : (index value : ℕ)
+      → block_at after.words one.classes place.page place.index ≡ slice_set
+      (block_at one.words one.classes place.page place.index) index value
+      → KeepsOtherBlocks (records one.slots) one.classes place.page place.index one.words
+      after.words
+      → Wrote number records place index value items (slice_set items found after)
+  wrote index value written others = record {
+    found = found;
+    before = one;
+    after = after;
+    at = here.at;
+    now = refl;
+    segment = number_is number items place.segment found one here;
+    same_number = looked.same_number;
+    same_records = looked.same_records;
+    rest = looked.rest;
+    written = written;
+    others = others;
+  }
 
-    -- the row that is shown is of the block that the heap has
-    pub row_kept : after.words ≡ one.words → (row : Row)
-        → IsRowOf place word (block_at after.words after.classes place.page place.index) row
-        → IsRowOf place word (block_in number items place) row
-    row_kept words row is = subst (λ (b : List ℕ). IsRowOf place word b row)
-        (block_after number records shows steps items found word place one after here looked words
-        ∙ sym (ap (λ (o : Option (Kept S)). block_by number o place)
-        (found_is number items place.segment found one here))) is
+  -- the row that is shown is of the block that the heap has
+  pub row_kept : after.words ≡ one.words → (row : Row)
+      → IsRowOf place word (block_at after.words after.classes place.page place.index) row
+      → IsRowOf place word (block_in number items place) row
+  row_kept words row is = subst (λ (b : List ℕ). IsRowOf place word b row)
+      (block_after here looked words
+      ∙ sym (ap (λ (o : Option (Kept S)). block_by number o place)
+      (found_is number items place.segment found one here))) is

@@ -56,33 +56,31 @@ module _ {S : Type 0} (number : S → ℕ) (records : S → List Standing) (show
 
   denied_tied : (rule : Rule) → denial ≡ Some rule → TiedSo (row_answer None denial)
   denied_tied rule e = subst (λ (o : Option Rule). TiedSo (row_answer None o)) (sym e)
-      (refused_ends number records shows steps items found word place one after here looked words
+      (refused_ends here looked words
       policy (event.Look actor place) (answer.Denied rule) (λ w h g. refl)
       (reason (Some rule) e))
 
   row_tied : (row : Row) → denial ≡ None
       → IsRowOf place word (block_at after.words after.classes place.page place.index) row
       → TiedSo (answer.Listed row)
-  row_tied row none is = ends number records shows steps items found word place one after here
-      looked words policy (event.Look actor place) (answer.Listed row) (λ w h g below.
+  row_tied row none is = ends here looked words policy (event.Look actor place) (answer.Listed row)
+      (λ w h g below.
       let view = heap_view number records policy w h g items in
       let f = fits one.slots (slot_of place) word (slot_below place) looked.shown in
       let st = standing_at (records one.slots) (slot_of place) in
       let handle : Handle = record
       { place = place; generation = max 1 (slot_in word).generation; given_out = omega arith }
       in
-      let away = open_one number records shows steps fits policy actor.0 right.List handle word one
-      after looked none in
+      let away = open_one fits policy actor.0 right.List handle looked none in
       let block = block_found number records items place found one here
-      ∙ block_here number records shows steps fits policy actor.0 right.List handle word one
-      after looked none in
+      ∙ block_here fits policy actor.0 right.List handle looked none in
       look_is_tied view (shown_at place word) actor place row below refl (reason None none w h g)
       (record {
         stands = is.stands;
         generation = is.generation ∙ sym (generation_read st word f.0 f.1);
         owner = is.owner ∙ sym (owner_read st word f.0 f.1 away);
         bytes = is.bytes ∙ ap (λ (ws : List ℕ). 8 * length ws)
-            (block_after number records shows steps items found word place one after here looked
+            (block_after here looked
             words ∙ sym block);
       }))
 

@@ -115,9 +115,11 @@ module _ {S : Type 0} (number : S → ℕ) (records : S → List Standing) (show
   FitsLaw = (s : S) (at word : ℕ) → at < 8192 → shows s at word → IsSlotWord word
       × Fits (standing_at (records s) at) word
 
+module _ {S : Type 0} {number : S → ℕ} {records : S → List Standing} {shows : S → ℕ → ℕ → Type 0}
+    {steps : S → ℕ → ℕ → ℕ → S → Type 0} where
   -- what no rule denies is open
-  module _ (fits : FitsLaw) (policy : Policy) (actor : ℕ) (which : Right) (handle : Handle)
-      (word : ℕ) (one after : Kept S)
+  module _ {word : ℕ} {one after : Kept S} (fits : FitsLaw number records shows steps)
+      (policy : Policy) (actor : ℕ) (which : Right) (handle : Handle)
       (looked : Looked number records shows steps handle.place word one after)
       (none : use_denial policy actor which handle word ≡ None) where
     pub open_one : is_home (standing_at (records one.slots) (slot_of handle.place)) ≡ false
@@ -138,18 +140,18 @@ module _ {S : Type 0} (number : S → ℕ) (records : S → List Standing) (show
         handle.place.index_below open_one
 
   -- what a word says that no rule denies
-  pub generation_shown : (fits : FitsLaw) (policy : Policy) (actor : ℕ) (which : Right)
-      (handle : Handle) (word : ℕ) (one after : Kept S)
+  pub generation_shown : {word : ℕ} {one after : Kept S} (fits : FitsLaw number records shows steps)
+      (policy : Policy) (actor : ℕ) (which : Right) (handle : Handle)
       → Looked number records shows steps handle.place word one after
       → use_denial policy actor which handle word ≡ None → handle.generation ≡ word_generation word
-  generation_shown fits policy actor which handle word one after looked none =
+  generation_shown {word} {one} {after} fits policy actor which handle looked none =
       let l = undenied_is_live (view_of policy 0 None 0 [])
       (slot_in word) actor which handle none in
       let f = fits one.slots (slot_of handle.place) word (slot_below handle.place) looked.shown in
       sym l.0 ∙ generation_read (standing_at (records one.slots) (slot_of handle.place)) word f.0
       f.1
 
-  module _ (items : List (Kept S)) (found word : ℕ) (place : Place) (one after : Kept S)
+  module _ {items : List (Kept S)} {found word : ℕ} {place : Place} {one after : Kept S}
       (here : Found number items place.segment found one)
       (looked : Looked number records shows steps place word one after) where
     pub kind_kept : kind_of number after ≡ kind_of number one
@@ -238,9 +240,9 @@ module _ {S : Type 0} (number : S → ℕ) (records : S → List Standing) (show
           (shown_at place word) e a below (at worker hand generation)
           (is worker hand generation))
 
-  module _ (fits : FitsLaw) (policy : Policy) (items : List (Kept S)) (found word : ℕ) (actor : ℕ)
-      (which : Right) (handle : Handle) (one after : Kept S)
-      (here : Found number items handle.place.segment found one)
+  module _ {items : List (Kept S)} {found word : ℕ} {one after : Kept S}
+      (fits : FitsLaw number records shows steps) (policy : Policy) (actor : ℕ) (which : Right)
+      (handle : Handle) (here : Found number items handle.place.segment found one)
       (looked : Looked number records shows steps handle.place word one after) (index : ℕ) where
     abbrev reach_by : Option Rule → Bool → List ℕ → Option Answer
     reach_by o held block = denial_or o
@@ -276,7 +278,7 @@ module _ {S : Type 0} (number : S → ℕ) (records : S → List Standing) (show
         reason worker hand generation
         ∙ ap (λ (o : Option Rule). reach_by o true
         (block_of (holding number records one) (slot_of handle.place))) none
-        ∙ ap (reach_by None true) (block_here fits policy actor which handle word one after looked
+        ∙ ap (reach_by None true) (block_here fits policy actor which handle looked
         none)
         ∙ ap (λ (x : Bool). cond (not x) (Some answer.OutOfBlock) None) is
 

@@ -47,27 +47,23 @@ module _ {S : Type 0} (number : S → ℕ) (records : S → List Standing) (show
 
   value_tied : denial ≡ None → index < length block
       → TiedSo (answer.Value (slice_index block index))
-  value_tied none in_it = ends number records shows steps items found word handle.place one after
-      here looked words policy (event.Read actor handle index)
+  value_tied none in_it = ends here looked words policy (event.Read actor handle index)
       (answer.Value (slice_index block index)) (λ w h g below.
       let view = heap_view number records policy w h g items in
       let shown = shown_at handle.place word in
       subst (λ (b : List ℕ). Ties view shown (event.Read actor handle index)
       (answer.Value (slice_index b index)) view shown)
       (block_found number records items handle.place found one here
-      ∙ block_here number records shows steps fits policy actor.0 right.Read handle word one
-      after looked none)
+      ∙ block_here fits policy actor.0 right.Read handle looked none)
       (read_is_tied view shown actor handle index below refl
-      (inside_reach number records shows steps fits policy items found word actor.0 right.Read
-      handle one after here looked index none in_it w h g)))
+      (inside_reach fits policy actor.0 right.Read handle here looked index none in_it w h g)))
 
   read_by : (o : Option Rule) → denial ≡ o
       → TiedSo (read_answer (reached o block index (slice_index block index)))
-  read_by (Some rule) e = refused_ends number records shows steps items found word handle.place one
-      after here looked words policy (event.Read actor handle index) (answer.Denied rule)
+  read_by (Some rule) e = refused_ends here looked words policy (event.Read actor handle index)
+      (answer.Denied rule)
       (λ w h g. refl)
-      (denied_reach number records shows steps fits policy items found word actor.0 right.Read
-      handle one after here looked index rule e)
+      (denied_reach fits policy actor.0 right.Read handle here looked index rule e)
   read_by None e = elim (cases_lt index (length block))
       as (λ _. TiedSo (read_answer (reached None block index (slice_index block index)))) [
         | inl lt ↦ subst (λ (b : Bool). TiedSo
@@ -76,12 +72,9 @@ module _ {S : Type 0} (number : S → ℕ) (records : S → List Standing) (show
         | inr ge ↦ subst (λ (b : Bool). TiedSo
             (read_answer (cond b (Ok (slice_index block index)) (Err refused.OutOfBlock))))
             (sym (le-ltb index (length block) ge))
-            (refused_ends number records shows steps items found word handle.place one after here
-            looked
+            (refused_ends here looked
             words policy (event.Read actor handle index) answer.OutOfBlock (λ w h g. refl)
-            (outside_reach number records shows steps fits policy items found word actor.0
-            right.Read
-            handle one after here looked index e ge))
+            (outside_reach fits policy actor.0 right.Read handle here looked index e ge))
       ]
 
   -- by the block of the segment after the look
@@ -92,7 +85,7 @@ module _ {S : Type 0} (number : S → ℕ) (records : S → List Standing) (show
       → TiedSo (read_answer result)
   read_tied result is = subst (λ (r : Result ℕ Refused). TiedSo (read_answer r))
       (sym (is ∙ ap (λ (b : List ℕ). reached denial b index (slice_index b index))
-      (block_after number records shows steps items found word handle.place one after here looked
+      (block_after here looked
       words))) (read_by denial refl)
 
   pub read_ends : (result : Result ℕ Refused)
@@ -104,7 +97,6 @@ module _ {S : Type 0} (number : S → ℕ) (records : S → List Standing) (show
       (event.Read actor handle index) (read_answer result) items (slice_set items found after)
   read_ends result is = (
     word,
-    stepped number records shows steps items found word handle.place one
-        after here looked,
+    stepped here looked,
     read_tied result is,
   )

@@ -59,8 +59,7 @@ module _ {S : Type 0} (number : S → ℕ) (records : S → List Standing) (show
       handle.place.index one.words last.words
 
   classes_last : last.classes ≡ one.classes
-  classes_last = classes_kept number records shows steps items found word handle.place one last here
-      looked
+  classes_last = classes_kept here looked
 
   apart : (page index page' index' : ℕ) → page * 512 + index ≢ page' * 512 + index'
       → (page ≢ page') ⊎ (index ≢ index')
@@ -91,22 +90,19 @@ module _ {S : Type 0} (number : S → ℕ) (records : S → List Standing) (show
       standing_found number records items handle.place found one here
       ∙ ap (λ (rs : List Standing). standing_at rs (slot_of handle.place))
       (sym looked.same_records) in
-      let open_last = open_after number records shows steps fits policy actor.0 right.Write handle
-      word one last looked none in
+      let open_last = open_after fits policy actor.0 right.Write handle looked none in
       let block_now : slice_set (view.block p) index value ≡ block_of (holding number records last)
       (slot_of handle.place) =
       ap (λ (ws : List ℕ). slice_set ws index value)
       (block_found number records items handle.place found one here
-      ∙ block_here number records shows steps fits policy actor.0 right.Write handle word one
-      last looked none)
+      ∙ block_here fits policy actor.0 right.Write handle looked none)
       ∙ sym written
       ∙ ap (λ (cs : List (Option ℕ)). block_at last.words cs handle.place.page handle.place.index)
       (sym classes_last)
       ∙ sym (block_is number records last handle.place.page handle.place.index
       handle.place.index_below open_last) in
       let ties = write_is_tied view shown actor handle index value below refl
-      (inside_reach number records shows steps fits policy items found word actor.0 right.Write
-      handle one last here looked index none in_it w h g) in
+      (inside_reach fits policy actor.0 right.Write handle here looked index none in_it w h g) in
       put_ties number records items found handle.place one last here
       (changed others) policy w h g shown shown
       (event.Write actor handle index value) answer.Done
@@ -132,21 +128,18 @@ module _ {S : Type 0} (number : S → ℕ) (records : S → List Standing) (show
         | inr ge ↦ subst (λ (b : Bool). Wrote (cond b (Ok (tt {0})) (Err refused.OutOfBlock))
             → TiedSo (done_answer (cond b (Ok (tt {0})) (Err refused.OutOfBlock))))
             (sym (le-ltb index (length block) ge))
-            (λ wrote. refused_ends number records shows steps items found word handle.place one last
-            here looked wrote.0 policy (event.Write actor handle index value) answer.OutOfBlock
+            (λ wrote. refused_ends here looked wrote.0 policy (event.Write actor handle index
+            value) answer.OutOfBlock
             (λ w h g. refl)
-            (outside_reach number records shows steps fits policy items found word actor.0
-            right.Write
-            handle one last here looked index e ge))
+            (outside_reach fits policy actor.0 right.Write handle here looked index e ge))
       ]
 
   write_by : (o : Option Rule) → denial ≡ o → Wrote (reached o block index (tt {0}))
       → TiedSo (done_answer (reached o block index (tt {0})))
-  write_by (Some rule) e wrote = refused_ends number records shows steps items found word
-      handle.place one last here looked wrote.0 policy (event.Write actor handle index value)
+  write_by (Some rule) e wrote = refused_ends here looked wrote.0 policy (event.Write actor handle
+      index value)
       (answer.Denied rule) (λ w h g. refl)
-      (denied_reach number records shows steps fits policy items found word actor.0 right.Write
-      handle one last here looked index rule e)
+      (denied_reach fits policy actor.0 right.Write handle here looked index rule e)
   write_by None e wrote = write_undenied e wrote
 
   pub write_ends : (result : Result (Unit {0}) Refused)
@@ -159,7 +152,7 @@ module _ {S : Type 0} (number : S → ℕ) (records : S → List Standing) (show
       (slice_set items found last)
   write_ends result is err ok others = (
     word,
-    stepped number records shows steps items found word handle.place one last here looked,
+    stepped here looked,
     subst (λ (r : Result (Unit {0}) Refused). TiedSo (done_answer r)) (sym is)
         (write_by denial refl (subst Wrote is (err, ok, others))),
   )

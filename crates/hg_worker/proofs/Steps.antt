@@ -1,6 +1,6 @@
 -- What a step of one seat is to the worker that has it.
-use Rattle.std.proofs.Common.{◌≡◌, ◌≢◌, ◌≤◌, ℕ, false, List, [], ◌∷◌, ◌++◌, map, length, Some}
-use Rattle.std.proofs.Common.{slice_set, sym, ap, subst, ◌∙◌, ⊎_elim, arith}
+use Rattle.std.proofs.Common.{◌≡◌, ◌≢◌, ◌≤◌, ℕ, true, false, List, [], ◌∷◌, ◌++◌, map, length, Some}
+use Rattle.std.proofs.Common.{slice_set, is_some, refl, sym, ap, subst, ◌∙◌, ⊎_elim, arith}
 use Rattle.std.specs.Prelude.{Option, option_map, Result, Ok, Err, OnOk, IfOk, IfErr}
 use Rattle.std.proofs.lemmas.List.{append-nil}
 use Rattle.std.proofs.lemmas.Bool.{true≢false}
@@ -13,7 +13,8 @@ use Rattle.hg_place.specs.Lives.{IsAtOrBefore}
 use Rattle.hg_place.specs.Standings.{slot_of}
 use Rattle.hg_segment.specs.Kept.{Kept}
 use Rattle.hg_heap.specs.Held.{segment_in, is_held}
-use Rattle.hg_heap.specs.Ties.{Stepped}
+use Rattle.hg_machine.specs.Policy.{arena_of}
+use Rattle.hg_heap.specs.Ties.{Stepped, shown_at}
 use Rattle.hg_heap.proofs.Founds.{numbers, Found, found_is, found_after}
 use Rattle.hg_heap.proofs.Gone.{found_there}
 use Rattle.hg_heap.proofs.PageChanged.{other_found}
@@ -25,7 +26,7 @@ use Rattle.hg_table.proofs.Knowing.{itself, between}
 use Rattle.hg_table.proofs.Told.{not_ended}
 use Rattle.hg_worker.specs.Had.{Had}
 use Rattle.hg_worker.specs.Seen.{word_of, part_by, part_for, part_of_segment, Decided, KeepsSeats}
-use Rattle.hg_worker.specs.Seen.{StepsWithin}
+use Rattle.hg_worker.specs.Seen.{Looked, StepsWithin}
 
 -- where the last word that was seen is at or after the one found, it is at or after all
 pub newest_of : (at found left : ℕ) (a b : Part) → IsShown at found a → IsAtOrBefore found left
@@ -235,7 +236,6 @@ module _ {S : Type 0} (number : S → ℕ) (part : S → Part) where
       (newest_of (word_of place) word word old.own new.own shown (itself word) stepped.1)
       (stepped.2 ∙ looked_ends (word_of place) word old.own.ended)
 
-  -- nothing was looked at
   -- of a place of the policy
   pub own_looked : (place : Place) (word : ℕ) (old new : Had S)
       → is_some (arena_of old.policy place.segment) ≡ true
@@ -243,9 +243,10 @@ module _ {S : Type 0} (number : S → ℕ) (part : S → Part) where
       → IsShown (word_of place) word old.own
       → HasStepped old.own (word_of place) word word new.own
       → Looked number part place (shown_at place word) old new
-  own_looked place word old new some away same shown step =
-      (some, refl, own_looks place word old new away same shown step)
+  own_looked place word old new there away same shown step =
+      (there, refl, own_looks place word old new away same shown step)
 
+  -- nothing was looked at
   pub seats_stay : (old new : Had S) → new.heap ≡ old.heap → new.own ≡ old.own
       → KeepsSeats number part old new
   seats_stay old new same own = record {

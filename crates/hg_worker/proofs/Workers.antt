@@ -162,7 +162,8 @@ module _ {w box : WorkerState} (same : w ≡ box) (new : Held UnnamedSegment) (p
     held_finds P is = (
       shown_at place word,
       subst (λ b. Looked number_in part_of_seat place (shown_at place word) (had_in b)
-          (record (had_in w) { heap = new })) same (held_looks w new place settled once held word st),
+          (record (had_in w) { heap = new })) same (held_looks w new place settled once held word
+          st),
       subst (λ b. P b word) same is,
     )
 

@@ -7,17 +7,15 @@ use Rattle.hg_heap.proofs.reading.row_of.Goals as goal
 
 pub size_of-requires-clause-open : goal.size_of-requires-clause-open
 size_of-requires-clause-open g c = let w = g.S.SlotWords in let l = c.look-word.ensures in
-    open_after w.number w.records w.shows w.steps g.met.S.SlotWords.fits c.args.policy.now
-    c.args.actor.0 right.List (record {
+    open_after g.met.S.SlotWords.fits c.args.policy.now c.args.actor.0 right.List (record {
       place = c.args.place;
       generation = c.listed_generation.result;
       given_out =
           subst (λ n. 1 ≤ n) (sym c.listed_generation.ensures) (omega arith);
-    }) c.look-word.result
-    c.args.segment.now c.look-word.new.self
-    (looked_of w.number w.records w.shows w.steps c.args.place c.look-word.result c.args.segment.now
-    c.look-word.new.self l.shown l.step l.number l.records l.others)
-    (allowed_by _ (sym c.in_default.is ∙ c.judge.ensures))
+    }) (looked_of w.number w.records w.shows w.steps c.args.place c.look-word.result
+    c.args.segment.now
+    c.look-word.new.self l.shown l.step l.number l.records l.others) (allowed_by _ (sym
+    c.in_default.is ∙ c.judge.ensures))
 
 pub returns-in-Denied : goal.returns-in-Denied
 returns-in-Denied g c = let w = g.S.SlotWords in let l = c.look-word.ensures in
@@ -49,15 +47,13 @@ returns g c = let w = g.S.SlotWords in let l = c.look-word.ensures in
           ∙ allowed_by _ (sym c.in_default.is ∙ c.judge.ensures);
       row = record {
         stands = refl;
-        generation = generation_shown w.number w.records w.shows w.steps g.met.S.SlotWords.fits
-            c.args.policy.now c.args.actor.0 right.List
-            (record {
+        generation = generation_shown g.met.S.SlotWords.fits c.args.policy.now c.args.actor.0
+            right.List (record {
               place = c.args.place;
               generation = c.listed_generation.result;
               given_out =
                   subst (λ n. 1 ≤ n) (sym c.listed_generation.ensures) (omega arith);
-            }) c.look-word.result
-            c.args.segment.now c.look-word.new.self looked
+            }) looked
             (allowed_by _ (sym c.in_default.is ∙ c.judge.ensures));
         owner = c.word_owner.ensures.value;
         bytes = ap (λ (n : ℕ). 8 * n) (c.from.ensures ∙ c.size_of.ensures.words);

@@ -11,21 +11,17 @@ use Rattle.hg_heap.proofs.reading.write_word.Goals as goal
 
 pub size_of-requires-clause-open : goal.size_of-requires-clause-open
 size_of-requires-clause-open g c = let w = g.S.SlotWords in let l = c.look-word.ensures in
-    open_after w.number w.records w.shows w.steps g.met.S.SlotWords.fits c.args.policy.now
-    c.args.actor.0 right.Write c.args.handle c.look-word.result c.args.segment.now
-    c.look-word.new.self
+    open_after g.met.S.SlotWords.fits c.args.policy.now c.args.actor.0 right.Write c.args.handle
     (looked_of w.number w.records w.shows w.steps c.args.handle.place c.look-word.result
-    c.args.segment.now c.look-word.new.self l.shown l.step l.number l.records l.others)
-    (allowed_by _ (sym c.in_default.is ∙ c.judge.ensures))
+    c.args.segment.now c.look-word.new.self l.shown l.step l.number l.records l.others) (allowed_by
+    _ (sym c.in_default.is ∙ c.judge.ensures))
 
 pub write-requires-clause-open : goal.write-requires-clause-open
 write-requires-clause-open g c = let w = g.S.SlotWords in let l = c.look-word.ensures in
-    open_after w.number w.records w.shows w.steps g.met.S.SlotWords.fits c.args.policy.now
-    c.args.actor.0 right.Write c.args.handle c.look-word.result c.args.segment.now
-    c.look-word.new.self
+    open_after g.met.S.SlotWords.fits c.args.policy.now c.args.actor.0 right.Write c.args.handle
     (looked_of w.number w.records w.shows w.steps c.args.handle.place c.look-word.result
-    c.args.segment.now c.look-word.new.self l.shown l.step l.number l.records l.others)
-    (allowed_by _ (sym c.in_default.is ∙ c.judge.ensures))
+    c.args.segment.now c.look-word.new.self l.shown l.step l.number l.records l.others) (allowed_by
+    _ (sym c.in_default.is ∙ c.judge.ensures))
 
 pub write-requires-clause-inside : goal.write-requires-clause-inside
 write-requires-clause-inside g c size e =

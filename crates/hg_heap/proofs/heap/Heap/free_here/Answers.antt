@@ -59,10 +59,9 @@ stays g c = let s = c.settled.ensures in
     }
 
 pub invariant_of-self : goal.invariant_of-self
-invariant_of-self g c = let w = g.S.SlotWords in let d = c.in-Err.ensures.denied in
+invariant_of-self g c =
     let at = (goal.at.invariant_of-self g c).After-settled in
-    heap_right w.number w.records w.shows w.steps _ _ d.0 c.args.handle.place _ _ (here g at) d.1
-    _ _ _ _ c.self.invariant (stays g at)
+    heap_right (here g at) c.in-Err.ensures.denied.1 _ _ _ _ c.self.invariant (stays g at)
 
 pub returns-in-Err-clause-elsewhere : goal.returns-in-Err-clause-elsewhere
 returns-in-Err-clause-elsewhere g c = λ e. absurd (true≢false (sym
@@ -83,24 +82,21 @@ returns-in-Err-clause-judged g c = let w = g.S.SlotWords in let d = c.in-Err.ens
       d.0,
       c.in-Err.rule,
       refl,
-      stepped w.number w.records w.shows w.steps _ _ d.0 c.args.handle.place _ _
-          (here g (goal.at.returns-in-Err-clause-judged g c).After-settled) d.1,
+      stepped (here g (goal.at.returns-in-Err-clause-judged g c).After-settled) d.1,
       judged_as w.number w.records w.shows w.steps g.met.S.SlotWords.fits c.args.policy.now
           c.args.actor.0 right.Free c.args.handle d.0 c.index_mut-segment.result.now
           (Some c.in-Err.rule) d.1.shown d.2,
     )
 
 pub returns-in-Err-clause-kept : goal.returns-in-Err-clause-kept
-returns-in-Err-clause-kept g c = let w = g.S.SlotWords in let d = c.in-Err.ensures.denied in
-    rw (← c.self.view_is) (all_kept w.number w.records w.shows w.steps _ _ d.0 c.args.handle.place
-    _ _ (here g (goal.at.returns-in-Err-clause-kept g c).After-settled) d.1
-    c.in-Err.ensures.words)
+returns-in-Err-clause-kept g c = rw (← c.self.view_is)
+    (all_kept (here g (goal.at.returns-in-Err-clause-kept g c).After-settled)
+    c.in-Err.ensures.denied.1 c.in-Err.ensures.words)
 
 pub returns-in-Err-clause-same_lists : goal.returns-in-Err-clause-same_lists
-returns-in-Err-clause-same_lists g c = let w = g.S.SlotWords in let d = c.in-Err.ensures.denied in
-    rw (← c.self.view_is) (heap_lists w.number w.records w.shows w.steps _ _ d.0
-    c.args.handle.place _ _ (here g (goal.at.returns-in-Err-clause-same_lists g c).After-settled)
-    d.1)
+returns-in-Err-clause-same_lists g c = rw (← c.self.view_is)
+    (heap_lists (here g (goal.at.returns-in-Err-clause-same_lists g c).After-settled)
+    c.in-Err.ensures.denied.1)
 
 -- the place went home
 frees : (g : Over) (c : In-Ok g) → Frees g.S.SlotWords.number g.S.SlotWords.records

@@ -10,22 +10,22 @@ use Rattle.hg_heap.proofs.ReadCall.{read_ends}
 use Rattle.hg_heap.proofs.heap.Heap.read.Goals as goal
 
 pub invariant_of-self : goal.invariant_of-self
-invariant_of-self g c = let w = g.S.SlotWords in let r = c.read_word-value.ensures.read in let s =
-    c.settled.ensures in
-    heap_right w.number w.records w.shows w.steps c.self.inside.segments.items c.in-Some.found r.0
-    c.args.handle.place c.index_mut-segment.result.now c.read_word-value.new.segment
-    (found_of w.number c.self.inside.segments.items c.args.handle.place.segment c.in-Some.found
-    c.index_mut-segment.result.now (rw (← c.self.view_is) at c.in-Some.ensures.some)
-    c.index_mut-segment.ensures.value)
-    r.1 _ _ _ _ c.self.invariant
+invariant_of-self g c =
+    let w = g.S.SlotWords in
+    let here = found_of w.number c.self.inside.segments.items c.args.handle.place.segment
+    c.in-Some.found c.index_mut-segment.result.now
+    (rw (← c.self.view_is) at c.in-Some.ensures.some)
+    c.index_mut-segment.ensures.value in
+    let r = c.read_word-value.ensures.read in
+    let s = c.settled.ensures in
+    heap_right here r.1 _ _ _ _ c.self.invariant
     (record {
       lists = s.lists;
       sizes = s.sizes;
       runs = s.runs;
       bounded = s.bounded;
       opened = s.open;
-      listed =
-          s.listed;
+      listed = s.listed;
       blocks = s.blocks;
       pages = s.all.0;
       classes = s.all.1;
@@ -33,42 +33,34 @@ invariant_of-self g c = let w = g.S.SlotWords in let r = c.read_word-value.ensur
     })
 
 pub returns : goal.returns
-returns g c = let w = g.S.SlotWords in let r = c.read_word-value.ensures.read in record {
-  elsewhere = λ e. absurd (true≢false
-      (sym (found_held w.number c.args.self.now.segments c.args.handle.place.segment c.in-Some.found
-      c.in-Some.ensures.some) ∙ e));
-  held = λ _. rw (← c.self.view_is)
-      (read_ends w.number w.records w.shows w.steps g.met.S.SlotWords.fits c.args.policy.now
-      c.self.inside.segments.items c.in-Some.found r.0 c.args.index c.args.actor c.args.handle
-      c.index_mut-segment.result.now c.read_word-value.new.segment
-      (found_of w.number c.self.inside.segments.items c.args.handle.place.segment c.in-Some.found
-      c.index_mut-segment.result.now (rw (← c.self.view_is) at c.in-Some.ensures.some)
-      c.index_mut-segment.ensures.value)
-      r.1 c.read_word-value.ensures.words c.read_word-value.result r.2);
-  lists = rw (← c.self.view_is)
-      (heap_lists w.number w.records w.shows w.steps c.self.inside.segments.items c.in-Some.found
-      r.0 c.args.handle.place c.index_mut-segment.result.now c.read_word-value.new.segment
-      (found_of w.number c.self.inside.segments.items c.args.handle.place.segment c.in-Some.found
-      c.index_mut-segment.result.now (rw (← c.self.view_is) at c.in-Some.ensures.some)
-      c.index_mut-segment.ensures.value) r.1);
-  queues = ap (λ h. h.queues) c.self.view_is;
-  here = λ _. never_elsewhere _ _ c.args.index _ c.read_word-value.result r.2;
-  judged = λ _. rw (← c.self.view_is) (
-    r.0,
-    stepped w.number w.records w.shows w.steps c.self.inside.segments.items c.in-Some.found r.0
-        c.args.handle.place c.index_mut-segment.result.now c.read_word-value.new.segment
-        (found_of w.number c.self.inside.segments.items c.args.handle.place.segment c.in-Some.found
-        c.index_mut-segment.result.now (rw (← c.self.view_is) at c.in-Some.ensures.some)
-        c.index_mut-segment.ensures.value) r.1,
-    judged_as w.number w.records w.shows w.steps g.met.S.SlotWords.fits c.args.policy.now
-        c.args.actor.0 right.Read c.args.handle r.0 c.index_mut-segment.result.now
-        (rule_in c.read_word-value.result) r.1.shown
-        (sym (ap rule_in r.2 ∙ rule_reached _ _ c.args.index _)),
-  );
-  kept = rw (← c.self.view_is)
-      (all_kept w.number w.records w.shows w.steps c.self.inside.segments.items c.in-Some.found
-      r.0 c.args.handle.place c.index_mut-segment.result.now c.read_word-value.new.segment
-      (found_of w.number c.self.inside.segments.items c.args.handle.place.segment c.in-Some.found
-      c.index_mut-segment.result.now (rw (← c.self.view_is) at c.in-Some.ensures.some)
-      c.index_mut-segment.ensures.value) r.1 c.read_word-value.ensures.words);
-}
+returns g c =
+    let w = g.S.SlotWords in
+    let here = found_of w.number c.self.inside.segments.items c.args.handle.place.segment
+    c.in-Some.found c.index_mut-segment.result.now
+    (rw (← c.self.view_is) at c.in-Some.ensures.some)
+    c.index_mut-segment.ensures.value in
+    let r = c.read_word-value.ensures.read in record {
+      elsewhere = λ e. absurd (true≢false
+          (sym (found_held w.number c.args.self.now.segments c.args.handle.place.segment
+          c.in-Some.found
+          c.in-Some.ensures.some) ∙ e));
+      held = λ _. rw (← c.self.view_is)
+          (read_ends w.number w.records w.shows w.steps g.met.S.SlotWords.fits c.args.policy.now
+          c.self.inside.segments.items c.in-Some.found r.0 c.args.index c.args.actor c.args.handle
+          c.index_mut-segment.result.now c.read_word-value.new.segment here r.1
+          c.read_word-value.ensures.words c.read_word-value.result r.2);
+      lists = rw (← c.self.view_is)
+          (heap_lists here r.1);
+      queues = ap (λ h. h.queues) c.self.view_is;
+      here = λ _. never_elsewhere _ _ c.args.index _ c.read_word-value.result r.2;
+      judged = λ _. rw (← c.self.view_is) (
+        r.0,
+        stepped here r.1,
+        judged_as w.number w.records w.shows w.steps g.met.S.SlotWords.fits c.args.policy.now
+            c.args.actor.0 right.Read c.args.handle r.0 c.index_mut-segment.result.now
+            (rule_in c.read_word-value.result) r.1.shown
+            (sym (ap rule_in r.2 ∙ rule_reached _ _ c.args.index _)),
+      );
+      kept = rw (← c.self.view_is)
+          (all_kept here r.1 c.read_word-value.ensures.words);
+    }

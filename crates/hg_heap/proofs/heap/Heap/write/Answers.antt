@@ -10,22 +10,22 @@ use Rattle.hg_heap.proofs.WriteCall.{write_ends}
 use Rattle.hg_heap.proofs.heap.Heap.write.Goals as goal
 
 pub invariant_of-self : goal.invariant_of-self
-invariant_of-self g c = let w = g.S.SlotWords in let r = c.write_word-written.ensures.wrote in
+invariant_of-self g c =
+    let w = g.S.SlotWords in
+    let here = found_of w.number c.self.inside.segments.items c.args.handle.place.segment
+    c.in-Some.found c.index_mut-segment.result.now
+    (rw (← c.self.view_is) at c.in-Some.ensures.some)
+    c.index_mut-segment.ensures.value in
+    let r = c.write_word-written.ensures.wrote in
     let s = c.settled.ensures in
-    heap_right w.number w.records w.shows w.steps c.self.inside.segments.items c.in-Some.found r.0
-    c.args.handle.place c.index_mut-segment.result.now c.write_word-written.new.segment
-    (found_of w.number c.self.inside.segments.items c.args.handle.place.segment c.in-Some.found
-    c.index_mut-segment.result.now (rw (← c.self.view_is) at c.in-Some.ensures.some)
-    c.index_mut-segment.ensures.value)
-    r.1 _ _ _ _ c.self.invariant
+    heap_right here r.1 _ _ _ _ c.self.invariant
     (record {
       lists = s.lists;
       sizes = s.sizes;
       runs = s.runs;
       bounded = s.bounded;
       opened = s.open;
-      listed =
-          s.listed;
+      listed = s.listed;
       blocks = s.blocks;
       pages = s.all.0;
       classes = s.all.1;
@@ -33,50 +33,39 @@ invariant_of-self g c = let w = g.S.SlotWords in let r = c.write_word-written.en
     })
 
 pub returns : goal.returns
-returns g c = let w = g.S.SlotWords in let r = c.write_word-written.ensures.wrote in record {
-  elsewhere = λ e. absurd (true≢false
-      (sym (found_held w.number c.args.self.now.segments c.args.handle.place.segment c.in-Some.found
-      c.in-Some.ensures.some) ∙ e));
-  held = λ _. rw (← c.self.view_is)
-      (write_ends w.number w.records w.shows w.steps g.met.S.SlotWords.fits c.args.policy.now
-      c.self.inside.segments.items c.in-Some.found r.0 c.args.index c.args.value c.args.actor
-      c.args.handle c.index_mut-segment.result.now c.write_word-written.new.segment
-      (found_of w.number c.self.inside.segments.items c.args.handle.place.segment c.in-Some.found
-      c.index_mut-segment.result.now (rw (← c.self.view_is) at c.in-Some.ensures.some)
-      c.index_mut-segment.ensures.value)
-      r.1 c.write_word-written.result r.2 c.write_word-written.ensures.err
-      c.write_word-written.ensures.ok c.write_word-written.ensures.others);
-  lists = rw (← c.self.view_is)
-      (heap_lists w.number w.records w.shows w.steps c.self.inside.segments.items c.in-Some.found
-      r.0 c.args.handle.place c.index_mut-segment.result.now c.write_word-written.new.segment
-      (found_of w.number c.self.inside.segments.items c.args.handle.place.segment c.in-Some.found
-      c.index_mut-segment.result.now (rw (← c.self.view_is) at c.in-Some.ensures.some)
-      c.index_mut-segment.ensures.value) r.1);
-  queues = ap (λ h. h.queues) c.self.view_is;
-  here = λ _. never_elsewhere _ _ c.args.index _ c.write_word-written.result r.2;
-  judged = λ _. rw (← c.self.view_is) (
-    r.0,
-    stepped w.number w.records w.shows w.steps c.self.inside.segments.items c.in-Some.found r.0
-        c.args.handle.place c.index_mut-segment.result.now c.write_word-written.new.segment
-        (found_of w.number c.self.inside.segments.items c.args.handle.place.segment c.in-Some.found
-        c.index_mut-segment.result.now (rw (← c.self.view_is) at c.in-Some.ensures.some)
-        c.index_mut-segment.ensures.value) r.1,
-    judged_as w.number w.records w.shows w.steps g.met.S.SlotWords.fits c.args.policy.now
-        c.args.actor.0 right.Write c.args.handle r.0 c.index_mut-segment.result.now
-        (rule_in c.write_word-written.result) r.1.shown
-        (sym (ap rule_in r.2 ∙ rule_reached _ _ c.args.index _)),
-  );
-  kept = rw (← c.self.view_is) (on_err _ c.write_word-written.ensures.err
-      (all_kept w.number w.records w.shows w.steps c.self.inside.segments.items c.in-Some.found
-      r.0 c.args.handle.place c.index_mut-segment.result.now c.write_word-written.new.segment
-      (found_of w.number c.self.inside.segments.items c.args.handle.place.segment c.in-Some.found
-      c.index_mut-segment.result.now (rw (← c.self.view_is) at c.in-Some.ensures.some)
-      c.index_mut-segment.ensures.value) r.1));
-  wrote = rw (← c.self.view_is) (on_ok _ c.write_word-written.ensures.ok
-      c.write_word-written.ensures.others
-      (wrote w.number w.records w.shows w.steps c.self.inside.segments.items c.in-Some.found
-      r.0 c.args.handle.place c.index_mut-segment.result.now c.write_word-written.new.segment
-      (found_of w.number c.self.inside.segments.items c.args.handle.place.segment c.in-Some.found
-      c.index_mut-segment.result.now (rw (← c.self.view_is) at c.in-Some.ensures.some)
-      c.index_mut-segment.ensures.value) r.1 c.args.index c.args.value));
-}
+returns g c =
+    let w = g.S.SlotWords in
+    let here = found_of w.number c.self.inside.segments.items c.args.handle.place.segment
+    c.in-Some.found c.index_mut-segment.result.now
+    (rw (← c.self.view_is) at c.in-Some.ensures.some)
+    c.index_mut-segment.ensures.value in
+    let r = c.write_word-written.ensures.wrote in record {
+      elsewhere = λ e. absurd (true≢false
+          (sym (found_held w.number c.args.self.now.segments c.args.handle.place.segment
+          c.in-Some.found
+          c.in-Some.ensures.some) ∙ e));
+      held = λ _. rw (← c.self.view_is)
+          (write_ends w.number w.records w.shows w.steps g.met.S.SlotWords.fits c.args.policy.now
+          c.self.inside.segments.items c.in-Some.found r.0 c.args.index c.args.value c.args.actor
+          c.args.handle c.index_mut-segment.result.now c.write_word-written.new.segment
+          here
+          r.1 c.write_word-written.result r.2 c.write_word-written.ensures.err
+          c.write_word-written.ensures.ok c.write_word-written.ensures.others);
+      lists = rw (← c.self.view_is)
+          (heap_lists here r.1);
+      queues = ap (λ h. h.queues) c.self.view_is;
+      here = λ _. never_elsewhere _ _ c.args.index _ c.write_word-written.result r.2;
+      judged = λ _. rw (← c.self.view_is) (
+        r.0,
+        stepped here r.1,
+        judged_as w.number w.records w.shows w.steps g.met.S.SlotWords.fits c.args.policy.now
+            c.args.actor.0 right.Write c.args.handle r.0 c.index_mut-segment.result.now
+            (rule_in c.write_word-written.result) r.1.shown
+            (sym (ap rule_in r.2 ∙ rule_reached _ _ c.args.index _)),
+      );
+      kept = rw (← c.self.view_is) (on_err _ c.write_word-written.ensures.err
+          (all_kept here r.1));
+      wrote = rw (← c.self.view_is) (on_ok _ c.write_word-written.ensures.ok
+          c.write_word-written.ensures.others
+          (wrote here r.1 c.args.index c.args.value));
+    }

@@ -1,20 +1,17 @@
-use Rattle.std.proofs.Common.{◌≡◌, ◌-◌, [], ◌∷◌, true, false, not, is_some, Some, None, refl, sym, ap}
+use Rattle.std.proofs.Common.{◌≡◌, ◌-◌, [], ◌∷◌, not, is_some, Some, None, refl, sym, ap}
 use Rattle.std.proofs.Common.{◌∙◌, arith}
 use Rattle.hg_place.specs.declared.Right.TheVariants as right
 use Rattle.hg_place.specs.Lives.{word_generation, IsLiveWord}
-use Rattle.hg_heap.specs.Held.{is_held}
 use Rattle.hg_heap.specs.Ties.{shown_at}
 use Rattle.hg_heap.proofs.Reached.{denied_by, allowed_by}
 use Rattle.hg_heap.proofs.Options.{none_is, some_of}
 use Rattle.hg_machine.specs.declared.Answer.TheVariants as answer
 use Rattle.hg_machine.specs.declared.Event.TheVariants as event
 use Rattle.hg_machine.specs.Policy.{arena_of}
-use Rattle.hg_table.specs.declared.segment.UnnamedSegment.{UnnamedSegment}
 use Rattle.hg_table.specs.Seats.{part_on}
 use Rattle.hg_table.proofs.Knowing.{itself}
 use Rattle.hg_table.proofs.Told.{is_ended}
 use Rattle.hg_table.proofs.WordSteps.{freed_word_after}
-use Rattle.hg_worker.specs.Had.{Had}
 use Rattle.hg_worker.specs.Judged.{rule_of}
 use Rattle.hg_worker.specs.Seats.{number_in, records_in, part_of_seat}
 use Rattle.hg_worker.specs.Seen.{word_of, Decided, Looked}
@@ -25,7 +22,7 @@ use Rattle.hg_worker.proofs.Frees.{free_parted, own_steps_twice}
 use Rattle.hg_worker.proofs.Hands.{own_saw, saw_freed, knows_new}
 use Rattle.hg_worker.proofs.Judged.{judged_by}
 use Rattle.hg_worker.proofs.Seats.{machines_unseen, machines_looked, machines_shown}
-use Rattle.hg_worker.proofs.Steps.{no_step, own_looks, own_steps, seats_stay, looked_ends}
+use Rattle.hg_worker.proofs.Steps.{no_step, own_looked, own_steps, seats_stay, looked_ends}
 use Rattle.hg_worker.proofs.Tables.{same_together, same_words}
 use Rattle.hg_worker.proofs.Workers.{held_by, whole_of}
 use Rattle.hg_worker.proofs.worker.Worker.free_away.Given.{Over}
@@ -112,7 +109,8 @@ returns-in-Denied-clause-refused g c =
     let looked = own_looked number_in part_of_seat c.args.handle.place c.look-word.result old
     (record old { own = part_on c.look-word.new.self.badge })
     (ap is_some (sym c.arena_of.ensures) ∙ (c.is_none.ensures ∙ ap not c.if-is_none.false))
-    (held_by _ c.deref_mut-inner.ensures.value c.requires) refl c.look-word.ensures.shown c.look-word.ensures.step in
+    (held_by _ c.deref_mut-inner.ensures.value c.requires) refl c.look-word.ensures.shown
+    c.look-word.ensures.step in
     let ties = free_denied number_in records_in old shown s.below c.args.actor c.args.handle
     refl c.in-Denied.rule (denied_by _ c.in-Denied.rule c.in-Denied.ensures) in (
       shown,
@@ -132,7 +130,8 @@ returns-then-is_some-clause-refused g c =
     let looked = own_looked number_in part_of_seat c.args.handle.place c.look-word.result old
     (record old { own = part_on c.look-word.new.self.badge })
     (ap is_some (sym c.arena_of.ensures) ∙ (c.is_none.ensures ∙ ap not c.if-is_none.false))
-    (held_by _ c.deref_mut-inner.ensures.value c.requires) refl c.look-word.ensures.shown c.look-word.ensures.step in
+    (held_by _ c.deref_mut-inner.ensures.value c.requires) refl c.look-word.ensures.shown
+    c.look-word.ensures.step in
     let ties = free_busy number_in records_in old shown s.below c.args.actor c.args.handle
     refl (held_by _ c.deref_mut-inner.ensures.value c.requires) (allowed_by _ c.in_default.ensures)
     (hand_full s.hand (sym c.if-is_some.ensures)) in (
@@ -234,7 +233,7 @@ invariant_of-inner-2 g c =
       of = s.of;
       together = same_together s.heap.segments (c.part.ensures.same ∙
           c.look-word.ensures.same) s.together;
-      reach = within_reach s.policy c.args.handle 
+      reach = within_reach s.policy c.args.handle
           (ap is_some (sym c.arena_of.ensures) ∙ (c.is_none.ensures ∙ ap not c.if-is_none.false));
       known =
           let live = undenied_live s.policy c.args.actor.0 right.Free c.args.handle
@@ -255,10 +254,11 @@ returns-clause-freed g c =
     let old = had_in s in
     let place = c.args.handle.place in
     let word = c.look-word.result in
-    let arena = some_of (arena_of s.policy place.segment) 
+    let arena = some_of (arena_of s.policy place.segment)
     (ap is_some (sym c.arena_of.ensures) ∙ (c.is_none.ensures ∙ ap not c.if-is_none.false)) in
     let ties = free_parted number_in records_in old word c.args.actor c.args.handle s.below
-    (held_by _ c.deref_mut-inner.ensures.value c.requires) (allowed_by _ c.in_default.ensures) (none_is s.hand (sym c.if-is_some.ensures)) in (
+    (held_by _ c.deref_mut-inner.ensures.value c.requires) (allowed_by _ c.in_default.ensures)
+    (none_is s.hand (sym c.if-is_some.ensures)) in (
       word,
       ((live g c).0, decided g c),
       machines_shown old _ place word arena.0
@@ -293,7 +293,8 @@ returns-in-Denied-clause-judged g c =
     let looked = own_looked number_in part_of_seat c.args.handle.place c.look-word.result old
     (record old { own = part_on c.look-word.new.self.badge })
     (ap is_some (sym c.arena_of.ensures) ∙ (c.is_none.ensures ∙ ap not c.if-is_none.false))
-    (held_by _ c.deref_mut-inner.ensures.value c.requires) refl c.look-word.ensures.shown c.look-word.ensures.step in (
+    (held_by _ c.deref_mut-inner.ensures.value c.requires) refl c.look-word.ensures.shown
+    c.look-word.ensures.step in (
       shown,
       looked,
       judged_by number_in part_of_seat c.deref_mut-inner.result.now.policy c.args.actor.0
@@ -310,7 +311,8 @@ returns-then-is_some-clause-judged g c =
     let looked = own_looked number_in part_of_seat c.args.handle.place c.look-word.result old
     (record old { own = part_on c.look-word.new.self.badge })
     (ap is_some (sym c.arena_of.ensures) ∙ (c.is_none.ensures ∙ ap not c.if-is_none.false))
-    (held_by _ c.deref_mut-inner.ensures.value c.requires) refl c.look-word.ensures.shown c.look-word.ensures.step in (
+    (held_by _ c.deref_mut-inner.ensures.value c.requires) refl c.look-word.ensures.shown
+    c.look-word.ensures.step in (
       shown,
       looked,
       judged_by number_in part_of_seat c.deref_mut-inner.result.now.policy c.args.actor.0
@@ -353,23 +355,28 @@ returns-then-is_none-clause-few g c =
 pub returns-in-Denied-clause-few : goal.returns-in-Denied-clause-few
 returns-in-Denied-clause-few g c =
     rw (sym c.deref_mut-inner.ensures.value)
-    (own_steps number_in part_of_seat 2 c.args.handle.place (c.look-word.result ∷ []) (had_in c.deref_mut-inner.result.now)
+    (own_steps number_in part_of_seat 2 c.args.handle.place (c.look-word.result ∷ []) (had_in
+    c.deref_mut-inner.result.now)
     (record (had_in c.deref_mut-inner.result.now) { own = part_on c.look-word.new.self.badge })
-    (held_by _ c.deref_mut-inner.ensures.value c.requires) refl (omega arith) c.look-word.ensures.step.1)
+    (held_by _ c.deref_mut-inner.ensures.value c.requires) refl (omega arith)
+    c.look-word.ensures.step.1)
 
 pub returns-then-is_some-clause-few : goal.returns-then-is_some-clause-few
 returns-then-is_some-clause-few g c =
     rw (sym c.deref_mut-inner.ensures.value)
-    (own_steps number_in part_of_seat 2 c.args.handle.place (c.look-word.result ∷ []) (had_in c.deref_mut-inner.result.now)
+    (own_steps number_in part_of_seat 2 c.args.handle.place (c.look-word.result ∷ []) (had_in
+    c.deref_mut-inner.result.now)
     (record (had_in c.deref_mut-inner.result.now) { own = part_on c.look-word.new.self.badge })
-    (held_by _ c.deref_mut-inner.ensures.value c.requires) refl (omega arith) c.look-word.ensures.step.1)
+    (held_by _ c.deref_mut-inner.ensures.value c.requires) refl (omega arith)
+    c.look-word.ensures.step.1)
 
 pub returns-in-Err-clause-few : goal.returns-in-Err-clause-few
 returns-in-Err-clause-few g c =
     rw (sym c.deref_mut-inner.ensures.value)
     (own_steps_twice number_in part_of_seat c.args.handle.place c.look-word.result c.in-Err.found
     (had_in c.deref_mut-inner.result.now)
-    (record (had_in c.deref_mut-inner.result.now) { own = part_on c.part.new.self.badge }) (part_on c.look-word.new.self.badge) (held_by _ c.deref_mut-inner.ensures.value c.requires) refl
+    (record (had_in c.deref_mut-inner.result.now) { own = part_on c.part.new.self.badge }) (part_on
+    c.look-word.new.self.badge) (held_by _ c.deref_mut-inner.ensures.value c.requires) refl
     c.look-word.ensures.step.1 c.in-Err.ensures.err.2.1)
 
 pub returns-clause-few : goal.returns-clause-few

@@ -106,7 +106,8 @@ returns-in-None-clause-judged g c =
     c.settled-2.ensures.each c.settled-2.ensures.once
     (held_by _ c.deref_mut-inner.ensures.value (sym c.holds.ensures ∙ c.if-not-holds.false))
     c.look.new.shown c.look.ensures.step
-    (λ w word. list_denial w.policy c.args.actor c.args.place word ≡ rule_of c.refused_answer.result)
+    (λ w word. list_denial w.policy c.args.actor c.args.place word ≡ rule_of
+    c.refused_answer.result)
     (sym (ap rule_of (c.refused_answer.ensures ∙ c.unlisted.ensures) ∙ rule_away _))
 
 pub returns-in-Some-clause-row : goal.returns-in-Some-clause-row

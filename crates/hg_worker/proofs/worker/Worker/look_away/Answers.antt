@@ -1,32 +1,26 @@
-use Rattle.std.proofs.Common.{◌≡◌, [], ◌∷◌, true, not, is_some, refl, sym, ap, ◌∙◌, arith}
+use Rattle.std.proofs.Common.{[], ◌∷◌, not, is_some, refl, sym, ap, ◌∙◌, arith}
 use Rattle.hg_heap.specs.Ties.{shown_at}
-use Rattle.hg_machine.specs.Policy.{arena_of}
 use Rattle.hg_table.specs.Seats.{part_on}
 use Rattle.hg_worker.specs.Seats.{number_in, part_of_seat}
 use Rattle.hg_worker.specs.Workers.{had_in}
 use Rattle.hg_worker.specs.Seen.{word_of}
 use Rattle.hg_worker.proofs.Hands.{own_saw}
-use Rattle.hg_worker.proofs.Steps.{own_looks, own_steps, no_step}
+use Rattle.hg_worker.proofs.Steps.{own_looked, own_steps, no_step}
 use Rattle.hg_worker.proofs.Tables.{same_together}
 use Rattle.hg_worker.proofs.Workers.{held_by}
 use Rattle.hg_worker.proofs.worker.Worker.look_away.Goals as goal
 
 pub returns-clause-looks : goal.returns-clause-looks
 returns-clause-looks g c =
-    rw (sym c.deref_mut-inner.ensures.value)
-    (let s = c.deref_mut-inner.result.now in
-    let some : is_some (arena_of s.policy c.args.place.segment) ≡ true =
-    ap is_some (sym c.arena_of.ensures) ∙ (c.is_none.ensures ∙ ap not c.if-is_none.false) in (
+    rw (sym c.deref_mut-inner.ensures.value) (
       shown_at c.args.place c.look.result,
-      (
-        some,
-        refl,
-        own_looks number_in part_of_seat c.args.place c.look.result (had_in s) _
-            (held_by _ c.deref_mut-inner.ensures.value c.requires) refl
-            c.look.ensures.shown c.look.ensures.step,
-      ),
+      own_looked number_in part_of_seat c.args.place c.look.result
+          (had_in c.deref_mut-inner.result.now) _
+          (ap is_some (sym c.arena_of.ensures) ∙ (c.is_none.ensures ∙ ap not c.if-is_none.false))
+          (held_by _ c.deref_mut-inner.ensures.value c.requires) refl c.look.ensures.shown
+          c.look.ensures.step,
       refl,
-    ))
+    )
 
 pub invariant_of-inner-clause-known : goal.invariant_of-inner-clause-known
 invariant_of-inner-clause-known g c =

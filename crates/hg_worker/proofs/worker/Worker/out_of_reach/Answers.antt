@@ -18,7 +18,8 @@ returns-clause-judged g c =
       c.refused_answer.ensures ∙ c.denied_or_elsewhere.ensures
           ∙ ap (λ (w : WorkerState). away_answer (use_denial w.policy c.args.actor.0 c.args.right h
           c.look_away-word.result)) c.deref.ensures
-          ∙ ap (λ p. away_answer (use_denial p c.args.actor.0 c.args.right h c.look_away-word.result))
+          ∙ ap (λ p. away_answer (use_denial p c.args.actor.0 c.args.right h
+          c.look_away-word.result))
           c.look_away-word.ensures.rest.policy
           ∙ ap (λ w. away_answer (denial (slot_in w))) e.2
           ∙ ap (λ s. away_answer (denial s)) (found_slot e.0),

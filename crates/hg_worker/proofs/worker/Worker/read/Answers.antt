@@ -30,7 +30,8 @@ used g c =
     let e = c.read.ensures.held (here g c) in
     held_use c.deref_mut-inner.ensures.value c.read.new.self c.args.handle.place
     c.settled-2.ensures.each c.settled-2.ensures.once (here g c) e.0 e.1
-    (event.Read c.args.actor c.args.handle c.args.index) c.read_answer.result _ c.read_answer.ensures e.2
+    (event.Read c.args.actor c.args.handle c.args.index) c.read_answer.result _
+    c.read_answer.ensures e.2
 
 pub invariant_of-inner : goal.invariant_of-inner
 invariant_of-inner g c =

@@ -48,7 +48,8 @@ used g c =
     let e = c.write.ensures.held (here g c) in
     held_use c.deref_mut-inner.ensures.value c.write.new.self c.args.handle.place
     c.settled-2.ensures.each c.settled-2.ensures.once (here g c) e.0 e.1
-    (event.Write c.args.actor c.args.handle c.args.index c.args.value) c.done_answer.result _ c.done_answer.ensures e.2
+    (event.Write c.args.actor c.args.handle c.args.index c.args.value) c.done_answer.result _
+    c.done_answer.ensures e.2
 
 pub invariant_of-inner : goal.invariant_of-inner
 invariant_of-inner g c =
