@@ -26,9 +26,7 @@ pub find_without : (n segment : ℕ) (xs : List Plain) → (segment ≡ n → �
     → find (is_of segment) (without n xs) ≡ find (is_of segment) xs
 find_without n segment [] ne = refl
 find_without n segment (x ∷ xs) ne =
-    elim (cases_Bool (x.holding.number == n))
-    as (λ _. find (is_of segment) (cond (not (x.holding.number == n)) (x ∷ without n xs)
-    (without n xs)) ≡ cond (x.holding.number == segment) (Some x) (find (is_of segment) xs)) [
+    elim (cases_Bool (x.holding.number == n)) [
       | inl t ↦
           ap (λ b. find (is_of segment) (cond (not b) (x ∷ without n xs) (without n xs))) t
           ∙ find_without n segment xs ne
@@ -43,9 +41,7 @@ pub any_without : (n segment : ℕ) (xs : List Plain) → (segment ≡ n → ⊥
     → list_any (is_of segment) (without n xs) ≡ list_any (is_of segment) xs
 any_without n segment [] ne = refl
 any_without n segment (x ∷ xs) ne =
-    elim (cases_Bool (x.holding.number == n)) as (λ _. list_any (is_of segment)
-    (cond (not (x.holding.number == n)) (x ∷ without n xs) (without n xs))
-    ≡ ((x.holding.number == segment) || list_any (is_of segment) xs)) [
+    elim (cases_Bool (x.holding.number == n)) [
       | inl t ↦
           ap (λ b. list_any (is_of segment) (cond (not b) (x ∷ without n xs) (without n xs))) t
           ∙ any_without n segment xs ne
@@ -93,7 +89,7 @@ module _ (parts : Parts) (w : ℕ) (heap : List Plain) (one : Plain) (pooled : I
 
   -- no heap had it
   had_not : (v : ℕ) → has (holdings (heap_at parts v)) n ≡ true → ⊥
-  had_not v t = elim (cases_lt v (length parts.heaps)) as (λ _. ⊥) [
+  had_not v t = elim (cases_lt v (length parts.heaps)) [
     | inl below ↦
         let some = some_passes (λ u. has (holdings (heap_at parts u)) n) 0 (length parts.heaps) v
         (omega arith) (omega arith) t in
@@ -113,8 +109,7 @@ module _ (parts : Parts) (w : ℕ) (heap : List Plain) (one : Plain) (pooled : I
       (is_of segment) (heap_at parts v)
   unfolding n
   find_same v segment ne =
-      elim (cases_eq v w) as (λ _. find (is_of segment) (heap_at after v) ≡ find (is_of segment)
-      (heap_at parts v)) [
+      elim (cases_eq v w) [
         | inl e ↦
             ap (λ x. find (is_of segment) (heap_at after x)) e
             ∙ ap (find (is_of segment)) heap_here
@@ -142,7 +137,7 @@ module _ (parts : Parts) (w : ℕ) (heap : List Plain) (one : Plain) (pooled : I
 
   -- it is in this heap alone
   only_here : (v : ℕ) → has (holdings (heap_at after v)) n ≡ true → v ≡ w
-  only_here v t = elim (cases_eq v w) as (λ _. v ≡ w) [
+  only_here v t = elim (cases_eq v w) [
     | inl e ↦ e
     | inr ne ↦ absurd (had_not v (sym (ap (λ h. has (holdings h) n) (heap_there v ne)) ∙ t))
   ]
@@ -170,7 +165,7 @@ module _ (parts : Parts) (w : ℕ) (heap : List Plain) (one : Plain) (pooled : I
   plain_same : (segment : ℕ) → plain_of after segment ≡ plain_of parts segment
   unfolding n
   plain_same segment =
-      elim (cases_eq segment n) as (λ _. plain_of after segment ≡ plain_of parts segment) [
+      elim (cases_eq segment n) [
         | inl e ↦
             ap (plain_of after) e
             ∙ ap (plain_by after n) worker_now

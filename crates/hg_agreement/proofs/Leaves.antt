@@ -29,8 +29,7 @@ one_more : (n : ℕ) (one : Plain) (xs ys : List Plain) → one.holding.number �
 one_more n one [] ys is none =
     ap (λ b. cond b (Some one) (find (is_of n) ys)) (eq-eqb one.holding.number n is)
 one_more n one (x ∷ xs) ys is none =
-    elim (cases_Bool (x.holding.number == n)) as (λ _. cond (x.holding.number == n) (Some x)
-    (find (is_of n) ((xs ++ one ∷ []) ++ ys)) ≡ Some one) [
+    elim (cases_Bool (x.holding.number == n)) [
       | inl t ↦ absurd
           (let bad : Some x ≡ None = sym (ap (λ b. cond b (Some x) (find (is_of n) (xs ++ ys))) t)
           ∙ none in cc)
@@ -89,7 +88,7 @@ module _ (parts : Parts) (w : ℕ) (heap : List Plain) (one : Plain) (sorted : I
 
   has_gone : (v : ℕ) → has (holdings (heap_at after v)) n ≡ false
   unfolding n after
-  has_gone v = elim (cases_eq v w) as (λ _. has (holdings (heap_at after v)) n ≡ false) [
+  has_gone v = elim (cases_eq v w) [
     | inl e ↦
         ap (λ x. has (holdings (heap_at after x)) n) e
         ∙ ap (λ h. has (holdings h) n) heap_here
@@ -104,8 +103,7 @@ module _ (parts : Parts) (w : ℕ) (heap : List Plain) (one : Plain) (sorted : I
       (is_of segment) (heap_at parts v)
   unfolding n
   find_same v segment ne =
-      elim (cases_eq v w) as (λ _. find (is_of segment) (heap_at after v) ≡ find (is_of segment)
-      (heap_at parts v)) [
+      elim (cases_eq v w) [
         | inl e ↦
             ap (λ x. find (is_of segment) (heap_at after x)) e
             ∙ ap (find (is_of segment)) heap_here
@@ -154,7 +152,7 @@ module _ (parts : Parts) (w : ℕ) (heap : List Plain) (one : Plain) (sorted : I
   plain_same : (segment : ℕ) → plain_of after segment ≡ plain_of parts segment
   unfolding n after
   plain_same segment =
-      elim (cases_eq segment n) as (λ _. plain_of after segment ≡ plain_of parts segment) [
+      elim (cases_eq segment n) [
         | inl e ↦
             ap (plain_of after) e
             ∙ ap (plain_by after n) worker_none

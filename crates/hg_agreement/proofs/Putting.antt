@@ -1,8 +1,7 @@
 -- A change of one place of a held segment, in the state of a core.
-use Rattle.std.proofs.Common.{if◌then◌else◌, ◌≡◌, ℕ, ◌+◌, ◌*◌, ◌/◌, ◌%◌, ◌<◌}
-use Rattle.std.proofs.Common.{inl, inr, Bool, true, [], map, length, get_or}
-use Rattle.std.proofs.Common.{set, Option, Some, None, refl, sym, ap, ◌∙◌, arith, find, is_some}
-use Rattle.std.proofs.Common.{slice_get}
+use Rattle.std.proofs.Common.{if◌then◌else◌, ◌≡◌, ℕ, ◌+◌, ◌*◌, ◌/◌, ◌%◌, ◌<◌, inl, inr, Bool, true}
+use Rattle.std.proofs.Common.{[], map, length, get_or, set, Option, Some, None, refl, sym, ap, ◌∙◌}
+use Rattle.std.proofs.Common.{arith, find, is_some, slice_get}
 use Rattle.std.specs.Option.{option_map}
 use Rattle.std.specs.List.{range_with_len, list_any}
 use Rattle.std.proofs.lemmas.Bool.{cases_eq, eq-eqb, ne_eqb}
@@ -68,8 +67,7 @@ module _ (parts : Parts) (w found : ℕ) (one now : Plain) (sorted : IsSorted pa
   find_same : (v segment : ℕ) → (segment ≡ n → ⊥) → find (is_of segment) (heap_at after v) ≡ find
       (is_of segment) (heap_at parts v)
   find_same v segment ne =
-      elim (cases_eq v w) as (λ _. find (is_of segment) (heap_at after v) ≡ find (is_of segment)
-      (heap_at parts v)) [
+      elim (cases_eq v w) [
         | inl e ↦ ap (λ x. find (is_of segment) (heap_at after x)) e ∙ find_other segment ne
             ∙ sym (ap (λ x. find (is_of segment) (heap_at parts x)) e)
         | inr away ↦ ap (find (is_of segment)) (heap_there v away)
@@ -78,21 +76,19 @@ module _ (parts : Parts) (w found : ℕ) (one now : Plain) (sorted : IsSorted pa
   has_same : (segment v : ℕ) → has (holdings (heap_at after v)) segment ≡ has
       (holdings (heap_at parts v)) segment
   has_same segment v =
-      elim (cases_eq segment n) as (λ _. has (holdings (heap_at after v)) segment ≡ has
-      (holdings (heap_at parts v)) segment) [
-        | inl e ↦ elim (cases_eq v w) as (λ _. has (holdings (heap_at after v)) segment ≡ has
-            (holdings (heap_at parts v)) segment) [
-              | inl same ↦
-                  ap (λ x. has (holdings (heap_at after x)) segment) same
-                  ∙ ap (λ x. has (holdings (heap_at after w)) x) e
-                  ∙ ap is_some (kept_find (heap_at after w) n)
-                  ∙ ap (λ o. is_some (option_map (λ k. k.holding) o)) find_here
-                  ∙ sym (ap (λ o. is_some (option_map (λ k. k.holding) o)) before_here)
-                  ∙ sym (ap is_some (kept_find (heap_at parts w) n))
-                  ∙ sym (ap (λ x. has (holdings (heap_at parts w)) x) e)
-                  ∙ sym (ap (λ x. has (holdings (heap_at parts x)) segment) same)
-              | inr away ↦ ap (λ h. has (holdings h) segment) (heap_there v away)
-            ]
+      elim (cases_eq segment n) [
+        | inl e ↦ elim (cases_eq v w) [
+          | inl same ↦
+              ap (λ x. has (holdings (heap_at after x)) segment) same
+              ∙ ap (λ x. has (holdings (heap_at after w)) x) e
+              ∙ ap is_some (kept_find (heap_at after w) n)
+              ∙ ap (λ o. is_some (option_map (λ k. k.holding) o)) find_here
+              ∙ sym (ap (λ o. is_some (option_map (λ k. k.holding) o)) before_here)
+              ∙ sym (ap is_some (kept_find (heap_at parts w) n))
+              ∙ sym (ap (λ x. has (holdings (heap_at parts w)) x) e)
+              ∙ sym (ap (λ x. has (holdings (heap_at parts x)) segment) same)
+          | inr away ↦ ap (λ h. has (holdings h) segment) (heap_there v away)
+        ]
         | inr ne ↦
             ap is_some (kept_find (heap_at after v) segment)
             ∙ ap (λ o. is_some (option_map (λ k. k.holding) o)) (find_same v segment ne)
@@ -153,7 +149,7 @@ module _ (parts : Parts) (w found : ℕ) (one now : Plain) (sorted : IsSorted pa
   record_swapped : (q : ℕ) → q < segments * 8192 → record_of after q ≡ record_now parts now q
   unfolding segments n
   record_swapped q below =
-      elim (cases_eq (segment_of q) n) as (λ _. record_of after q ≡ record_now parts now q) [
+      elim (cases_eq (segment_of q) n) [
         | inl e ↦
             ap (λ s. record_by (plain_of after s) (q % 8192)) e
             ∙ ap (λ o. record_by o (q % 8192)) plain_after
@@ -173,7 +169,7 @@ module _ (parts : Parts) (w found : ℕ) (one now : Plain) (sorted : IsSorted pa
   class_swapped : (q : ℕ) → q < segments * 16 → page_class after q ≡ class_now parts now q
   unfolding segments n
   class_swapped q below =
-      elim (cases_eq (segment_of_page q) n) as (λ _. page_class after q ≡ class_now parts now q) [
+      elim (cases_eq (segment_of_page q) n) [
         | inl e ↦
             ap (λ s. class_by (plain_of after s) (q % 16)) e
             ∙ ap (λ o. class_by o (q % 16)) plain_after
@@ -235,7 +231,7 @@ module _ (parts : Parts) (w found : ℕ) (one now : Plain) (sorted : IsSorted pa
     -- records, classes and holders
     record_other : (q : ℕ) → (q ≡ n * 8192 + at → ⊥) → record_of after q ≡ record_of parts q
     record_other q ne =
-        elim (cases_eq (segment_of q) n) as (λ _. record_of after q ≡ record_of parts q) [
+        elim (cases_eq (segment_of q) n) [
           | inl e ↦
               let b = put.below in
               ap (λ s. record_by (plain_of after s) (q % 8192)) e
@@ -257,7 +253,7 @@ module _ (parts : Parts) (w found : ℕ) (one now : Plain) (sorted : IsSorted pa
 
     class_other : (q : ℕ) → (q ≡ n * 16 + at / 512 → ⊥) → page_class after q ≡ page_class parts q
     class_other q ne =
-        elim (cases_eq (segment_of_page q) n) as (λ _. page_class after q ≡ page_class parts q) [
+        elim (cases_eq (segment_of_page q) n) [
           | inl e ↦
               let b = put.below in
               ap (λ s. class_by (plain_of after s) (q % 16)) e

@@ -1,24 +1,22 @@
 -- The witness state is sound and agrees.
-use Rattle.std.proofs.Common.{◌≡◌, ℕ, ◌*◌, ◌==◌, ◌<◌, ◌≤◌, inl, inr, Bool, true, false}
-use Rattle.std.proofs.Common.{not, ◌&&◌, ◌||◌, if◌then◌else◌, map, filter, length, get_or}
-use Rattle.std.proofs.Common.{replicate, Option, Some, None, IfSome, refl, sym, ap, subst, ◌∙◌}
-use Rattle.std.proofs.Common.{arith, Contains}
-use Rattle.std.specs.List.{range_with_len, count_by}
-use Rattle.std.proofs.lemmas.Bool.{cases_lt, cases_Bool, eq-eqb, or_from}
-use Rattle.std.proofs.lemmas.Bool.{or_left, or_right, false_from_ne_true}
+use Rattle.std.proofs.Common.{◌≡◌, ℕ, ◌*◌, ◌<◌, ◌≤◌, inl, inr, Bool, true, false, not, ◌&&◌, ◌||◌}
+use Rattle.std.proofs.Common.{if◌then◌else◌, map, length, get_or, replicate, Option, Some, None}
+use Rattle.std.proofs.Common.{IfSome, refl, sym, ap, subst, ◌∙◌, arith, Contains}
+use Rattle.std.specs.List.{range_with_len}
+use Rattle.std.proofs.lemmas.Bool.{cases_lt, cases_Bool, eq-eqb, or_from, or_left, or_right}
+use Rattle.std.proofs.lemmas.Bool.{false_from_ne_true}
 use Rattle.std.proofs.lemmas.Grind.{get_or-set_at}
 use Rattle.std.proofs.lemmas.List.{length-set, get_or_past, length-replicate}
 use Rattle.std.proofs.lemmas.List.FromFn.{length-map-range_with_len, get_or-map-range_with_len}
 use Rattle.std.proofs.lemmas.Option.{none-some, same_Some}
-use Rattle.hg_size.specs.Runs.{AreRuns, IsRunAt}
+use Rattle.hg_size.specs.Runs.{AreRuns}
 use Rattle.hg_size.proofs.Covers.{run_alike, run_small}
 use Rattle.hg_size.specs.Sizes.{sizes, places_of}
 use Rattle.hg_place.specs.Places.{page_of, segment_of, index_of, segment_of_page}
 use Rattle.hg_place.specs.Slots.{slot_in}
 use Rattle.hg_place.specs.Words.{bit_of}
 use Rattle.hg_place.specs.Standings.{is_home as at_home}
-use Rattle.hg_machine.specs.Life.{never_used, is_home, is_live, is_parted}
-use Rattle.hg_machine.specs.Life.{contents_of}
+use Rattle.hg_machine.specs.Life.{never_used, is_home, is_parted, contents_of}
 use Rattle.hg_machine.specs.State.{fresh, record_at, class_at, holder_at, hand_of}
 use Rattle.hg_machine.specs.Holders.{is_number, is_held_by, is_orphan, holds}
 use Rattle.hg_machine.specs.Soundness.{IsSoundRecord, IsSound}
@@ -30,10 +28,9 @@ use Rattle.hg_agreement.specs.Agreement.{standing_of, Agrees}
 use Rattle.hg_machine.proofs.Suits.{number_some}
 use Rattle.hg_machine.specs.Shown.{IsShownBy}
 use Rattle.hg_agreement.specs.Witness.{record_held, record_elsewhere, is_shown_at, is_on}
-use Rattle.hg_agreement.specs.Witness.{is_shown_on, held_life}
-use Rattle.hg_agreement.specs.Witness.{other_record, is_ended, record_in, class_in, holder_in}
-use Rattle.hg_agreement.specs.Witness.{witness, IsHeapView, IsFoundBy, IsUsual, IsHandOf}
-use Rattle.hg_agreement.specs.Witness.{WitnessAgrees}
+use Rattle.hg_agreement.specs.Witness.{is_shown_on, held_life, other_record, is_ended, record_in}
+use Rattle.hg_agreement.specs.Witness.{class_in, holder_in, witness, IsHeapView, IsFoundBy, IsUsual}
+use Rattle.hg_agreement.specs.Witness.{IsHandOf, WitnessAgrees}
 use Rattle.hg_agreement.proofs.FitWords.{IsFit, fit_word}
 use Rattle.hg_agreement.proofs.HeldLives.{twice, held_home, held_words, held_owner, held_standing}
 use Rattle.hg_agreement.proofs.HeldLives.{held_parted, held_live, held_dead}
@@ -48,7 +45,7 @@ use Rattle.hg_agreement.proofs.WitnessParts.{holder_orphan, holder_is}
 numbered : {X : Type 0} (f : ℕ → X) (d : X) (n k : ℕ) → (n ≤ k → f k ≡ d)
     → get_or (map f (range_with_len 0 n)) k d ≡ f k
 numbered {X} f d n k past =
-    elim (cases_lt k n) as (λ _. get_or (map f (range_with_len 0 n)) k d ≡ f k) [
+    elim (cases_lt k n) [
       | inl below ↦ get_or-map-range_with_len f 0 n k k d below (omega arith)
       | inr over ↦ get_or_past (map f (range_with_len 0 n)) k d
           (let l = length-map-range_with_len f 0 n in omega arith) ∙ sym (past over)
@@ -119,8 +116,7 @@ module _ (view : View) (shown : Option Shown) (heap : IsHeapView view) (hand : I
   hand_of_one : (v q : ℕ) → hand_of (witness view shown) v ≡ Some q
       → (v ≡ view.worker) × (view.hand ≡ Some q)
   hand_of_one v q e =
-      elim (set_cases (replicate view.policy.workers None) view.worker v view.hand None)
-      as (λ _. (v ≡ view.worker) × (view.hand ≡ Some q)) [
+      elim (set_cases (replicate view.policy.workers None) view.worker v view.hand None) [
         | inl here ↦ (here.0, sym here.1 ∙ e)
         | inr other ↦ absurd (none-some q (sym (all_same view.policy.workers v None)
             ∙ (sym other ∙ e)))
@@ -142,8 +138,7 @@ module _ (view : View) (shown : Option Shown) (heap : IsHeapView view) (hand : I
   holding_is : (segment : ℕ) → holds (witness view shown) view.worker segment ≡ view.holds segment
   unfolding segments
   holding_is segment =
-      elim (cases_lt segment (length view.policy.segments))
-      as (λ _. holds (witness view shown) view.worker segment ≡ view.holds segment) [
+      elim (cases_lt segment (length view.policy.segments)) [
         | inl below ↦ ap (is_held_by view.worker) (holder_is_of segment below)
             ∙ holder_is (view.holds segment) view.worker
         | inr past ↦ ap (is_held_by view.worker) (holder_past segment past)
@@ -192,8 +187,7 @@ module _ (view : View) (shown : Option Shown) (heap : IsHeapView view) (hand : I
       (page_of q) ≡ Some 1
   class_told q h t =
       class_other (page_of q) (held_page q false h)
-      (elim (cases_Bool (is_number q view.hand))
-      as (λ _. (is_on (page_of q) view.hand || is_shown_on (page_of q) shown) ≡ true) [
+      (elim (cases_Bool (is_number q view.hand)) [
         | inl in_hand ↦ or_left _ _ (hand_on view.hand q in_hand)
         | inr not_in ↦ or_right _ _ (at_on shown q (ap (λ b. b || is_shown_at shown q) (sym not_in)
             ∙ t))
@@ -238,9 +232,7 @@ module _ (view : View) (shown : Option Shown) (heap : IsHeapView view) (hand : I
   block_sound : (q : ℕ) → IsSoundRecord view.policy.max_generation
       (class_at (witness view shown) (page_of q)) (index_of q) (record_at (witness view shown) q)
   block_sound q =
-      elim (cases_Bool (view.holds (segment_of q)))
-      as (λ _. IsSoundRecord view.policy.max_generation (class_at (witness view shown) (page_of q))
-      (index_of q) (record_at (witness view shown) q)) [
+      elim (cases_Bool (view.holds (segment_of q))) [
         | inl h ↦ subst (IsSoundRecord view.policy.max_generation
             (class_at (witness view shown) (page_of q)) (index_of q)) (sym (held_is q h))
             (record {
@@ -268,8 +260,7 @@ module _ (view : View) (shown : Option Shown) (heap : IsHeapView view) (hand : I
   in_hand_parted v q e =
       let o = hand_of_one v q e in
       let n : is_number q view.hand ≡ true = number_is q view.hand o.1 in
-      elim (cases_Bool (view.holds (segment_of q)))
-      as (λ _. is_parted (record_at (witness view shown) q).life ≡ true) [
+      elim (cases_Bool (view.holds (segment_of q))) [
         | inl h ↦
             ap (λ r. is_parted r.life) (held_is q h)
             ∙ ap (λ b. is_parted (held_life b (view.standing q) (view.block q)))
@@ -284,8 +275,7 @@ module _ (view : View) (shown : Option Shown) (heap : IsHeapView view) (hand : I
 
   run_here : AreRuns (class_at (witness view shown))
   run_here page =
-      elim (cases_Bool (view.holds (segment_of_page page)))
-      as (λ _. IsRunAt (class_at (witness view shown)) page) [
+      elim (cases_Bool (view.holds (segment_of_page page))) [
         | inl h ↦ run_alike view.class (class_at (witness view shown)) page
             (λ q e. class_held q (ap view.holds e ∙ h)) (heap.runs page h)
         | inr f ↦ run_small (class_at (witness view shown)) page
@@ -317,35 +307,30 @@ module _ (view : View) (shown : Option Shown) (heap : IsHeapView view) (hand : I
         (is_on page view.hand || is_shown_on page shown) (view.class page) size (Contains sizes)
         (sym (class_is page) ∙ e) (0, (omega arith), refl) (heap.classes page size);
     runs = run_here;
-    workers = λ segment v e. elim (cases_lt segment (length view.policy.segments))
-        as (λ _. v < view.policy.workers) [
-          | inl below ↦ subst (λ n. n < view.policy.workers)
-              (sym (holder_worker (view.holds segment) view.worker v
-              (sym (holder_is_of segment below)
-              ∙ e))) heap.worker
-          | inr past ↦ absurd (fresh_unheld v (sym (holder_past segment past) ∙ e))
-        ];
-    orphans = λ segment. elim (cases_lt segment (length view.policy.segments))
-        as (λ _. count_by (λ x. x == segment)
-        (filter (λ n. not (view.holds n)) (range_with_len 0 (length view.policy.segments))) ≡ bit_of
-        (is_orphan (holder_at (witness view shown) segment))) [
-          | inl below ↦
-              inside (λ n. not (view.holds n)) 0 (length view.policy.segments) segment (omega arith)
-              (omega arith)
-              ∙ sym (ap (λ h. bit_of (is_orphan h)) (holder_is_of segment below)
-              ∙ ap bit_of (holder_orphan (view.holds segment) view.worker))
-          | inr past ↦
-              outside (λ n. not (view.holds n)) 0 (length view.policy.segments) segment
-              (inr (omega arith))
-              ∙ sym (ap (λ h. bit_of (is_orphan h)) (holder_past segment past))
-        ];
+    workers = λ segment v e. elim (cases_lt segment (length view.policy.segments)) [
+      | inl below ↦ subst (λ n. n < view.policy.workers)
+          (sym (holder_worker (view.holds segment) view.worker v
+          (sym (holder_is_of segment below)
+          ∙ e))) heap.worker
+      | inr past ↦ absurd (fresh_unheld v (sym (holder_past segment past) ∙ e))
+    ];
+    orphans = λ segment. elim (cases_lt segment (length view.policy.segments)) [
+      | inl below ↦
+          inside (λ n. not (view.holds n)) 0 (length view.policy.segments) segment (omega arith)
+          (omega arith)
+          ∙ sym (ap (λ h. bit_of (is_orphan h)) (holder_is_of segment below)
+          ∙ ap bit_of (holder_orphan (view.holds segment) view.worker))
+      | inr past ↦
+          outside (λ n. not (view.holds n)) 0 (length view.policy.segments) segment
+          (inr (omega arith))
+          ∙ sym (ap (λ h. bit_of (is_orphan h)) (holder_past segment past))
+    ];
   }
 
   ended_when_shown : (q : ℕ) → is_shown_at shown q ≡ true → not (is_ended view shown q)
       ≡ (slot_shown shown).live
   ended_when_shown q t =
-      elim (cases_Bool (is_number q view.hand)) as (λ _. not (is_ended view shown q)
-      ≡ (slot_shown shown).live) [
+      elim (cases_Bool (is_number q view.hand)) [
         | inl n ↦
             ap (λ b. not b)
             (or_left (is_number q view.hand) (is_shown_at shown q && not (slot_shown shown).live) n)
@@ -362,13 +347,12 @@ module _ (view : View) (shown : Option Shown) (heap : IsHeapView view) (hand : I
       → IsShownBy (record_held view shown q) word
   shown_held q word h t is fit = record {
     generation = fit.generation;
-    live = elim (cases_Bool (at_home (view.standing q))) as (λ _. (slot_in word).live ≡ is_live
-        (record_held view shown q).life) [
-          | inr given ↦ ap (λ s. s.live) (sym is) ∙ sym (ended_when_shown q t)
-              ∙ sym (held_live (is_ended view shown q) (view.standing q) (view.block q) given)
-          | inl free ↦ fit.freed free
-              ∙ sym (held_dead (is_ended view shown q) (view.standing q) (view.block q) free)
-        ];
+    live = elim (cases_Bool (at_home (view.standing q))) [
+      | inr given ↦ ap (λ s. s.live) (sym is) ∙ sym (ended_when_shown q t)
+          ∙ sym (held_live (is_ended view shown q) (view.standing q) (view.block q) given)
+      | inl free ↦ fit.freed free
+          ∙ sym (held_dead (is_ended view shown q) (view.standing q) (view.block q) free)
+    ];
     owner = λ used. fit.owner (is_used q used)
         ∙ sym (held_owner (is_ended view shown q) (view.standing q) (view.block q));
   }
@@ -395,8 +379,7 @@ module _ (view : View) (shown : Option Shown) (heap : IsHeapView view) (hand : I
       let at : is_shown_at shown q ≡ true = ap (λ o. is_shown_at o q) e ∙ eq-eqb q q refl in
       let is : slot_shown shown ≡ slot_in s.word = ap slot_shown e in
       let one : IsFoundBy view s = found_at s e in
-      elim (cases_Bool (view.holds (segment_of q)))
-      as (λ _. IsShownBy (record_at (witness view shown) q) s.word) [
+      elim (cases_Bool (view.holds (segment_of q))) [
         | inl h ↦ subst (λ r. IsShownBy r s.word) (sym (held_is q h))
             (shown_held q s.word h at is (fit_word (view.standing q) s.word (one.fits h)))
         | inr f ↦
