@@ -19,7 +19,7 @@ use Rattle.hg_agreement.proofs.Collects.{collect_is_tied}
 use Rattle.hg_agreement.proofs.Clears.{swept_is_cleared}
 use Rattle.hg_agreement.specs.Seen.{idle_pages_in}
 use Rattle.hg_machine.proofs.Answered.{of_some}
-use Rattle.hg_agreement.proofs.Putting.{swap_had, swap_below}
+use Rattle.hg_agreement.proofs.Swapped.{swap_had, swap_below}
 use Rattle.hg_agreement.proofs.Leaves.{go_had, let_go_is_abandoned}
 use Rattle.hg_agreement.proofs.Firsts.{next_is_first}
 use Rattle.hg_agreement.proofs.Adopts.{taken_up_is_adopted}

@@ -18,7 +18,7 @@ use Rattle.std.proofs.lemmas.Map.Keys.{any_passes_from_place}
 use Rattle.hg_agreement.specs.Orders.{SwapKeepsOrder, SweptKeepsOrder, LetGoKeepsOrder}
 use Rattle.hg_agreement.specs.Orders.{TakenUpKeepsOrder}
 use Rattle.hg_agreement.proofs.Firsts.{count_cons, count_append, some_counted}
-use Rattle.hg_agreement.proofs.Putting.{swap_has, swap_worker}
+use Rattle.hg_agreement.proofs.Swapped.{swap_has, swap_worker}
 use Rattle.hg_agreement.proofs.Clears.{swept_has, swept_worker}
 use Rattle.hg_agreement.proofs.Leaves.{go_has, go_gone, go_had, go_worker, go_none, go_was}
 use Rattle.hg_agreement.proofs.Adopts.{numbers_without, up_has, up_only, up_worker, up_now}

@@ -21,7 +21,7 @@ use Rattle.hg_agreement.specs.TakenIn.{remote_places, is_listed, taken_in, IsTak
 use Rattle.hg_agreement.specs.TakenIn.{TakenInIsSettled}
 use Rattle.hg_agreement.proofs.Told.{record_is, class_is}
 use Rattle.hg_agreement.proofs.Lookups.{maps_below}
-use Rattle.hg_agreement.proofs.Putting.{swap_is_map, swap_before, swap_below}
+use Rattle.hg_agreement.proofs.Swapped.{swap_is_map, swap_before, swap_below}
 use Rattle.hg_agreement.proofs.Firsts.{some_counted, none_counted}
 
 places_apart : (base : ℕ) (xss : List (List ℕ)) → concat (map (places_from base) xss) ≡ places_from
