@@ -14,7 +14,7 @@ use Rattle.hg_place.specs.Places.{segment_of_page}
 use Rattle.hg_place.specs.Standings.{standing_at}
 use Rattle.hg_size.specs.Sizes.{sizes, places_of, number_of_size}
 use Rattle.hg_size.specs.SizeLaws.{key_of}
-use Rattle.hg_size.proofs.Table.{size_for_is_least}
+use Rattle.hg_size.proofs.Table.{size_for_is_least, places_small}
 use Rattle.hg_page.specs.PageLists.{PageLists, fresh, listed, Pops}
 use Rattle.hg_segment.specs.Kept.{Kept, class_at, lists_at, refilled, slot}
 use Rattle.hg_segment.specs.Right.{is_vacant, vacant_in, HasVacant}
@@ -23,24 +23,18 @@ use Rattle.std.proofs.lemmas.Option.{none-some}
 use Rattle.hg_size.specs.Runs.{may_begin}
 use Rattle.hg_size.proofs.Covers.{begins_not}
 use Rattle.hg_size.proofs.Within.{begins_within}
-use Rattle.hg_size.proofs.Table.{places_small}
-use Rattle.hg_machine.specs.declared.Event.TheVariants as event
-use Rattle.hg_machine.specs.declared.Answer.TheVariants as answer
 use Rattle.hg_machine.specs.SoundPolicy.{IsSoundPolicy}
 use Rattle.hg_machine.specs.Policy.{arena_of}
-use Rattle.hg_machine.specs.State.{State}
-use Rattle.hg_machine.specs.State.{class_at as class_of_page}
+use Rattle.hg_machine.specs.State.{State, class_at as class_of_page}
 use Rattle.hg_machine.specs.Holders.{holds, is_in_arena, is_number}
 use Rattle.hg_machine.specs.Charge.{charge}
 use Rattle.hg_machine.specs.Request.{words_for, size_of}
 use Rattle.hg_machine.specs.Room.{suits, is_usable, is_open_to, has_open, is_room}
 use Rattle.hg_machine.proofs.Allowed.{fitting}
 use Rattle.hg_machine.proofs.Cases.{Served}
-use Rattle.hg_heap.specs.Held.{Held, segment_in, is_held, has_place}
-use Rattle.hg_heap.specs.Held.{lists_on as lists_in}
+use Rattle.hg_heap.specs.Held.{Held, segment_in, is_held, has_place, lists_on as lists_in}
 use Rattle.hg_heap.specs.Held.{lists_by as lists_had}
-use Rattle.hg_heap.specs.Choice.{begun_or, blank_of, blank_by, blank_on}
-use Rattle.hg_heap.specs.Choice.{lists_for as lists_for_in}
+use Rattle.hg_heap.specs.Choice.{begun_or, blank_of, blank_by, blank_on, lists_for as lists_for_in}
 use Rattle.hg_heap.specs.Requeued.{requeued}
 use Rattle.hg_heap.proofs.ViewRoom.{open_by, found_one}
 use Rattle.hg_heap.proofs.Chosen.{blank_there}
@@ -63,6 +57,8 @@ use Rattle.hg_chosen.proofs.HeapLists.{numbered, heap_now, lists_changed, some_i
 use Rattle.hg_chosen.proofs.Numbered.{has_numbered, same_page, numbered_told, class_told}
 use Rattle.hg_chosen.proofs.Numbered.{arena_told}
 use Rattle.hg_chosen.proofs.HeldSame.{seen, held_same, queues_put}
+use Rattle.hg_machine.specs.declared.Event.TheVariants as event
+use Rattle.hg_machine.specs.declared.Answer.TheVariants as answer
 
 -- lists by numbers are refilled as by indexes
 free_refilled : (first : ℕ) (free others : List ℕ) (one two : List Bool)

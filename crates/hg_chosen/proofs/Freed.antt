@@ -1,27 +1,21 @@
 -- A Free of a block that the worker holds, in lists and queues.
 use Rattle.std.proofs.Common.{◌≡◌, ◌≢◌, ℕ, ◌+◌, ◌*◌, ◌-◌, ◌%◌, ◌==◌, ◌<◌, Bool, true, false, List}
-use Rattle.std.proofs.Common.{[], ◌∷◌}
-use Rattle.std.proofs.Common.{refl, sym, ap, ◌∙◌, arith}
+use Rattle.std.proofs.Common.{[], ◌∷◌, refl, sym, ap, ◌∙◌, arith}
 use Rattle.std.specs.Prelude.{Option, Some, None, MatchOption, option_map}
 use Rattle.hg_place.specs.declared.Actor.{Actor}
 use Rattle.hg_place.specs.declared.Handle.{Handle}
-use Rattle.hg_place.specs.declared.Right.TheVariants as right
 use Rattle.hg_place.specs.declared.plain.PlainWords.{PlainWords}
 use Rattle.hg_place.specs.Lives.{IsLiveWord}
 use Rattle.hg_place.specs.Places.{number_of, page_number, page_of, segment_of_page}
 use Rattle.hg_size.specs.Sizes.{number_of_size}
 use Rattle.hg_size.specs.SizeLaws.{key_of}
-use Rattle.hg_segment.specs.Kept.{Kept, lists_at, returned}
-use Rattle.hg_segment.specs.Kept.{class_at as class_in}
+use Rattle.hg_segment.specs.Kept.{Kept, lists_at, returned, class_at as class_in}
 use Rattle.hg_segment.specs.Parted.{plain_number}
 use Rattle.hg_heap.specs.Held.{Held, segment_in, greatest_in, greatest_by, has_place}
 use Rattle.hg_heap.specs.Held.{lists_on as lists_held}
-use Rattle.hg_heap.specs.Queues.{key_by}
-use Rattle.hg_heap.specs.Queues.{key_on as key_held}
+use Rattle.hg_heap.specs.Queues.{key_by, key_on as key_held}
 use Rattle.hg_heap.specs.Requeued.{requeued}
 use Rattle.hg_machine.specs.declared.Answer.{Answer}
-use Rattle.hg_machine.specs.declared.Answer.TheVariants as answer
-use Rattle.hg_machine.specs.declared.Event.TheVariants as event
 use Rattle.hg_machine.specs.declared.Rule.{Rule}
 use Rattle.hg_machine.specs.Denial.{denial}
 use Rattle.hg_machine.specs.Lists.{Lists}
@@ -45,8 +39,10 @@ use Rattle.hg_chosen.specs.Freed.{IsFreed, FreeIsChosen}
 use Rattle.hg_chosen.proofs.CameHome.{home_lists, home_placed, key_told}
 use Rattle.hg_chosen.proofs.CoreQueues.{queues_seen, queues_set}
 use Rattle.hg_chosen.proofs.ListedSwaps.{alike, same_lists}
-use Rattle.hg_chosen.proofs.Same.{one_told, number_kept, lists_one, lists_now, lists_new}
-use Rattle.hg_chosen.proofs.Same.{there}
+use Rattle.hg_chosen.proofs.Same.{one_told, number_kept, lists_one, lists_now, lists_new, there}
+use Rattle.hg_place.specs.declared.Right.TheVariants as right
+use Rattle.hg_machine.specs.declared.Answer.TheVariants as answer
+use Rattle.hg_machine.specs.declared.Event.TheVariants as event
 
 -- an answer that no reason to refuse gives
 

@@ -1,7 +1,7 @@
 -- Calls of a worker on its own heap that leave all lists and queues: each is a step with its
 -- choices.
-use Rattle.std.proofs.Common.{◌≡◌, ℕ, ◌+◌, ◌*◌, ◌%◌, ◌<◌, List, map, slice_set, sym, ap, ◌∙◌}
-use Rattle.std.proofs.Common.{arith, length}
+use Rattle.std.proofs.Common.{◌≡◌, ℕ, ◌+◌, ◌*◌, ◌%◌, ◌<◌, List, map, slice_set, sym, ap, ◌∙◌, arith}
+use Rattle.std.proofs.Common.{length}
 use Rattle.std.specs.Prelude.{Some, Option}
 use Rattle.std.proofs.lemmas.List.{map-set}
 use Rattle.hg_place.specs.declared.Place.{Place}
@@ -9,12 +9,10 @@ use Rattle.hg_place.specs.declared.plain.PlainWords.{PlainWords}
 use Rattle.hg_place.specs.Places.{segment_of_page}
 use Rattle.hg_segment.specs.Kept.{Kept, lists_at}
 use Rattle.hg_segment.specs.Parted.{plain_number}
-use Rattle.hg_heap.specs.Held.{Held, segment_in, KeepsLists}
-use Rattle.hg_heap.specs.Held.{lists_on as lists_held, lists_by as lists_from}
+use Rattle.hg_heap.specs.Held.{Held, segment_in, KeepsLists, lists_on as lists_held}
+use Rattle.hg_heap.specs.Held.{lists_by as lists_from}
 use Rattle.hg_machine.specs.declared.Answer.{Answer}
-use Rattle.hg_machine.specs.declared.Answer.TheVariants as answer
 use Rattle.hg_machine.specs.declared.Event.{Event}
-use Rattle.hg_machine.specs.declared.Event.TheVariants as event
 use Rattle.hg_machine.specs.Lists.{Lists}
 use Rattle.hg_machine.specs.SoundPolicy.{IsSoundPolicy}
 use Rattle.hg_heap.specs.Answers.{read_answer, done_answer, look_answer, list_denial}
@@ -26,10 +24,11 @@ use Rattle.hg_events.specs.Own.{with_heap, IsOwnCall}
 use Rattle.hg_events.proofs.CoreHeaps.{heap_is, spot}
 use Rattle.hg_events.proofs.OwnCall.{one_in, now_in, number}
 use Rattle.hg_events.proofs.OwnSteps.{read_is_step, write_is_step, look_is_step, free_is_denied}
-use Rattle.hg_chosen.specs.Same.{ReadIsChosen, WriteIsChosen, LookIsChosen}
-use Rattle.hg_chosen.specs.Same.{DeniedFreeIsChosen}
+use Rattle.hg_chosen.specs.Same.{ReadIsChosen, WriteIsChosen, LookIsChosen, DeniedFreeIsChosen}
 use Rattle.hg_chosen.proofs.CoreQueues.{queues_same}
 use Rattle.hg_chosen.proofs.ListedSwaps.{alike, same_lists}
+use Rattle.hg_machine.specs.declared.Answer.TheVariants as answer
+use Rattle.hg_machine.specs.declared.Event.TheVariants as event
 
 -- the heap of a core with another of its segments at an index
 pub heap_set : (core : Core) (worker found : ℕ) (heap : Held PlainWords) (now : Kept PlainWords)

@@ -1,18 +1,13 @@
 -- Blocks of a segment that the worker doesn't hold.
-use Rattle.std.proofs.Common.{◌≡◌, ℕ, ◌<◌, true, false, Option, Some, None, refl, sym, subst}
-use Rattle.std.proofs.Common.{◌∙◌}
+use Rattle.std.proofs.Common.{◌≡◌, ℕ, ◌<◌, true, false, Option, Some, None, refl, sym, subst, ◌∙◌}
 use Rattle.hg_place.specs.declared.Actor.{Actor}
 use Rattle.hg_place.specs.declared.Handle.{Handle}
 use Rattle.hg_place.specs.declared.Place.{Place}
-use Rattle.hg_place.specs.declared.Right.TheVariants as right
 use Rattle.hg_heap.specs.declared.refused.Refused.{Refused}
-use Rattle.hg_heap.specs.declared.refused.Refused.TheVariants as refused
-use Rattle.hg_heap.specs.Answers.{refused_answer, list_denial}
-use Rattle.hg_heap.specs.Answers.{look_answer as heap_answer}
+use Rattle.hg_heap.specs.Answers.{refused_answer, list_denial, look_answer as heap_answer}
 use Rattle.hg_heap.specs.Reading.{use_denial}
 use Rattle.hg_machine.specs.declared.Answer.{Answer}
 use Rattle.hg_machine.specs.declared.Event.{Event}
-use Rattle.hg_machine.specs.declared.Event.TheVariants as event
 use Rattle.hg_machine.specs.declared.Rule.{Rule}
 use Rattle.hg_machine.specs.Holders.{holds}
 use Rattle.hg_machine.specs.Steps.{Step}
@@ -25,6 +20,9 @@ use Rattle.hg_chosen.specs.Chosen.{IsChosenBy}
 use Rattle.hg_chosen.proofs.Refusals.{refused_is_chosen}
 use Rattle.hg_core.specs.Keeping.{state_in, IsKept}
 use Rattle.hg_core.proofs.After.{heap_below}
+use Rattle.hg_place.specs.declared.Right.TheVariants as right
+use Rattle.hg_heap.specs.declared.refused.Refused.TheVariants as refused
+use Rattle.hg_machine.specs.declared.Event.TheVariants as event
 
 -- without a row the answer is by the verdict alone
 pub no_row : (denial : Option Rule) → heap_answer None denial ≡ away_answer denial

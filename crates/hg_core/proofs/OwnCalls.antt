@@ -1,7 +1,6 @@
 -- A call on a worker's own heap.
 use Rattle.std.proofs.Common.{◌≡◌, ◌==◌, ℕ, ◌<◌, ◌-◌, true, Contains, Option, Some, None}
-use Rattle.std.proofs.Common.{slice_index_or}
-use Rattle.std.proofs.Common.{refl, sym, ap, subst, ◌∙◌}
+use Rattle.std.proofs.Common.{slice_index_or, refl, sym, ap, subst, ◌∙◌}
 use Rattle.std.specs.Prelude.{Result, Ok, Err, IfOk, IfErr, OnOk}
 use Rattle.std.specs.Box.{boxed_slice_items, boxed_slice_with_item}
 use Rattle.hg_place.specs.declared.Actor.{Actor}
@@ -14,7 +13,6 @@ use Rattle.hg_place.specs.Plain.{plain_records}
 use Rattle.hg_segment.specs.Kept.{Kept}
 use Rattle.hg_segment.specs.Parted.{plain_number}
 use Rattle.hg_heap.specs.declared.refused.Refused.{Refused}
-use Rattle.hg_heap.specs.declared.refused.Refused.TheVariants as refused
 use Rattle.hg_heap.specs.Allotted.{IsAllotted}
 use Rattle.hg_heap.specs.Answers.{refused_answer, read_answer, done_answer, list_denial}
 use Rattle.hg_heap.specs.Answers.{look_answer as heap_answer}
@@ -26,9 +24,7 @@ use Rattle.hg_heap.specs.Requeued.{requeued}
 use Rattle.hg_heap.specs.Settled.{IsSettled}
 use Rattle.hg_heap.specs.Ties.{Stepped, HeapTies, shown_at}
 use Rattle.hg_machine.specs.declared.Event.{Event}
-use Rattle.hg_machine.specs.declared.Event.TheVariants as event
 use Rattle.hg_machine.specs.declared.Answer.{Answer}
-use Rattle.hg_machine.specs.declared.Answer.TheVariants as answer
 use Rattle.hg_machine.specs.declared.Row.{Row}
 use Rattle.hg_machine.specs.declared.Rule.{Rule}
 use Rattle.hg_machine.specs.Holders.{holds}
@@ -59,6 +55,9 @@ use Rattle.hg_core.proofs.After.{IsAfter, after_still, after_refused, heap_read,
 use Rattle.hg_core.proofs.After.{put_back}
 use Rattle.hg_core.proofs.Away.{no_row, answers_refusal}
 use Rattle.hg_core.proofs.HoldersKept.{MovesNone}
+use Rattle.hg_heap.specs.declared.refused.Refused.TheVariants as refused
+use Rattle.hg_machine.specs.declared.Event.TheVariants as event
+use Rattle.hg_machine.specs.declared.Answer.TheVariants as answer
 
 -- what three clauses say of an answer, together
 pub if_ok : {X Y : Type 0} (result : Result X Y) (P Q R S : X → Type 0)

@@ -10,8 +10,6 @@ use Rattle.hg_place.specs.declared.plain.PlainWords.{PlainWords}
 use Rattle.hg_place.specs.Plain.{plain_records}
 use Rattle.hg_segment.specs.Kept.{Kept}
 use Rattle.hg_segment.specs.Parted.{plain_number}
-use Rattle.hg_machine.specs.declared.Event.TheVariants as event
-use Rattle.hg_machine.specs.declared.Answer.TheVariants as answer
 use Rattle.hg_machine.specs.Policy.{arena_of}
 use Rattle.hg_machine.specs.SoundPolicy.{IsSoundPolicy}
 use Rattle.hg_machine.specs.Soundness.{IsSound}
@@ -43,6 +41,8 @@ use Rattle.hg_parts.proofs.Swept.{swept_tidy}
 use Rattle.hg_events.specs.Core.{Core, parts_of, heap_of, nothing_held}
 use Rattle.hg_events.specs.Collects.{IsCollected, CollectIsStep}
 use Rattle.hg_events.proofs.SweptHeaps.{mapped, heap_swept}
+use Rattle.hg_machine.specs.declared.Event.TheVariants as event
+use Rattle.hg_machine.specs.declared.Answer.TheVariants as answer
 
 -- what is so of the entry that is found is so of its segment
 of_found : (P : Plain → Type 0) (o : Option E) (s : Plain) → plain_in o ≡ Some s

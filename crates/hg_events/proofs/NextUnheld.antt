@@ -1,7 +1,6 @@
 -- In a tidy core the worker's heap doesn't hold what the pool gives, and may adopt it.
-use Rattle.std.proofs.Common.{◌≡◌, ℕ, ◌<◌, ◌≤◌, false, nat_lt, List, ◌++◌, length, map}
-use Rattle.std.proofs.Common.{find, is_some, count_by, refl, sym, ap, ◌∙◌, arith}
-use Rattle.std.proofs.Common.{inl, inr, []}
+use Rattle.std.proofs.Common.{◌≡◌, ℕ, ◌<◌, ◌≤◌, false, nat_lt, List, ◌++◌, length, map, find}
+use Rattle.std.proofs.Common.{is_some, count_by, refl, sym, ap, ◌∙◌, arith, inl, inr, []}
 use Rattle.std.specs.Prelude.{Option, Some, None}
 use Rattle.std.specs.Option.{option_map}
 use Rattle.std.specs.List.{list_any}
@@ -11,10 +10,8 @@ use Rattle.std.proofs.lemmas.List.Elements.{recursion_from_All}
 use Rattle.std.proofs.lemmas.List.Folds.{find-append}
 use Rattle.hg_place.specs.declared.plain.PlainWords.{PlainWords}
 use Rattle.hg_segment.specs.Parted.{plain_number}
-use Rattle.hg_pool.specs.Pooled.{is_of_arena}
-use Rattle.hg_pool.specs.Pooled.{next_in as next_pooled}
-use Rattle.hg_heap.specs.Held.{Held}
-use Rattle.hg_heap.specs.Held.{is_of as is_held_as}
+use Rattle.hg_pool.specs.Pooled.{is_of_arena, next_in as next_pooled}
+use Rattle.hg_heap.specs.Held.{Held, is_of as is_held_as}
 use Rattle.hg_agreement.specs.Parts.{Plain, Parts, is_of, heap_at, plain_from}
 use Rattle.hg_agreement.specs.Pool.{is_for}
 use Rattle.hg_agreement.proofs.Firsts.{some_counted, pool_inside}
@@ -45,8 +42,7 @@ unheld : (parts : Parts) → IsTidy parts → (n worker : ℕ)
     → find (is_of n) (heap_at parts worker) ≡ None
 unheld parts t n worker pooled =
     none_found (find (is_of n) (heap_at parts worker)) (sym (any_is n (heap_at parts worker))
-    ∙ elim (cases_Bool (list_any (is_of n) (heap_at parts worker)))
-    as (λ _. list_any (is_of n) (heap_at parts worker) ≡ false) [
+    ∙ elim (cases_Bool (list_any (is_of n) (heap_at parts worker))) [
       | inl some ↦ absurd (omega (
         arith,
         pooled,

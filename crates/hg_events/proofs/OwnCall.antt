@@ -25,8 +25,8 @@ use Rattle.hg_segment.specs.Parted.{plain_number}
 use Rattle.hg_machine.specs.declared.Event.{Event}
 use Rattle.hg_machine.specs.declared.Answer.{Answer}
 use Rattle.hg_machine.specs.Changes.{with_life, given_out}
-use Rattle.hg_machine.specs.Life.{Life, home, live, parted, Record, never_used, is_live}
-use Rattle.hg_machine.specs.Life.{is_parted, contents_of}
+use Rattle.hg_machine.specs.Life.{Life, home, live, parted, Record, never_used, is_live, is_parted}
+use Rattle.hg_machine.specs.Life.{contents_of}
 use Rattle.hg_machine.specs.Policy.{Policy, arena_of}
 use Rattle.hg_machine.specs.SoundPolicy.{IsSoundPolicy}
 use Rattle.hg_machine.specs.Soundness.{IsSound}
@@ -35,8 +35,7 @@ use Rattle.hg_machine.specs.Steps.{Step, successor}
 use Rattle.hg_heap.specs.Held.{Held, Kind, segment_in}
 use Rattle.hg_heap.specs.Ties.{Stepped, holding, heap_view, shown_at}
 use Rattle.hg_heap.proofs.Allotting.{found_once}
-use Rattle.hg_heap.proofs.Founds.{Contains-get, numbers_same}
-use Rattle.hg_heap.proofs.Founds.{numbers as numbers_in}
+use Rattle.hg_heap.proofs.Founds.{Contains-get, numbers_same, numbers as numbers_in}
 use Rattle.hg_heap.proofs.Looking.{slot_below}
 use Rattle.hg_agreement.specs.Agreement.{standing_by, standing_of, Agrees, Follows}
 use Rattle.hg_agreement.specs.Holdings.{Holding, block_of, class_of, holding_of, has, class_told}
@@ -494,9 +493,7 @@ module _ (core : Core) (worker : ℕ) (place : Place) (word left : ℕ) (heap : 
     served_in_place event answer step same =
         served event answer step
         (same_out parts (in_heap worker stepped.found) (plain_from one) (plain_from now) t swap
-        (λ other small. elim (cases_eq other at)
-        as (λ _. is_parted (record_by (Some (plain_from now)) other).life
-        ≡ is_parted (record_by (Some (plain_from one)) other).life) [
+        (λ other small. elim (cases_eq other at) [
           | inl e ↦
               ap (λ k. is_parted (record_by (Some (plain_from now)) k).life) e
               ∙ ap (λ (r : Record). is_parted r.life) (now_record ∙ entry_is)

@@ -1,6 +1,6 @@
 -- Lives that begin and end in a worker's own heap: an Alloc, and a Free of a block that it holds.
-use Rattle.std.proofs.Common.{◌≡◌, ℕ, ◌-◌, ◌<◌, true, length, map, slice_index_or, refl, sym}
-use Rattle.std.proofs.Common.{ap, ◌∙◌, arith, subst}
+use Rattle.std.proofs.Common.{◌≡◌, ℕ, ◌-◌, ◌<◌, true, length, map, slice_index_or, refl, sym, ap}
+use Rattle.std.proofs.Common.{◌∙◌, arith, subst}
 use Rattle.std.specs.Prelude.{Option, Some, None, replicate}
 use Rattle.std.proofs.lemmas.List.{length-map}
 use Rattle.std.proofs.lemmas.Option.{slice_get-get_or}
@@ -11,20 +11,16 @@ use Rattle.hg_place.specs.declared.plain.PlainWords.{PlainWords}
 use Rattle.hg_place.specs.Lives.{live_word}
 use Rattle.hg_place.specs.Places.{number_of}
 use Rattle.hg_place.specs.Plain.{plain_records}
-use Rattle.hg_place.specs.Standings.{slot_of}
-use Rattle.hg_place.specs.Standings.{is_home as is_at_home}
+use Rattle.hg_place.specs.Standings.{slot_of, is_home as is_at_home}
 use Rattle.hg_segment.specs.Parted.{plain_number}
 use Rattle.hg_machine.specs.declared.Event.{Event}
-use Rattle.hg_machine.specs.declared.Event.TheVariants as event
 use Rattle.hg_machine.specs.declared.Answer.{Answer}
-use Rattle.hg_machine.specs.declared.Answer.TheVariants as answer
 use Rattle.hg_machine.specs.Life.{Record, home, live, is_home, is_live}
 use Rattle.hg_machine.specs.Request.{size_of}
 use Rattle.hg_machine.specs.SoundPolicy.{IsSoundPolicy}
 use Rattle.hg_machine.specs.State.{State, record_at}
 use Rattle.hg_machine.specs.Steps.{Step, successor}
 use Rattle.hg_heap.specs.declared.refused.Refused.{Refused}
-use Rattle.hg_heap.specs.declared.refused.Refused.TheVariants as refused
 use Rattle.hg_heap.specs.Answers.{refused_answer}
 use Rattle.hg_heap.specs.Held.{Held}
 use Rattle.hg_heap.specs.Ties.{holding, heap_view}
@@ -41,12 +37,14 @@ use Rattle.hg_parts.proofs.Sound.{tidy_sound}
 use Rattle.hg_parts.proofs.SpotChanges.{gone_out, come_home}
 use Rattle.hg_events.specs.Core.{Core, parts_of, heap_of}
 use Rattle.hg_events.specs.Own.{IsOwnCall, IsServedBy, with_heap}
-use Rattle.hg_events.specs.OwnLives.{HeapIsOfPolicy, AllocIsServed, AllocIsRefused}
-use Rattle.hg_events.specs.OwnLives.{FreeIsServed}
+use Rattle.hg_events.specs.OwnLives.{HeapIsOfPolicy, AllocIsServed, AllocIsRefused, FreeIsServed}
 use Rattle.hg_events.proofs.CoreHeaps.{heap_is, one_right}
 use Rattle.hg_events.proofs.OwnCall.{IsChangedAt, life_changed, given_changed, own_follows}
 use Rattle.hg_events.proofs.OwnCall.{agrees_before, put, one_record, now_record, entry_is, served}
 use Rattle.hg_events.proofs.TakenHome.{live_read}
+use Rattle.hg_machine.specs.declared.Event.TheVariants as event
+use Rattle.hg_machine.specs.declared.Answer.TheVariants as answer
+use Rattle.hg_heap.specs.declared.refused.Refused.TheVariants as refused
 
 pub heap_is_of_policy : HeapIsOfPolicy
 heap_is_of_policy core worker t below =

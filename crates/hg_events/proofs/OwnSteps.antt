@@ -7,9 +7,6 @@ use Rattle.hg_place.specs.Places.{number_of}
 use Rattle.hg_heap.specs.Answers.{read_answer, done_answer, refused_answer, look_answer}
 use Rattle.hg_heap.specs.Answers.{list_denial}
 use Rattle.hg_heap.specs.declared.refused.Refused.{Refused}
-use Rattle.hg_heap.specs.declared.refused.Refused.TheVariants as refused
-use Rattle.hg_machine.specs.declared.Event.TheVariants as event
-use Rattle.hg_machine.specs.declared.Answer.TheVariants as answer
 use Rattle.hg_machine.specs.Changes.{write}
 use Rattle.hg_machine.specs.Life.{Life, home, live, parted, Record, is_parted}
 use Rattle.hg_machine.specs.State.{State, record_at}
@@ -18,6 +15,9 @@ use Rattle.hg_agreement.specs.Parts.{state_of}
 use Rattle.hg_events.specs.Core.{parts_of}
 use Rattle.hg_events.specs.Own.{ReadIsStep, WriteIsStep, LookIsStep, FreeIsDenied}
 use Rattle.hg_events.proofs.OwnCall.{IsChangedAt, same_changed, life_changed, own_is_served}
+use Rattle.hg_heap.specs.declared.refused.Refused.TheVariants as refused
+use Rattle.hg_machine.specs.declared.Event.TheVariants as event
+use Rattle.hg_machine.specs.declared.Answer.TheVariants as answer
 
 pub read_is_step : ReadIsStep
 read_is_step core worker actor handle index word result heap policy t own =

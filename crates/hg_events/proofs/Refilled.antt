@@ -1,6 +1,6 @@
 -- A Refill of a core is a step of the machine, and leaves the core tidy.
-use Rattle.std.proofs.Common.{◌≡◌, ℕ, ◌<◌, List, [], ◌∷◌, ◌++◌, length, map, find, slice_set}
-use Rattle.std.proofs.Common.{sym, ap, ◌∙◌, arith, subst}
+use Rattle.std.proofs.Common.{◌≡◌, ℕ, ◌<◌, List, [], ◌∷◌, ◌++◌, length, map, find, slice_set, sym}
+use Rattle.std.proofs.Common.{ap, ◌∙◌, arith, subst}
 use Rattle.std.specs.Option.{option_map}
 use Rattle.std.proofs.lemmas.List.{map-append, map-set, length-map}
 use Rattle.hg_lists.specs.Repeats.{HasNoRepeats}
@@ -8,8 +8,6 @@ use Rattle.hg_place.specs.declared.plain.PlainWords.{PlainWords}
 use Rattle.hg_segment.specs.Parted.{plain_number}
 use Rattle.hg_pool.specs.Pooled.{Pooled, without_number, without_segment}
 use Rattle.hg_heap.specs.Held.{Held}
-use Rattle.hg_machine.specs.declared.Event.TheVariants as event
-use Rattle.hg_machine.specs.declared.Answer.TheVariants as answer
 use Rattle.hg_machine.specs.Steps.{Step}
 use Rattle.hg_agreement.specs.CoreSteps.{IsRefilled}
 use Rattle.hg_agreement.specs.Parts.{Plain, Parts, is_of, heap_at, plain_from, state_of}
@@ -26,6 +24,8 @@ use Rattle.hg_events.specs.Refill.{with_refill, IsRefill, RefillIsServed, NoRefi
 use Rattle.hg_events.proofs.PlainLists.{K, without_plain, numbers_plain}
 use Rattle.hg_events.proofs.NextPlain.{next_plain}
 use Rattle.hg_events.proofs.NextUnheld.{heap_plain, next_unheld}
+use Rattle.hg_machine.specs.declared.Event.TheVariants as event
+use Rattle.hg_machine.specs.declared.Answer.TheVariants as answer
 
 -- tidy parts have any queues
 abbrev with_queues : Parts → List (List (List ℕ)) → Parts

@@ -1,7 +1,6 @@
 -- What the parts of a core tell of its heaps and remote lists.
 use Rattle.std.proofs.Common.{◌≡◌, ℕ, zero, suc, ◌==◌, ◌≤◌, true, false, cond, List, [], ◌∷◌, map}
-use Rattle.std.proofs.Common.{find, count_by, slice_index_or, refl, ap, arith, subst}
-use Rattle.std.proofs.Common.{Some, ⊎_elim}
+use Rattle.std.proofs.Common.{find, count_by, slice_index_or, refl, ap, arith, subst, Some, ⊎_elim}
 use Rattle.std.specs.Option.{option_map}
 use Rattle.hg_lists.specs.Repeats.{HasNoRepeats}
 use Rattle.hg_lists.proofs.RepeatsLemmas.{nat_eq-same, in_cases, count_by-in}

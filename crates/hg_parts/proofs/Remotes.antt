@@ -8,8 +8,7 @@ use Rattle.std.proofs.lemmas.List.{length-set, get_or_past}
 use Rattle.hg_lists.proofs.RepeatsLemmas.{nat_eq-same, nat_eq-other}
 use Rattle.hg_place.specs.Words.{bit_of}
 use Rattle.hg_place.specs.Places.{segment_of}
-use Rattle.hg_remote.specs.Remote.{contents}
-use Rattle.hg_remote.specs.Remote.{Remote as RemoteList}
+use Rattle.hg_remote.specs.Remote.{contents, Remote as RemoteList}
 use Rattle.hg_machine.specs.Life.{Record, is_parted}
 use Rattle.hg_machine.specs.Holders.{is_number}
 use Rattle.hg_machine.specs.Lists.{times, sent_in}
@@ -18,7 +17,7 @@ use Rattle.hg_agreement.specs.Parts.{Remote, Parts, remote_at, record_by, lists_
 use Rattle.hg_agreement.specs.PlainPut.{with_plain}
 use Rattle.hg_agreement.specs.TakenIn.{remote_places, is_listed, taken_in}
 use Rattle.hg_parts.specs.Rights.{AreSegmentsRight, list_of, remote_from}
-use Rattle.hg_parts.specs.Accounted.{is_out, IsOutOnce}
+use Rattle.hg_parts.specs.Accounted.{is_out}
 use Rattle.hg_parts.specs.Spots.{in_heap, with_segment, IsSpotSwap}
 use Rattle.hg_parts.specs.Remotes.{with_remote, DeliveredIsTidy, TakenBackIsTidy, TakenInIsTidy}
 use Rattle.hg_parts.proofs.Times.{times_inserted, hand_counts, count_set, any_counts, AnyCounts}
@@ -54,8 +53,7 @@ out_inside parts h place out = elim (cases_lt place (length parts.policy.segment
 turned : (n at place : ℕ) → at < 8192 → segment_of place ≡ n → bit_of (nat_eq at (place % 8192))
     ≡ bit_of (nat_eq (n * 8192 + at) place)
 turned n at place low e =
-    elim (cases_eq at (place % 8192)) as (λ _. bit_of (nat_eq at (place % 8192))
-    ≡ bit_of (nat_eq (n * 8192 + at) place)) [
+    elim (cases_eq at (place % 8192)) [
       | inl f ↦ ap (λ (k : ℕ). bit_of (nat_eq at k)) (sym f) ∙ ap bit_of (nat_eq-same at)
           ∙ sym (ap (λ (k : ℕ). bit_of (nat_eq (n * 8192 + at) k))
           (let s : place ≡ n * 8192 + at = omega (arith, e, f) in s)
@@ -97,7 +95,7 @@ delivered parts worker n at remote t below-at hand right more =
           let count : count_by (is_number place) hands + bit_of
           (is_number place (slice_index_or parts.hands worker None)) ≡ count_by (is_number place)
           parts.hands + 0 = count_set parts.hands worker place None working in
-          elim (cases_eq (segment_of place) n) as (λ _. IsOutOnce after place) [
+          elim (cases_eq (segment_of place) n) [
             | inl e ↦
                 let new : times place (sent_in (lists_of after) (segment_of place))
                 ≡ times (place % 8192) (contents remote) = sent_here mid n remote below t.remotes
@@ -139,7 +137,7 @@ taken_back parts spot one now at remote t put b a right more =
       remotes = remotes_right mid n remote below t.remotes right;
       out_once = λ place.
           let was = t.out_once place in
-          elim (cases_eq (segment_of place) n) as (λ _. IsOutOnce after place) [
+          elim (cases_eq (segment_of place) n) [
             | inl e ↦
                 let new : times place (sent_in (lists_of after) (segment_of place))
                 ≡ times (place % 8192) (contents remote) = sent_here mid n remote below t.remotes
@@ -151,7 +149,7 @@ taken_back parts spot one now at remote t put b a right more =
                 let step = times_inserted (place % 8192) at (contents remote)
                 (contents (list_of (remote_at parts n))) more in
                 let turn = turned n at place small e in
-                elim (cases_eq q place) as (λ _. IsOutOnce after place) [
+                elim (cases_eq q place) [
                   | inl f ↦
                       let out : bit_of (is_out parts place) ≡ 1 =
                       ap bit_of (ap (is_out parts) (sym f) ∙ out_before parts spot one now at
@@ -206,7 +204,7 @@ taken_in_tidy parts worker found one now remote t taken is right none =
       out_once = λ place.
           let was = t.out_once place in
           let at = place % 8192 in
-          elim (cases_eq (segment_of place) n) as (λ _. IsOutOnce after place) [
+          elim (cases_eq (segment_of place) n) [
             | inl e ↦
                 let new : times place (sent_in (lists_of after) (segment_of place)) ≡ 0 =
                 sent_here mid n remote below t.remotes right place inside-n e

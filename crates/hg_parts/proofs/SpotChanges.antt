@@ -168,8 +168,7 @@ module _ (parts : Parts) (spot : Spot) (one now : Plain) (hands : List (Option �
   pub record_away : (place : ℕ) → segment_of place ≢ n → record_at (state_of after) place
       ≡ record_at (state_of parts) place
   record_away place away =
-      elim (cases_lt place (length parts.policy.segments * 8192))
-      as (λ _. record_at (state_of after) place ≡ record_at (state_of parts) place) [
+      elim (cases_lt place (length parts.policy.segments * 8192)) [
         | inl lt ↦
             let f = found parts t.segments (segment_of place) (omega (arith, lt)) in
             record_here after segments place f.0 lt (sym (found_other (segment_of place) away) ∙ f.1)
@@ -208,8 +207,7 @@ module _ (parts : Parts) (spot : Spot) (one now : Plain) (at : ℕ) (hands : Lis
   record_other : (place : ℕ) → place ≢ changed → record_at (state_of later) place
       ≡ record_at (state_of parts) place
   record_other place ne =
-      elim (cases_eq (segment_of place) one.holding.number) as (λ _. record_at (state_of later)
-      place ≡ record_at (state_of parts) place) [
+      elim (cases_eq (segment_of place) one.holding.number) [
         | inl e ↦
             record_now parts spot one now hands t put.swap long place e
             ∙ put.others (place % 8192) (omega arith) (λ f. ne (omega (arith, e, f)))
@@ -235,8 +233,7 @@ kept_out parts spot one now at t put b a = record {
   segments = segments parts spot one now parts.hands t put.swap refl;
   remotes = t.remotes;
   out_once =
-      λ place. elim (cases_eq place (one.holding.number * 8192 + at))
-      as (λ _. IsOutOnce (with_segment parts spot now parts.hands) place) [
+      λ place. elim (cases_eq place (one.holding.number * 8192 + at)) [
         | inl e ↦ subst (IsOutOnce (with_segment parts spot now parts.hands)) (sym e)
             (t.out_once (one.holding.number * 8192 + at)
             ∙ ap bit_of (out_before parts spot one now at parts.hands t put refl ∙ b ∙ sym a
@@ -271,7 +268,7 @@ parted_out parts spot one now at worker t put lt empty b a =
           ap (λ (o : Option ℕ). bit_of (is_number place o)) empty in
           let count = count_set parts.hands worker place (Some q) lt in
           let was = t.out_once place in
-          elim (cases_eq place q) as (λ _. IsOutOnce after place) [
+          elim (cases_eq place q) [
             | inl e ↦
                 let out : bit_of (is_out parts place) ≡ 0 =
                 ap bit_of (ap (is_out parts) e ∙ out_before parts spot one now at hands t put long
@@ -305,12 +302,11 @@ same_out parts spot one now t put same = record {
   where
     out_same : (place : ℕ) → is_out (with_segment parts spot now parts.hands) place
         ≡ is_out parts place
-    out_same place = elim (cases_eq (segment_of place) one.holding.number)
-        as (λ _. is_out (with_segment parts spot now parts.hands) place ≡ is_out parts place) [
-          | inl e ↦
-              ap (λ r. is_parted r.life) (record_now parts spot one now parts.hands t put refl place e)
-              ∙ same (place % 8192) (omega arith)
-              ∙ sym (ap (λ r. is_parted r.life)
-              (record_was parts spot one now parts.hands t put refl place e))
-          | inr away ↦ out_away parts spot one now parts.hands t put refl place away
-        ]
+    out_same place = elim (cases_eq (segment_of place) one.holding.number) [
+      | inl e ↦
+          ap (λ r. is_parted r.life) (record_now parts spot one now parts.hands t put refl place e)
+          ∙ same (place % 8192) (omega arith)
+          ∙ sym (ap (λ r. is_parted r.life)
+          (record_was parts spot one now parts.hands t put refl place e))
+      | inr away ↦ out_away parts spot one now parts.hands t put refl place away
+    ]

@@ -1,7 +1,7 @@
 -- A change of one place, wherever its segment stands, in the state.
-use Rattle.std.proofs.Common.{◌≡◌, ◌≢◌, ℕ, ◌+◌, ◌*◌, ◌%◌, ◌<◌, [], length, map, set, slice_get}
-use Rattle.std.proofs.Common.{◌≤◌, true, nat_lt, count_by, slice_index_or, subst}
-use Rattle.std.proofs.Common.{refl, sym, ap, ◌∙◌, arith, inl, inr}
+use Rattle.std.proofs.Common.{◌≡◌, ◌≢◌, ℕ, ◌+◌, ◌*◌, ◌%◌, ◌<◌, [], length, map, set, slice_get, ◌≤◌}
+use Rattle.std.proofs.Common.{true, nat_lt, count_by, slice_index_or, subst, refl, sym, ap, ◌∙◌}
+use Rattle.std.proofs.Common.{arith, inl, inr}
 use Rattle.std.specs.Prelude.{Some, None}
 use Rattle.std.specs.List.{range_with_len}
 use Rattle.std.proofs.lemmas.Bool.{cases_eq, cases_lt, eq-eqb}
@@ -16,7 +16,8 @@ use Rattle.hg_agreement.proofs.Lookups.{maps, map_set}
 use Rattle.hg_agreement.proofs.Putting.{put_is_put}
 use Rattle.hg_parts.specs.Tidy.{IsTidy}
 use Rattle.hg_parts.specs.Spots.{Spot, orphans_with, with_segment, IsSpotPut, SpotIsSwap}
-use Rattle.hg_parts.specs.Spots.{SpotPutIsRecord, HeapPutIsPut}
+use Rattle.hg_parts.specs.Spots.{SpotPutIsRecord, HeapPutIsPut, segment_at, SpotIsFound}
+use Rattle.hg_parts.specs.Spots.{SpotShowsItsWord}
 use Rattle.hg_parts.proofs.Flat.{plain_in, holder_in, plain_is, holder_is}
 use Rattle.hg_parts.proofs.SpotChanges.{inside, found_before, found_after, found_other}
 use Rattle.hg_parts.proofs.SpotChanges.{orphans_same}
@@ -29,7 +30,6 @@ use Rattle.hg_machine.specs.State.{Holder, State, with_record}
 use Rattle.hg_machine.proofs.Listed.{bit_true}
 use Rattle.hg_agreement.specs.Views.{IsWordOf}
 use Rattle.hg_parts.specs.Rights.{segments_in, found_in, is_numbered, IsSegmentRight}
-use Rattle.hg_parts.specs.Spots.{segment_at, SpotIsFound, SpotShowsItsWord}
 use Rattle.hg_parts.proofs.Records.{right}
 use Rattle.hg_parts.proofs.Swaps.{Swaps, kept_swaps, swaps_counts, swaps_old}
 use Rattle.hg_parts.proofs.Times.{bit_small}
@@ -57,7 +57,7 @@ module _ (parts : Parts) (spot : Spot) (one now : Plain) (at : ℕ) (t : IsTidy 
       ∙ sym (plain_is parts m)
 
   holder_same : (m : ℕ) → holder_of after m ≡ holder_of parts m
-  holder_same m = elim (cases_eq m n) as (λ _. holder_of after m ≡ holder_of parts m) [
+  holder_same m = elim (cases_eq m n) [
     | inl e ↦ ap (holder_of after) e
         ∙ holder_is after n ∙ ap holder_in
         (found_after parts spot one now parts.hands t put.swap refl)
@@ -69,16 +69,15 @@ module _ (parts : Parts) (spot : Spot) (one now : Plain) (at : ℕ) (t : IsTidy 
   ]
 
   record_other : (q : ℕ) → q ≢ n * 8192 + at → record_of after q ≡ record_of parts q
-  record_other q ne = elim (cases_eq (segment_of q) n) as (λ _. record_of after q
-      ≡ record_of parts q) [
-        | inl e ↦
-            ap (λ s. record_by (plain_of after s) (q % 8192)) e
-            ∙ ap (λ o. record_by o (q % 8192)) after_here
-            ∙ put.others (q % 8192) (omega arith) (λ f. ne (omega (arith, e, f)))
-            ∙ sym (ap (λ o. record_by o (q % 8192)) before_here)
-            ∙ sym (ap (λ s. record_by (plain_of parts s) (q % 8192)) e)
-        | inr away ↦ ap (λ o. record_by o (q % 8192)) (plain_other (segment_of q) away)
-      ]
+  record_other q ne = elim (cases_eq (segment_of q) n) [
+    | inl e ↦
+        ap (λ s. record_by (plain_of after s) (q % 8192)) e
+        ∙ ap (λ o. record_by o (q % 8192)) after_here
+        ∙ put.others (q % 8192) (omega arith) (λ f. ne (omega (arith, e, f)))
+        ∙ sym (ap (λ o. record_by o (q % 8192)) before_here)
+        ∙ sym (ap (λ s. record_by (plain_of parts s) (q % 8192)) e)
+    | inr away ↦ ap (λ o. record_by o (q % 8192)) (plain_other (segment_of q) away)
+  ]
 
   record_here : record_of after (n * 8192 + at) ≡ record_by (Some now) at
   record_here =
@@ -92,7 +91,7 @@ module _ (parts : Parts) (spot : Spot) (one now : Plain) (at : ℕ) (t : IsTidy 
   class_same : ((page : ℕ) → page < 16 → class_of now.holding page ≡ class_of one.holding page)
       → (q : ℕ) → page_class after q ≡ page_class parts q
   class_same classes q =
-      elim (cases_eq (segment_of_page q) n) as (λ _. page_class after q ≡ page_class parts q) [
+      elim (cases_eq (segment_of_page q) n) [
         | inl e ↦
             ap (λ s. class_by (plain_of after s) (q % 16)) e
             ∙ ap (λ o. class_by o (q % 16)) after_here

@@ -258,7 +258,7 @@ module _ (k : Kept) (a b c : Seen) (x : Output) (on : x.stopped ≡ false)
 pub label_count_more : (lines : List Line) (i : ℕ) (line : Line) → i < length lines → line ≡ get_or lines i line
     → label_count (take (i + 1) lines) ≡ label_count (take i lines) + (if gives_label line.command then 1 else 0)
 label_count_more lines i line within here =
-    elim (cases_Bool (gives_label line.command)) as (λ _. label_count (take (i + 1) lines) ≡ label_count (take i lines) + (if gives_label line.command then 1 else 0)) [
+    elim (cases_Bool (gives_label line.command)) [
       | inl t ↦ rw t (count_by_more_yes (λ l. gives_label l.command) lines i line within (ap (λ l. gives_label l.command) (sym here) ∙ t))
       | inr f ↦
           let none : label_count (take i lines) ≡ label_count (take i lines) + 0 = omega arith in

@@ -110,12 +110,12 @@ value_or_same answer.NoSegment = inl refl
 pub answers_differ : (a b : Answer) → without_answer b ≡ without_answer a
     → (b ≡ a) ⊎ ((m : ℕ) × (n : ℕ) × (a ≡ answer.Value m) × (b ≡ answer.Value n))
 answers_differ a b same =
-    elim (value_or_same a) as (λ _. (b ≡ a) ⊎ ((m : ℕ) × (n : ℕ) × (a ≡ answer.Value m) × (b ≡ answer.Value n))) [
-      | inl plain ↦ elim (value_or_same b) as (λ _. (b ≡ a) ⊎ ((m : ℕ) × (n : ℕ) × (a ≡ answer.Value m) × (b ≡ answer.Value n))) [
+    elim (value_or_same a) [
+      | inl plain ↦ elim (value_or_same b) [
         | inl also ↦ inl (sym also ∙ same ∙ plain)
         | inr (n, is) ↦ inr (0, n, sym plain ∙ sym same ∙ ap without_answer is, is)
       ]
-      | inr (m, is) ↦ elim (value_or_same b) as (λ _. (b ≡ a) ⊎ ((m : ℕ) × (n : ℕ) × (a ≡ answer.Value m) × (b ≡ answer.Value n))) [
+      | inr (m, is) ↦ elim (value_or_same b) [
         | inl also ↦ inr (m, 0, is, sym also ∙ same ∙ ap without_answer is)
         | inr (n, are) ↦ inr (m, n, is, are)
       ]
@@ -124,7 +124,7 @@ answers_differ a b same =
 -- values are neither rows nor handles
 row_or_not : (a : Answer) (l m : List Answer) → filter is_row l ≡ filter is_row m → filter is_row (without_answer a ∷ l) ≡ filter is_row (a ∷ m)
 row_or_not a l m same =
-    elim (value_or_same a) as (λ _. filter is_row (without_answer a ∷ l) ≡ filter is_row (a ∷ m)) [
+    elim (value_or_same a) [
       | inl plain ↦ rw plain (ap (λ r. cond (is_row a) (a ∷ r) r) same)
       | inr (n, is) ↦ rw is same
     ]
@@ -136,7 +136,7 @@ rows_unwritten (a ∷ answers) = row_or_not a (without_answers answers) answers 
 pub handle_unwritten : (answers : List Answer) → handle_in (without_answers answers) ≡ handle_in answers
 handle_unwritten [] = refl
 handle_unwritten (a ∷ []) =
-    elim (value_or_same a) as (λ _. handle_in (without_answer a ∷ []) ≡ handle_in (a ∷ [])) [
+    elim (value_or_same a) [
       | inl plain ↦ ap (λ b. handle_in (b ∷ [])) plain
       | inr (n, is) ↦ rw is refl
     ]

@@ -52,7 +52,7 @@ value_served s worker n (event.Refill arena) g = let e = g.1 in absurd (cc)
 
 value_read : (s new : State) (worker n : ℕ) (e : Event) → Step s worker e (answer.Value n) new → IsRead e
 value_read s new worker n e step =
-    elim (step_cases s worker e (answer.Value n) new step) as (λ _. IsRead e) [
+    elim (step_cases s worker e (answer.Value n) new step) [
       | inl served ↦ value_served s worker n e served.serves
       | inr refused ↦ absurd (true≢false (sym (refused_is s worker e (answer.Value n) refused.some)))
     ]
@@ -94,7 +94,7 @@ module _ (policy : Policy) (handles : List (Option Handle)) (c : Command) (k new
   one_printed : (a b : Answer) → Step k.state worker e a new.state → without_answer b ≡ without_answer a
       → IsSameButWord c (reply_text policy (meaning.One e) (a ∷ [])) (reply_text policy (meaning.One f) (b ∷ []))
   one_printed a b step same =
-      elim (answers_differ a b same) as (λ _. IsSameButWord c (reply_text policy (meaning.One e) (a ∷ [])) (reply_text policy (meaning.One f) (b ∷ []))) [
+      elim (answers_differ a b same) [
         | inl plain ↦ same_printed c _ _ (ap (λ x. reply_text policy (meaning.One f) (x ∷ [])) plain)
         | inr (m, n, is, are) ↦
             let (reader, handle, index, read) = value_read k.state new.state worker m e (subst (λ x. Step k.state worker e x new.state) is step) in

@@ -1,10 +1,10 @@
 use Rattle.std.specs.Box.{boxed_slice_with_item}
-use Rattle.hg_machine.specs.declared.Event.TheVariants as event
 use Rattle.hg_machine.specs.Request.{size_of}
 use Rattle.hg_chosen.specs.Given.{IsGiven as IsInOrder}
 use Rattle.hg_core.specs.Answers.{alloc_answer}
 use Rattle.hg_core.proofs.After.{IsAfter}
 use Rattle.hg_core.proofs.OwnCalls.{of_policy, after_alloc, if_ok}
+use Rattle.hg_machine.specs.declared.Event.TheVariants as event
 use Rattle.hg_core.proofs.stores.Stores.alloc.Goals as goal
 
 pub alloc-given-requires : goal.alloc-given-requires

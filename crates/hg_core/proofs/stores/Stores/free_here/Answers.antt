@@ -1,8 +1,8 @@
 use Rattle.std.specs.Box.{boxed_slice_with_item}
 use Rattle.hg_heap.specs.Answers.{done_answer}
-use Rattle.hg_machine.specs.declared.Event.TheVariants as event
 use Rattle.hg_core.proofs.After.{IsAfter}
 use Rattle.hg_core.proofs.OwnCalls.{here, denied_by, after_free_here, is_freed, is_same}
+use Rattle.hg_machine.specs.declared.Event.TheVariants as event
 use Rattle.hg_core.proofs.stores.Stores.free_here.Goals as goal
 
 pub freed_here-requires : goal.freed_here-requires

@@ -1,12 +1,12 @@
 use Rattle.std.proofs.Common.{Some, sym, ap, ◌∙◌}
 use Rattle.std.specs.Box.{boxed_slice_with_item}
 use Rattle.hg_heap.specs.Answers.{refused_answer, list_denial}
-use Rattle.hg_machine.specs.declared.Event.TheVariants as event
-use Rattle.hg_machine.specs.declared.Answer.TheVariants as answer
 use Rattle.hg_events.specs.Elsewhere.{word_at, away_answer}
 use Rattle.hg_core.proofs.After.{IsAfter}
 use Rattle.hg_core.proofs.Away.{look_away, refused_by_heap}
 use Rattle.hg_core.proofs.OwnCalls.{here, after_look, after_unlisted}
+use Rattle.hg_machine.specs.declared.Event.TheVariants as event
+use Rattle.hg_machine.specs.declared.Answer.TheVariants as answer
 use Rattle.hg_core.proofs.stores.Stores.look.Goals as goal
 
 pub returns-then-not-holds-clause-step : goal.returns-then-not-holds-clause-step

@@ -1,10 +1,10 @@
 use Rattle.std.proofs.Common.{sym, ◌∙◌}
 use Rattle.std.specs.Box.{boxed_slice_with_item}
 use Rattle.hg_heap.specs.Answers.{refused_answer, read_answer}
-use Rattle.hg_machine.specs.declared.Event.TheVariants as event
 use Rattle.hg_core.proofs.After.{IsAfter}
 use Rattle.hg_core.proofs.Away.{read_away, refused_by_heap}
 use Rattle.hg_core.proofs.OwnCalls.{here, after_read}
+use Rattle.hg_machine.specs.declared.Event.TheVariants as event
 use Rattle.hg_core.proofs.stores.Stores.read.Goals as goal
 
 pub returns-then-not-holds-clause-step : goal.returns-then-not-holds-clause-step

@@ -1,10 +1,10 @@
 use Rattle.std.proofs.Common.{sym, ◌∙◌}
 use Rattle.std.specs.Box.{boxed_slice_with_item}
 use Rattle.hg_heap.specs.Answers.{refused_answer, done_answer}
-use Rattle.hg_machine.specs.declared.Event.TheVariants as event
 use Rattle.hg_core.proofs.After.{IsAfter}
 use Rattle.hg_core.proofs.Away.{write_away, refused_by_heap}
 use Rattle.hg_core.proofs.OwnCalls.{here, after_write}
+use Rattle.hg_machine.specs.declared.Event.TheVariants as event
 use Rattle.hg_core.proofs.stores.Stores.write.Goals as goal
 
 pub returns-then-not-holds-clause-step : goal.returns-then-not-holds-clause-step
