@@ -118,8 +118,7 @@ module _ (core : Core) (worker : ℕ) (actor : Actor) (handle : Handle) (word : 
   greatest_is =
       ap (greatest_in plain_number old) (sym own.stepped.segment)
       ∙ ap (λ (o : Option (Kept PlainWords)). greatest_by plain_number o)
-      (one_told core worker handle.place word (word - 1) (event.Free actor handle) answer.Done heap
-      policy t own)
+      (one_told policy t own)
       ∙ is_right.greatest
 
   place_is : (n * 16 + page) * 512 + index ≡ number_of handle.place
@@ -135,14 +134,12 @@ module _ (core : Core) (worker : ℕ) (actor : Actor) (handle : Handle) (word : 
   one_has : (p : ℕ) → p < 16
       → lists_held plain_number old (n * 16 + p) ≡ lists_at one.lists p
   one_has =
-      lists_one core worker handle.place word (word - 1) (event.Free actor handle) answer.Done heap
-      policy t own
+      lists_one policy t own
 
   now_has : (p : ℕ) → p < 16
       → lists_held plain_number heap.segments (n * 16 + p) ≡ lists_at now.lists p
   now_has =
-      lists_now core worker handle.place word (word - 1) (event.Free actor handle) answer.Done heap
-      policy t own
+      lists_now policy t own
 
   page_is : n * 16 + page ≡ page_number handle.place
   page_is = ap (λ k. k * 16 + page) own.stepped.segment
@@ -169,13 +166,11 @@ module _ (core : Core) (worker : ℕ) (actor : Actor) (handle : Handle) (word : 
 
   is_there : segment_at parts its ≡ Some (plain_from one)
   is_there =
-      there core worker handle.place word (word - 1) (event.Free actor handle) answer.Done heap
-      policy t own
+      there policy t own
 
   number : plain_number now.slots ≡ n
   number =
-      number_kept core worker handle.place word (word - 1) (event.Free actor handle) answer.Done
-      heap policy t own
+      number_kept policy t own
 
   abbrev with_now : Lists
   with_now = lists_of (with_segment parts its (plain_from now) core.hands)
@@ -198,8 +193,7 @@ module _ (core : Core) (worker : ℕ) (actor : Actor) (handle : Handle) (word : 
   pub lists : lists_of (parts_of (with_heap core worker heap))
       ≡ came_home s (lists_of parts) (number_of handle.place)
   lists =
-      lists_new core worker handle.place word (word - 1) (event.Free actor handle) answer.Done heap
-      policy t own
+      lists_new policy t own
       ∙ now_lists
 
   -- the page's key
@@ -213,8 +207,7 @@ module _ (core : Core) (worker : ℕ) (actor : Actor) (handle : Handle) (word : 
       ∙ ap (λ k. key_by plain_number (segment_in plain_number old k) ((n * 16 + page) % 16))
       own_page
       ∙ ap (λ (o : Option (Kept PlainWords)). key_by plain_number o ((n * 16 + page) % 16))
-      (one_told core worker handle.place word (word - 1) (event.Free actor handle) answer.Done heap
-      policy t own)
+      (one_told policy t own)
       ∙ ap (λ p. option_map (λ size. key_of one.arena (number_of_size size))
       (class_in one.classes p)) m)
       ∙ freed.queues.1

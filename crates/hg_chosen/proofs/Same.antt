@@ -15,14 +15,13 @@ use Rattle.hg_machine.specs.declared.Answer.{Answer}
 use Rattle.hg_machine.specs.declared.Event.{Event}
 use Rattle.hg_machine.specs.Lists.{Lists}
 use Rattle.hg_machine.specs.SoundPolicy.{IsSoundPolicy}
-use Rattle.hg_heap.specs.Answers.{read_answer, done_answer, look_answer, list_denial}
 use Rattle.hg_agreement.specs.Parts.{Plain, Parts, plain_from, lists_of, kept_of}
 use Rattle.hg_parts.specs.Spots.{Spot, in_heap, segment_at, with_segment}
 use Rattle.hg_parts.specs.Tidy.{IsTidy}
 use Rattle.hg_events.specs.Core.{Core, parts_of, heap_of}
 use Rattle.hg_events.specs.Own.{with_heap, IsOwnCall}
 use Rattle.hg_events.proofs.CoreHeaps.{heap_is, spot}
-use Rattle.hg_events.proofs.OwnCall.{one_in, now_in, number}
+use Rattle.hg_events.proofs.OwnStepped.{one_in, now_in, number}
 use Rattle.hg_events.proofs.OwnSteps.{read_is_step, write_is_step, look_is_step, free_is_denied}
 use Rattle.hg_chosen.specs.Same.{ReadIsChosen, WriteIsChosen, LookIsChosen, DeniedFreeIsChosen}
 use Rattle.hg_chosen.proofs.CoreQueues.{queues_same}
@@ -44,8 +43,8 @@ heap_set core worker found heap now below e =
     ∙ ap (λ (h : List Plain). slice_set h found (plain_from now))
     (sym (heap_is core worker below)))
 
-module _ (core : Core) (worker : ℕ) (place : Place) (word left : ℕ) (e : Event) (a : Answer)
-    (heap : Held PlainWords) (policy : IsSoundPolicy core.policy) (t : IsTidy (parts_of core))
+module _ {core : Core} {worker : ℕ} {place : Place} {word left : ℕ} {e : Event} {a : Answer}
+    {heap : Held PlainWords} (policy : IsSoundPolicy core.policy) (t : IsTidy (parts_of core))
     (own : IsOwnCall core worker place word left e a heap) where
   abbrev parts : Parts
   parts = parts_of core
@@ -66,15 +65,15 @@ module _ (core : Core) (worker : ℕ) (place : Place) (word left : ℕ) (e : Eve
   its = in_heap worker own.stepped.found
 
   pub one_told : segment_in plain_number old n ≡ Some one
-  one_told = one_in core worker place word left heap policy t own.below own.stepped own.settled
+  one_told = one_in policy t own
 
   pub number_kept : plain_number now.slots ≡ n
-  number_kept = number core worker place word left heap policy t own.below own.stepped own.settled
+  number_kept = number policy t own
 
   pub now_told : segment_in plain_number heap.segments n ≡ Some now
   now_told =
       ap (segment_in plain_number heap.segments) (sym number_kept)
-      ∙ now_in core worker place word left heap policy t own.below own.stepped own.settled
+      ∙ now_in policy t own
 
   -- the lists of a page of the segment, before and after
   pub lists_one : (page : ℕ) → page < 16
@@ -126,9 +125,7 @@ pub read_is_chosen : ReadIsChosen
 read_is_chosen core worker actor handle index word result heap policy t own same = record {
   step = (read_is_step core worker actor handle index word result heap policy t own).0;
   chosen = tt;
-  lists =
-      lists_same core worker handle.place word word (event.Read actor handle index)
-      (read_answer result) heap policy t own same.lists;
+  lists = lists_same policy t own same.lists;
   queues = queues_same core worker heap same.queues;
 }
 
@@ -136,9 +133,7 @@ pub write_is_chosen : WriteIsChosen
 write_is_chosen core worker actor handle index value word result heap policy t own same = record {
   step = (write_is_step core worker actor handle index value word result heap policy t own).0;
   chosen = tt;
-  lists =
-      lists_same core worker handle.place word word (event.Write actor handle index value)
-      (done_answer result) heap policy t own same.lists;
+  lists = lists_same policy t own same.lists;
   queues = queues_same core worker heap same.queues;
 }
 
@@ -146,9 +141,7 @@ pub look_is_chosen : LookIsChosen
 look_is_chosen core worker actor place word row heap policy t own same = record {
   step = (look_is_step core worker actor place word row heap policy t own).0;
   chosen = tt;
-  lists =
-      lists_same core worker place word word (event.Look actor place)
-      (look_answer row (list_denial core.policy actor place word)) heap policy t own same.lists;
+  lists = lists_same policy t own same.lists;
   queues = queues_same core worker heap same.queues;
 }
 
@@ -156,8 +149,6 @@ pub denied_free_is_chosen : DeniedFreeIsChosen
 denied_free_is_chosen core worker actor handle word rule heap policy t own same = record {
   step = (free_is_denied core worker actor handle word rule heap policy t own).0;
   chosen = tt;
-  lists =
-      lists_same core worker handle.place word word (event.Free actor handle)
-      (answer.Denied rule) heap policy t own same.lists;
+  lists = lists_same policy t own same.lists;
   queues = queues_same core worker heap same.queues;
 }

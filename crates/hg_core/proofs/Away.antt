@@ -32,10 +32,7 @@ no_row (Some rule) = refl
 -- each refusal of a heap is answered by one
 pub answers_refusal : (why : Refused) → is_refusal (refused_answer why) ≡ true
 answers_refusal (refused.Denied rule) = refl
-answers_refusal refused.TooLarge = refl
-answers_refusal refused.NoRoom = refl
-answers_refusal refused.Elsewhere = refl
-answers_refusal refused.OutOfBlock = refl
+answers_refusal _ = refl
 
 -- so a step that it refuses is one with its choices
 pub refused_by_heap : (s : Core) (worker : ℕ) (e : Event) (why : Refused)

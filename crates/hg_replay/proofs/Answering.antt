@@ -43,30 +43,14 @@ pub no_label : (handles : List (Option Handle)) (c : Command) (answers : List An
 no_label handles (command.Alloc actor arena bytes None) answers e = refl
 no_label handles (command.Alloc actor arena bytes (Some label)) answers e = absurd (cc)
 no_label handles (command.Free actor block) answers e = refl
-no_label handles command.Deliver answers e = refl
-no_label handles (command.Take segment) answers e = refl
-no_label handles command.Collect answers e = refl
-no_label handles (command.Read actor block index) answers e = refl
-no_label handles (command.Write actor block index value) answers e = refl
-no_label handles (command.Look actor place) answers e = refl
-no_label handles (command.List actor) answers e = refl
-no_label handles (command.Abandon segment) answers e = refl
-no_label handles (command.Refill arena) answers e = refl
+no_label handles _ answers e = refl
 
 pub some_label : (handles : List (Option Handle)) (c : Command) (answers : List Answer) → gives_label c ≡ true
     → handles_after handles c answers ≡ handles ++ handle_in answers ∷ []
 some_label handles (command.Alloc actor arena bytes None) answers e = absurd (cc)
 some_label handles (command.Alloc actor arena bytes (Some label)) answers e = refl
 some_label handles (command.Free actor block) answers e = absurd (cc)
-some_label handles command.Deliver answers e = absurd (cc)
-some_label handles (command.Take segment) answers e = absurd (cc)
-some_label handles command.Collect answers e = absurd (cc)
-some_label handles (command.Read actor block index) answers e = absurd (cc)
-some_label handles (command.Write actor block index value) answers e = absurd (cc)
-some_label handles (command.Look actor place) answers e = absurd (cc)
-some_label handles (command.List actor) answers e = absurd (cc)
-some_label handles (command.Abandon segment) answers e = absurd (cc)
-some_label handles (command.Refill arena) answers e = absurd (cc)
+some_label handles _ answers e = absurd (cc)
 
 -- only an allocation gives a label, and it means one event
 pub one_labels : (policy : Policy) (handles : List (Option Handle)) (c : Command) → gives_label c ≡ true
@@ -74,15 +58,7 @@ pub one_labels : (policy : Policy) (handles : List (Option Handle)) (c : Command
 one_labels policy handles (command.Alloc actor arena bytes None) e = absurd (cc)
 one_labels policy handles (command.Alloc actor arena bytes (Some label)) e = (_, refl)
 one_labels policy handles (command.Free actor block) e = absurd (cc)
-one_labels policy handles command.Deliver e = absurd (cc)
-one_labels policy handles (command.Take segment) e = absurd (cc)
-one_labels policy handles command.Collect e = absurd (cc)
-one_labels policy handles (command.Read actor block index) e = absurd (cc)
-one_labels policy handles (command.Write actor block index value) e = absurd (cc)
-one_labels policy handles (command.Look actor place) e = absurd (cc)
-one_labels policy handles (command.List actor) e = absurd (cc)
-one_labels policy handles (command.Abandon segment) e = absurd (cc)
-one_labels policy handles (command.Refill arena) e = absurd (cc)
+one_labels policy handles _ e = absurd (cc)
 
 listing_labels : (policy : Policy) (handles : List (Option Handle)) (c : Command) (actor : Actor) → meaning_of policy handles c ≡ meaning.Listing actor → gives_label c ≡ false
 listing_labels policy handles c actor e =
@@ -101,10 +77,7 @@ unbound_labels policy handles c e =
 -- a call that is refused gives out no handle
 pub no_handle : (refused : Refused) → None ≡ handle_in (refused_answer refused ∷ [])
 no_handle (refused.Denied rule) = refl
-no_handle refused.TooLarge = refl
-no_handle refused.NoRoom = refl
-no_handle refused.Elsewhere = refl
-no_handle refused.OutOfBlock = refl
+no_handle _ = refl
 
 -- a line is answered by its meaning
 module _ (from : Progress) (line : Line) where
@@ -276,17 +249,7 @@ label_within lines i line within here gives =
 -- a stored command gives a label where what it says does
 pub binds_said : (names labels : List (List ℕ)) (c : StoredCommand) → gives_label (command_in names labels c) ≡ binds c
 binds_said names labels (stored.Alloc actor arena bytes None) = refl
-binds_said names labels (stored.Alloc actor arena bytes (Some label)) = refl
-binds_said names labels (stored.Free actor block) = refl
-binds_said names labels stored.Deliver = refl
-binds_said names labels (stored.Take segment) = refl
-binds_said names labels stored.Collect = refl
-binds_said names labels (stored.Read actor block index) = refl
-binds_said names labels (stored.Write actor block index value) = refl
-binds_said names labels (stored.Look actor place) = refl
-binds_said names labels (stored.List actor) = refl
-binds_said names labels (stored.Abandon segment) = refl
-binds_said names labels (stored.Refill arena) = refl
+binds_said names labels _ = refl
 
 -- where no label is given none is counted
 pub none_counted : (n : ℕ) (given : Bool) → (given ≡ true → ⊥) → n ≡ n + (if given then 1 else 0)

@@ -70,10 +70,7 @@ same_printed (command.Take segment) one other same = same
 same_printed command.Collect one other same = same
 same_printed (command.Read actor block index) one other same = inl same
 same_printed (command.Write actor block index value) one other same = same
-same_printed (command.Look actor place) one other same = same
-same_printed (command.List actor) one other same = same
-same_printed (command.Abandon segment) one other same = same
-same_printed (command.Refill arena) one other same = same
+same_printed _ one other same = same
 
 module _ (policy : Policy) (handles : List (Option Handle)) (reader : Actor) (handle : Handle) (index m n : ℕ) where
   word_printed : (c : Command) → meaning_of policy handles c ≡ meaning.One (event.Read reader handle index) → IsSameButWord c (word_line m) (word_line n)
@@ -85,9 +82,7 @@ module _ (policy : Policy) (handles : List (Option Handle)) (reader : Actor) (ha
   word_printed (command.Read actor block at) is = inr (m, n, refl, refl)
   word_printed (command.Write actor block at value) is = let asked = (block_asks (handle_named handles block) _ _ is).1 in absurd (cc)
   word_printed (command.Look actor place) is = absurd (cc)
-  word_printed (command.List actor) is = absurd (cc)
-  word_printed (command.Abandon segment) is = absurd (cc)
-  word_printed (command.Refill arena) is = absurd (cc)
+  word_printed _ is = absurd (cc)
 
 -- what is printed for a line that means one event
 module _ (policy : Policy) (handles : List (Option Handle)) (c : Command) (k new : Kept) (worker : ℕ) (e f : Event) (means : meaning_of policy handles c ≡ meaning.One e) where
