@@ -1,5 +1,5 @@
 -- Keys, rights and names that were read are known ones.
-use Rattle.std.proofs.Common.{◌≡◌, ℕ, ◌+◌, Bool, true, ◌||◌, List, [], ◌∷◌, ◌++◌, Some, None, Ok, Err, refl, sym, ap, ◌∙◌, inl, inr, codes}
+use Rattle.std.proofs.Common.{◌≡◌, ℕ, Bool, true, ◌||◌, List, [], ◌∷◌, ◌++◌, Some, None, Ok, Err, refl, sym, ap, ◌∙◌, inl, inr, codes}
 use Rattle.std.specs.List.{list_any, list_all}
 use Rattle.std.specs.Str.{bytes_eq}
 use Rattle.std.proofs.Math.Bool.{or-false}
@@ -25,7 +25,6 @@ use Rattle.hg_policy_laws.proofs.WholeTables.{in_turn-all, has_only-read}
 use Rattle.hg_policy_laws.proofs.Versions.{none-Ok}
 use Rattle.hg_place.specs.declared.Right.TheVariants as right
 use Rattle.hg_policy.specs.declared.key.Key.TheVariants as key
-use Rattle.hg_policy.specs.declared.key.Counted.TheVariants as counted
 use Rattle.hg_policy.specs.declared.key.Level.TheVariants as level
 
 -- keys that are known

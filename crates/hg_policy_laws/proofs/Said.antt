@@ -8,7 +8,7 @@ use Rattle.std.proofs.lemmas.Bool.{cases_Bool, true≢false}
 use Rattle.std.proofs.lemmas.List.Folds.{list_any_at}
 use Rattle.std.proofs.lemmas.List.FromFn.{get_or-map-range_with_len}
 use Rattle.std.proofs.lemmas.List.Quantifiers.{position-Some}
-use Rattle.toml.specs.Data.{Data, Members, string, integer, float, boolean, datetime, array, table}
+use Rattle.toml.specs.Data.{Data, Members, string, integer}
 use Rattle.hg_machine.specs.Policy.{Tenant, nobody}
 use Rattle.hg_policy.specs.declared.key.Key.{Key}
 use Rattle.hg_policy.specs.declared.key.Key.TheVariants as key

@@ -1,5 +1,5 @@
 -- Nothing that a document says is passed over.
-use Rattle.std.proofs.Common.{◌≡◌, ℕ, ◌+◌, replicate, Bool, true, ◌||◌, List, [], ◌∷◌, ◌++◌, length, Option, Some, None, Ok, refl, sym, ◌∙◌, codes, position}
+use Rattle.std.proofs.Common.{◌≡◌, ℕ, replicate, Bool, true, ◌||◌, List, [], ◌∷◌, ◌++◌, length, Option, Some, None, Ok, refl, sym, ◌∙◌, codes, position}
 use Rattle.std.specs.List.{list_any, list_all}
 use Rattle.std.specs.Option.{option_or, option_map}
 use Rattle.std.specs.Str.{bytes_eq}
@@ -22,7 +22,6 @@ use Rattle.hg_policy.proofs.SaidWords.{says-read, some_read, entries_at-says, gr
 use Rattle.hg_policy_laws.proofs.SaidLaws.{policy_at-of}
 use Rattle.hg_policy_laws.proofs.WholeTables.{in_turn-all, has_only-read, line_entries_at-all, entries_at-all, group_entries_at-few, group_entries_at-all}
 use Rattle.hg_policy_laws.proofs.KnownNames.{keys-known, line-keys, group-keys, rights_in-words, tenants_in-among, groups_in-among, group-among}
-use Rattle.hg_place.specs.declared.Right.TheVariants as right
 use Rattle.hg_policy.specs.declared.key.Key.TheVariants as key
 use Rattle.hg_policy.specs.declared.key.Counted.TheVariants as counted
 use Rattle.hg_policy.specs.declared.key.Level.TheVariants as level

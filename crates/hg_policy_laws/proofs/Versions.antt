@@ -2,7 +2,7 @@
 use Rattle.std.proofs.Common.{◌≡◌, ◌≢◌, ℕ, ◌||◌, codes, Bool, true, false, List, [], ◌∷◌, Option, Some, None, Ok, Err, ℤ, pos, negsuc, if◌then◌else◌, inl, inr, refl, sym, ap, ◌∙◌}
 use Rattle.std.specs.Str.{bytes_eq}
 use Rattle.std.proofs.lemmas.Bool.{cases_Bool}
-use Rattle.toml.specs.Data.{Data, Members, no_members, member, string, integer, float, boolean, datetime, array, table}
+use Rattle.toml.specs.Data.{Data, Members, no_members, member, string, integer}
 use Rattle.hg_policy.specs.declared.key.Key.{Key}
 use Rattle.hg_policy.specs.declared.key.Key.TheVariants as key
 use Rattle.hg_policy.specs.declared.key.Counted.{Counted}

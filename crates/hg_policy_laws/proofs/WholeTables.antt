@@ -14,10 +14,8 @@ use Rattle.hg_policy.specs.Heads.{group_entries_at, line_entries_at}
 use Rattle.hg_policy.specs.SaidLaws.{is_table, has_only, is_none_or, each_entry, has_at_most}
 use Rattle.hg_policy.proofs.Chains.{bind_at, in_turn-counts}
 use Rattle.hg_policy.proofs.SaidWords.{some_read, at_most-is}
-use Rattle.hg_place.specs.declared.Right.TheVariants as right
 use Rattle.hg_policy.specs.declared.key.Key.TheVariants as key
 use Rattle.hg_policy.specs.declared.key.Counted.TheVariants as counted
-use Rattle.hg_policy.specs.declared.key.Level.TheVariants as level
 
 -- where each step is taken of a good element alone, all of them are good
 pub in_turn-all : {A X : Type 0} (step : A → X → Read A) (test : X → Bool) → ((done : A) (x : X) (next : A) → step done x ≡ Ok next → test x ≡ true)
