@@ -35,7 +35,8 @@ use Rattle.hg_parts.proofs.Times.{bit_small}
 use Rattle.hg_events.specs.Core.{Core, parts_of, heap_of}
 use Rattle.hg_events.specs.LetGo.{without, let_go, IsHeldBy, HeldIsUnpooled, AbandonIsServed}
 use Rattle.hg_events.specs.LetGo.{AbandonIsRefused}
-use Rattle.hg_events.proofs.Told.{found_told, heap_told, numbers_told, held_once, requeued}
+use Rattle.hg_events.proofs.Told.{found_told, heap_told, numbers_told, held_once}
+use Rattle.hg_events.proofs.CoreHeaps.{requeued_tidy}
 use Rattle.hg_machine.specs.declared.Event.TheVariants as event
 use Rattle.hg_machine.specs.declared.Answer.TheVariants as answer
 
@@ -148,7 +149,7 @@ module _ (core : Core) (worker segment : ℕ) (one : Kept PlainWords) (t : IsTid
     subst (λ p. Step (state_of parts) worker (event.Abandon segment) answer.Done (state_of p))
         (sym new_is) (step below),
     subst IsTidy (sym new_is)
-        (requeued gone_from new.queues
+        (requeued_tidy new.queues
         (let_go_tidy parts worker (map plain_from left) (plain_from one) t (go below) left_once)),
   )
 

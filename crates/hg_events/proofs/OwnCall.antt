@@ -195,7 +195,7 @@ module _ {core : Core} {worker : ℕ} {place : Place} {word left : ℕ} {event :
   served tidy = (
     subst (Step m worker event answer) (sym (ap state_of parts_new ∙ state_new))
         (own_follows policy t own).step,
-    subst IsTidy (sym parts_new) (requeued_tidy new_parts queues tidy),
+    subst IsTidy (sym parts_new) (requeued_tidy queues tidy),
   )
 
   -- as they are where the place is parted after as before

@@ -1,18 +1,13 @@
 -- Lives that begin and end in a worker's own heap: an Alloc, and a Free of a block that it holds.
-use Rattle.std.proofs.Common.{◌≡◌, ℕ, ◌<◌, true, length, map, slice_index_or, refl, sym, ap}
-use Rattle.std.proofs.Common.{◌∙◌, arith, subst}
-use Rattle.std.specs.Prelude.{Option, Some, None}
-use Rattle.std.proofs.lemmas.List.{length-map}
+use Rattle.std.proofs.Common.{◌≡◌, ℕ, true, slice_index_or, refl, sym, ap, ◌∙◌, subst}
+use Rattle.std.specs.Prelude.{Some, None}
 use Rattle.std.proofs.lemmas.Option.{slice_get-get_or}
-use Rattle.std.proofs.lemmas.Simd.{map-map}
 use Rattle.hg_place.specs.declared.Place.{Place}
 use Rattle.hg_place.specs.declared.Actor.{Actor}
 use Rattle.hg_place.specs.declared.plain.PlainWords.{PlainWords}
 use Rattle.hg_place.specs.Lives.{live_word}
 use Rattle.hg_place.specs.Places.{number_of}
-use Rattle.hg_place.specs.Plain.{plain_records}
 use Rattle.hg_place.specs.Standings.{slot_of, is_home as is_at_home}
-use Rattle.hg_segment.specs.Parted.{plain_number}
 use Rattle.hg_machine.specs.declared.Event.{Event}
 use Rattle.hg_machine.specs.declared.Answer.{Answer}
 use Rattle.hg_machine.specs.Life.{Record, home, is_home, is_live}
@@ -23,21 +18,15 @@ use Rattle.hg_machine.specs.Steps.{Step, successor}
 use Rattle.hg_heap.specs.declared.refused.Refused.{Refused}
 use Rattle.hg_heap.specs.Answers.{refused_answer}
 use Rattle.hg_heap.specs.Held.{Held}
-use Rattle.hg_heap.specs.Ties.{holding, heap_view}
-use Rattle.hg_agreement.specs.Agreement.{Agrees}
-use Rattle.hg_agreement.specs.Holdings.{view_of}
-use Rattle.hg_agreement.specs.Parts.{Plain, plain_from, heap_at, holdings, record_by, state_of}
-use Rattle.hg_agreement.proofs.Bridge.{heaps_agree}
+use Rattle.hg_agreement.specs.Parts.{Plain, plain_from, record_by, state_of}
 use Rattle.hg_parts.specs.Spots.{in_heap}
 use Rattle.hg_parts.specs.Tidy.{IsTidy}
 use Rattle.hg_parts.proofs.Links.{lives_told}
-use Rattle.hg_parts.proofs.Sorted.{tidy_sorted}
-use Rattle.hg_parts.proofs.Sound.{tidy_sound}
 use Rattle.hg_parts.proofs.SpotChanges.{gone_out, come_home}
 use Rattle.hg_events.specs.Core.{Core, parts_of, heap_of}
 use Rattle.hg_events.specs.Own.{IsOwnCall, IsServedBy, with_heap}
 use Rattle.hg_events.specs.OwnLives.{HeapIsOfPolicy, AllocIsServed, AllocIsRefused, FreeIsServed}
-use Rattle.hg_events.proofs.CoreHeaps.{heap_is, one_right}
+use Rattle.hg_events.proofs.CoreHeaps.{one_right, is_worker, heap_agrees}
 use Rattle.hg_events.proofs.ChangedAt.{IsChangedAt, life_changed, given_changed}
 use Rattle.hg_events.proofs.OwnStepped.{agrees_before}
 use Rattle.hg_events.proofs.OwnCall.{put, one_record, now_record, served}
@@ -119,40 +108,11 @@ unchanged : (m : State) (worker : ℕ) (actor : Actor) (arena bytes : ℕ) (refu
 unchanged m worker actor arena bytes (refused.Denied rule) = refl
 unchanged m worker actor arena bytes _ = refl
 
--- the state agrees with the worker's heap, where no word is shown
-module _ (core : Core) (worker : ℕ) (policy : IsSoundPolicy core.policy)
-    (t : IsTidy (parts_of core)) (below : worker < length core.heaps) where
-  below_parts : worker < length (parts_of core).heaps
-  below_parts =
-      let many = length-map core.heaps (λ (held : Held PlainWords). map plain_from held.segments) in
-      omega (arith, below, many)
-
-  is_worker : worker < core.policy.workers
-  is_worker = let all = t.segments.heaps in omega (arith, below_parts, all)
-
-  kept : holdings (heap_at (parts_of core) worker)
-      ≡ map (holding plain_number plain_records) (heap_of core worker).segments
-  kept =
-      ap holdings (heap_is core worker below)
-      ∙ map-map (λ (one : Plain). one.holding) plain_from (heap_of core worker).segments
-
-  abbrev hand : Option ℕ
-  hand = slice_index_or core.hands worker None
-
-  agrees : Agrees (state_of (parts_of core))
-      (heap_view plain_number plain_records core.policy worker hand 0
-      (heap_of core worker).segments) None
-  agrees =
-      subst (λ hs. Agrees (state_of (parts_of core)) (view_of core.policy worker hand 0 hs) None)
-      kept
-      (heaps_agree (parts_of core) worker 0 None (tidy_sound (parts_of core) policy t).0
-      (tidy_sorted (parts_of core) t) below_parts tt)
-
 pub alloc_is_refused : AllocIsRefused
 alloc_is_refused core worker actor arena bytes refused policy t below ties =
     let m = state_of (parts_of core) in
     let follows =
     ties None worker (slice_index_or core.hands worker None) 0
-    (is_worker core worker policy t below) m (agrees core worker policy t below) in
+    (is_worker core worker t below) m (heap_agrees core worker t below policy None tt) in
     subst (Step m worker (event.Alloc actor arena bytes) (refused_answer refused))
     (unchanged m worker actor arena bytes refused) follows.step

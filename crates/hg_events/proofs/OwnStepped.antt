@@ -1,11 +1,10 @@
 -- The step of a call on a worker's own heap, and what it leaves of its segment.
-use Rattle.std.proofs.Common.{◌≡◌, ℕ, ◌+◌, ◌*◌, ◌<◌, List, length, map, slice_get, slice_set}
-use Rattle.std.proofs.Common.{slice_index_or, refl, sym, ap, ◌∙◌, arith, subst}
+use Rattle.std.proofs.Common.{◌≡◌, ℕ, ◌+◌, ◌*◌, ◌<◌, List, slice_get, slice_set, slice_index_or}
+use Rattle.std.proofs.Common.{refl, sym, ap, ◌∙◌, arith, subst}
 use Rattle.std.specs.Prelude.{Option, Some, None}
-use Rattle.std.proofs.lemmas.List.{get_or-set_same, length-map, length-set}
+use Rattle.std.proofs.lemmas.List.{get_or-set_same, length-set}
 use Rattle.std.proofs.lemmas.Grind.{get_or-set_at}
 use Rattle.std.proofs.lemmas.Option.{slice_get-get_or, slice_get_within}
-use Rattle.std.proofs.lemmas.Simd.{map-map}
 use Rattle.hg_lists.specs.Repeats.{HasNoRepeats}
 use Rattle.hg_place.specs.declared.Place.{Place}
 use Rattle.hg_place.specs.declared.plain.PlainWords.{PlainWords}
@@ -26,23 +25,18 @@ use Rattle.hg_heap.proofs.Allotting.{found_once}
 use Rattle.hg_heap.proofs.Founds.{Contains-get, numbers_same, numbers as numbers_in}
 use Rattle.hg_heap.proofs.Looking.{slot_below}
 use Rattle.hg_agreement.specs.Agreement.{Agrees, Follows}
-use Rattle.hg_agreement.specs.Holdings.{view_of}
-use Rattle.hg_agreement.specs.Parts.{Plain, Parts, plain_from, heap_at, holdings, state_of}
-use Rattle.hg_agreement.specs.Parts.{IsWordIn}
-use Rattle.hg_agreement.proofs.Bridge.{heaps_agree}
+use Rattle.hg_agreement.specs.Parts.{Parts, plain_from, heap_at, state_of, IsWordIn}
 use Rattle.hg_parts.specs.Rights.{IsSegmentRight}
 use Rattle.hg_parts.specs.Spots.{in_heap, IsSpotSwap}
 use Rattle.hg_parts.specs.Tidy.{IsTidy}
 use Rattle.hg_parts.proofs.Links.{settled_right}
-use Rattle.hg_parts.proofs.Sorted.{tidy_sorted}
 use Rattle.hg_parts.proofs.Sound.{tidy_sound}
 use Rattle.hg_parts.proofs.SpotPuts.{spot_shows}
 use Rattle.hg_events.specs.Core.{Core, parts_of, heap_of}
 use Rattle.hg_events.specs.Own.{IsOwnCall}
 use Rattle.hg_events.specs.Take.{plain_shows, plain_steps}
-use Rattle.hg_events.proofs.CoreHeaps.{heap_is, one_right, spot as spot_of}
+use Rattle.hg_events.proofs.CoreHeaps.{one_right, spot as spot_of, is_worker, heap_agrees}
 use Rattle.hg_events.proofs.Told.{held_once}
-use Rattle.hg_events.proofs.SegmentSeen.{kept}
 
 -- what stands where it was put
 get_set : (xs : List (Kept PlainWords)) (found : ℕ) (one now : Kept PlainWords)
@@ -136,13 +130,6 @@ module _ {core : Core} {worker : ℕ} {place : Place} {word left : ℕ} {event :
       (let all = one.slots.all_words in omega (arith, low, all))
 
   -- the state agrees before
-  below_parts : worker < length parts.heaps
-  below_parts =
-      omega (arith, own.below, length-map core.heaps (λ held. map plain_from held.segments))
-
-  pub is_worker : worker < core.policy.workers
-  is_worker = let all = t.segments.heaps in omega (arith, below_parts, all)
-
   abbrev hand : Option ℕ
   hand = slice_index_or core.hands worker None
 
@@ -155,19 +142,12 @@ module _ {core : Core} {worker : ℕ} {place : Place} {word left : ℕ} {event :
       (subst (λ w. IsWordIn parts (record { place = n * 8192 + at; word = w })) one_word
       (spot_shows parts (in_heap worker stepped.found) (plain_from one) at t there low))
 
-  kept_are : holdings (heap_at parts worker) ≡ map kept old
-  kept_are =
-      ap holdings (heap_is core worker own.below) ∙ map-map (λ (p : Plain). p.holding) plain_from old
-
   pub agrees_before : Agrees m
       (heap_view plain_number plain_records core.policy worker hand 0 old) (shown_at place word)
-  agrees_before =
-      subst (λ hs. Agrees m (view_of core.policy worker hand 0 hs) (shown_at place word)) kept_are
-      (heaps_agree parts worker 0 (shown_at place word) sound (tidy_sorted parts t) below_parts
-      shown_is)
+  agrees_before = heap_agrees core worker t own.below policy (shown_at place word) shown_is
 
   -- and what the machine makes of the call with what the step left
   pub own_follows : Follows m worker event answer
       (heap_view plain_number plain_records core.policy worker hand 0 heap.segments)
       (shown_at place left)
-  own_follows = own.ties worker hand 0 is_worker m agrees_before
+  own_follows = own.ties worker hand 0 (is_worker core worker t own.below) m agrees_before

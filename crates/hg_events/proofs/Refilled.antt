@@ -23,28 +23,15 @@ use Rattle.hg_events.specs.Core.{Core, parts_of, heap_of}
 use Rattle.hg_events.specs.Refill.{with_refill, IsRefill, RefillIsServed, NoRefillIsRefused}
 use Rattle.hg_events.proofs.PlainLists.{K, without_plain, numbers_plain}
 use Rattle.hg_events.proofs.NextPlain.{next_plain}
-use Rattle.hg_events.proofs.NextUnheld.{heap_plain, next_unheld}
+use Rattle.hg_events.proofs.NextUnheld.{next_unheld}
+use Rattle.hg_events.proofs.CoreHeaps.{requeued_tidy}
+use Rattle.hg_events.proofs.Told.{heap_told}
 use Rattle.hg_machine.specs.declared.Event.TheVariants as event
 use Rattle.hg_machine.specs.declared.Answer.TheVariants as answer
 
 -- tidy parts have any queues
 abbrev with_queues : Parts → List (List (List ℕ)) → Parts
 with_queues parts queues = record parts { queues = queues }
-
-queues_apart : (parts : Parts) (queues : List (List (List ℕ))) → IsTidy parts
-    → IsTidy (with_queues parts queues)
-queues_apart parts queues t = record {
-  segments = record {
-    heaps = t.segments.heaps;
-    hands = t.segments.hands;
-    remotes = t.segments.remotes;
-    once = t.segments.once;
-    each = t.segments.each;
-  };
-  remotes = t.remotes;
-  out_once = t.out_once;
-  rising = t.rising;
-}
 
 abbrev queues_of : List (Held PlainWords) → List (List (List ℕ))
 queues_of heaps = map (λ held. held.queues) heaps
@@ -85,7 +72,7 @@ module _ (core : Core) (worker arena : ℕ) (one : K) (held : Held PlainWords)
   pushed =
       ap (map plain_from) is.came
       ∙ map-append plain_from (heap_of core worker).segments (one ∷ [])
-      ∙ ap (λ xs. xs ++ plain_from one ∷ []) (sym (heap_plain core worker below))
+      ∙ ap (λ xs. xs ++ plain_from one ∷ []) (sym (heap_told core worker))
 
   pub refilled : IsRefilled (parts_of core) worker arena (map plain_from held.segments)
       (plain_from one)
@@ -121,8 +108,7 @@ module _ (core : Core) (worker arena : ℕ) (one : K) (held : Held PlainWords)
   is_tidy =
       let heap : List Plain = map plain_from held.segments in
       subst (λ (p : Parts). IsTidy p) (sym after_is)
-      (queues_apart (with_adopted (parts_of core) worker heap one.slots.segment)
-      (queues_of (slice_set core.heaps worker held))
+      (requeued_tidy (queues_of (slice_set core.heaps worker held))
       (taken_up_tidy (parts_of core) worker heap (plain_from one) t
       (refilled_is_taken_up (parts_of core) worker arena heap (plain_from one) refilled)
       (subst (λ (ns : List ℕ). HasNoRepeats ns) (sym (numbers_plain held.segments)) is.once)))

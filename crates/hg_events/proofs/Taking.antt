@@ -124,7 +124,7 @@ module _ (core : Core) (worker : ℕ) (t : IsTidy (parts_of core))
         (map-set remote_from core.remotes n nothing_sent)
 
     new_tidy : IsTidy (parts_of (with_taken core worker heap n))
-    new_tidy = subst IsTidy (sym new_is) (requeued_tidy after queues after_tidy)
+    new_tidy = subst IsTidy (sym new_is) (requeued_tidy queues after_tidy)
 
     step : IsSoundPolicy core.policy
         → Step (state_of (parts_of core)) worker (event.Take n)
