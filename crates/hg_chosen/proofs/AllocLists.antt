@@ -41,8 +41,6 @@ use Rattle.hg_chosen.proofs.HeapLists.{numbered, lists_changed}
 use Rattle.hg_chosen.proofs.Numbered.{same_page, numbered_told, class_told, arena_told}
 use Rattle.hg_chosen.proofs.PoppedLists.{AreNumbered, popped_free, popped_local, none_listed}
 use Rattle.hg_chosen.proofs.AllocPage.{IsAlloc, held, held_here, here, one as its_one, found as its_found}
-use Rattle.hg_machine.specs.declared.Event.TheVariants as event
-use Rattle.hg_machine.specs.declared.Answer.TheVariants as answer
 
 vacant_none : (greatest : ℕ) (records : List Standing) (page : ℕ) (lists : PageLists) (o : Option ℕ)
     → o ≡ None → HasVacant greatest records page lists o → listed lists ≡ []
@@ -52,22 +50,10 @@ vacant_none greatest records page lists (Some n) k h = absurd (cc)
 nil_cons : (x : ℕ) (xs : List ℕ) → [] ≡ x ∷ xs → ⊥
 nil_cons x xs k = cc
 
-list_cases : (xs : List ℕ) (A : Type 0) → (xs ≡ [] → A) → ((y : ℕ) (ys : List ℕ) → xs ≡ y ∷ ys → A)
-    → A
-list_cases [] A none some = none refl
-list_cases (x ∷ xs) A none some = some x xs refl
-
-option_cases : (P : Option ℕ → Type 0) → ((n : ℕ) → P (Some n)) → P None → (o : Option ℕ) → P o
-option_cases P some none None = none
-option_cases P some none (Some n) = some n
-
 module _ {core : Core} {worker : ℕ} {actor : Actor} {arena bytes : ℕ} {handle : Handle}
     {heap : Held PlainWords} (made : IsAlloc core worker actor arena bytes handle heap) where
   abbrev parts : Parts
   parts = parts_of core
-
-  abbrev now : Parts
-  now = parts_of (with_heap core worker heap)
 
   abbrev s : State
   s = state_of parts
@@ -201,10 +187,9 @@ module _ {core : Core} {worker : ℕ} {actor : Actor} {arena bytes : ℕ} {handl
       in
       blanks_told may same ∙ ap (places_from (page * 512)) (sym blanks_are)
 
-  begun : class_at one.classes (page % 16) ≡ None → (x : ℕ) (xs : List ℕ) → blanks ≡ x ∷ xs
-      → (free : List ℕ)
+  begun : (x : ℕ) (xs : List ℕ) → blanks ≡ x ∷ xs → (free : List ℕ)
       → free ≡ places_from (page * 512) blanks → AreNumbered (page * 512) (fresh free) from_heap
-  begun e x xs some free are =
+  begun x xs some free are =
       let plain : from_heap ≡ fresh blanks =
       ap (λ bs. begun_or bs had) some ∙ sym (ap fresh some) ∙ ap (λ bs. fresh bs) refl in
       record {
@@ -212,23 +197,19 @@ module _ {core : Core} {worker : ℕ} {actor : Actor} {arena bytes : ℕ} {handl
         others = ap (λ l. places_from (page * 512) l.local_free) (sym plain);
       }
 
-  unclassed : class_at one.classes (page % 16) ≡ None
+  unclassed : (bs : List ℕ) → blanks ≡ bs → class_at one.classes (page % 16) ≡ None
       → AreNumbered (page * 512) (lists_for s (lists_of parts) size page None) from_heap
-  unclassed e =
-      list_cases blanks (AreNumbered (page * 512) (lists_for s (lists_of parts) size page None)
-      from_heap)
-      (λ none. absurd (some_blank e none))
-      (λ x xs some. begun e x xs some (filter (is_usable s size) (range_with_len (page * 512) 512))
-      (begun_free e x xs some))
+  unclassed [] none e = absurd (some_blank e none)
+  unclassed (x ∷ xs) some e = begun x xs some
+      (filter (is_usable s size) (range_with_len (page * 512) 512)) (begun_free e x xs some)
 
   lists_numbered : (class : Option ℕ) → class_at one.classes (page % 16) ≡ class
       → AreNumbered (page * 512) (lists_for s (lists_of parts) size page class) from_heap
-  lists_numbered class =
-      option_cases (λ c. class_at one.classes (page % 16) ≡ c
-      → AreNumbered (page * 512) (lists_for s (lists_of parts) size page c) from_heap) classed
-      unclassed class
+  lists_numbered (Some other) e = classed other e
+  lists_numbered None e = unclassed blanks refl e
 
-  pub lists_given : lists_of now ≡ given_from s (lists_of parts) size page
+  pub lists_given : lists_of (parts_of (with_heap core worker heap))
+      ≡ given_from s (lists_of parts) size page
   lists_given =
       let l = lists_of parts in
       let class = class_of_page s page in

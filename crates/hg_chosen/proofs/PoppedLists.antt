@@ -1,11 +1,9 @@
 -- Lists by numbers, refilled and popped as by indexes.
-use Rattle.std.proofs.Common.{◌≡◌, ℕ, ◌+◌, Bool, [], ◌∷◌, ◌++◌, List, drop, refl, sym, ap}
+use Rattle.std.proofs.Common.{◌≡◌, ℕ, Bool, [], ◌∷◌, ◌++◌, List, drop, refl, sym, ap}
 use Rattle.hg_page.specs.PageLists.{PageLists, listed, Pops}
 use Rattle.hg_segment.specs.Kept.{refilled}
 use Rattle.hg_agreement.specs.Parts.{places_from}
 use Rattle.hg_choice.specs.PageLists.{popped}
-use Rattle.hg_machine.specs.declared.Event.TheVariants as event
-use Rattle.hg_machine.specs.declared.Answer.TheVariants as answer
 
 -- lists by numbers are refilled as by indexes
 free_refilled : (first : ℕ) (free others : List ℕ) (one two : List Bool)

@@ -26,8 +26,6 @@ use Rattle.hg_events.proofs.OwnSteps.{read_is_step, write_is_step, look_is_step,
 use Rattle.hg_chosen.specs.Same.{ReadIsChosen, WriteIsChosen, LookIsChosen, DeniedFreeIsChosen}
 use Rattle.hg_chosen.proofs.CoreQueues.{queues_same}
 use Rattle.hg_chosen.proofs.ListedSwaps.{alike, same_lists}
-use Rattle.hg_machine.specs.declared.Answer.TheVariants as answer
-use Rattle.hg_machine.specs.declared.Event.TheVariants as event
 
 -- the heap of a core with another of its segments at an index
 pub heap_set : (core : Core) (worker found : ℕ) (heap : Held PlainWords) (now : Kept PlainWords)
