@@ -1,6 +1,6 @@
 -- An Alloc, tied.
-use Rattle.std.proofs.Common.{◌≡◌, ℕ, ◌-◌, ◌==◌, ◌<◌, ◌≤◌, inl, inr, true, if◌then◌else◌, length}
-use Rattle.std.proofs.Common.{get_or, set, replicate, Some, None, refl, sym, ap, subst, ◌∙◌, arith}
+use Rattle.std.proofs.Common.{◌≡◌, ℕ, ◌-◌, ◌<◌, ◌≤◌, inl, inr, true, length, replicate, Some, None}
+use Rattle.std.proofs.Common.{refl, sym, ap, subst, ◌∙◌, arith}
 use Rattle.std.proofs.lemmas.Bool.{cases_eq, ltb-true}
 use Rattle.std.proofs.lemmas.Grind.{get_or-set_at}
 use Rattle.std.proofs.lemmas.List.{get_or-set_other}
@@ -8,8 +8,6 @@ use Rattle.hg_place.specs.Places.{number_of, page_number, page_of, segment_of}
 use Rattle.hg_place.specs.Slots.{slot_in}
 use Rattle.hg_place.specs.Words.{word_of}
 use Rattle.hg_place.specs.Standings.{standing_generation}
-use Rattle.hg_machine.specs.declared.Event.TheVariants as event
-use Rattle.hg_machine.specs.declared.Answer.TheVariants as answer
 use Rattle.hg_machine.specs.Policy.{is_tenant}
 use Rattle.hg_machine.specs.Life.{live, Record, never_used, contents_of}
 use Rattle.hg_machine.specs.State.{record_at}
@@ -29,6 +27,8 @@ use Rattle.hg_agreement.proofs.Answers.{roomy}
 use Rattle.hg_agreement.proofs.Rooms.{same_room, generation_by}
 use Rattle.hg_agreement.proofs.Frames.{served_follows}
 use Rattle.hg_agreement.proofs.Puts.{at_place, off_place}
+use Rattle.hg_machine.specs.declared.Event.TheVariants as event
+use Rattle.hg_machine.specs.declared.Answer.TheVariants as answer
 
 -- the live word says what it was made of
 live_slot : (generation owner : ℕ) → 1 ≤ generation → owner < 64
@@ -81,35 +81,29 @@ alloc_is_tied view shown actor arena bytes handle below none room stands m agree
       sound = sound;
       policy = agrees.policy;
       holding = agrees.holding;
-      classes = λ q h. elim (cases_eq q (page_of p))
-          as (λ _. get_or (set m.classes page (Some size)) q None
-          ≡ (if q == page_of p then Some size else view.class q)) [
-            | inl e ↦ get_or-set_at m.classes page q (Some size) None (e ∙ on_page) inside
-                ∙ at_place view.class (Some size) q (page_of p) e
-            | inr ne ↦ get_or-set_other m.classes page q (Some size) None
-                (λ e. ne (e ∙ sym on_page))
-                ∙ agrees.classes q h ∙ off_place view.class (Some size) q (page_of p) ne
-          ];
-      standings = λ q h. elim (cases_eq q p)
-          as (λ _. standing_of (get_or (set m.records p now) q never_used)
-          ≡ (if q == p then Open handle.generation actor.0 else view.standing q)) [
-            | inl e ↦ ap standing_of (get_or-set_at m.records p q now never_used e has.within)
-                ∙ at_place view.standing (Open handle.generation actor.0) q p e
-            | inr ne ↦ ap standing_of (get_or-set_other m.records p q now never_used ne)
-                ∙ agrees.standings q h ∙ off_place view.standing (Open handle.generation actor.0) q
-                p
-                ne
-          ];
-      blocks = λ q h. elim (cases_eq q p)
-          as (λ _. contents_of (get_or (set m.records p now) q never_used).life
-          ≡ (if q == p then replicate size 0 else view.block q)) [
-            | inl e ↦ ap (λ x. contents_of x.life)
-                (get_or-set_at m.records p q now never_used e has.within)
-                ∙ at_place view.block (replicate size 0) q p e
-            | inr ne ↦ ap (λ x. contents_of x.life)
-                (get_or-set_other m.records p q now never_used ne)
-                ∙ agrees.blocks q h ∙ off_place view.block (replicate size 0) q p ne
-          ];
+      classes = λ q h. elim (cases_eq q (page_of p)) [
+        | inl e ↦ get_or-set_at m.classes page q (Some size) None (e ∙ on_page) inside
+            ∙ at_place view.class (Some size) q (page_of p) e
+        | inr ne ↦ get_or-set_other m.classes page q (Some size) None
+            (λ e. ne (e ∙ sym on_page))
+            ∙ agrees.classes q h ∙ off_place view.class (Some size) q (page_of p) ne
+      ];
+      standings = λ q h. elim (cases_eq q p) [
+        | inl e ↦ ap standing_of (get_or-set_at m.records p q now never_used e has.within)
+            ∙ at_place view.standing (Open handle.generation actor.0) q p e
+        | inr ne ↦ ap standing_of (get_or-set_other m.records p q now never_used ne)
+            ∙ agrees.standings q h ∙ off_place view.standing (Open handle.generation actor.0) q
+            p
+            ne
+      ];
+      blocks = λ q h. elim (cases_eq q p) [
+        | inl e ↦ ap (λ x. contents_of x.life)
+            (get_or-set_at m.records p q now never_used e has.within)
+            ∙ at_place view.block (replicate size 0) q p e
+        | inr ne ↦ ap (λ x. contents_of x.life)
+            (get_or-set_other m.records p q now never_used ne)
+            ∙ agrees.blocks q h ∙ off_place view.block (replicate size 0) q p ne
+      ];
       hand = agrees.hand;
       word = subst (λ x. IsShownBy x left.word)
           (sym (get_or-set_at m.records p p now never_used refl has.within)) (record {

@@ -5,14 +5,12 @@ use Rattle.std.proofs.Common.{arith, max, nat_lt}
 use Rattle.std.proofs.lemmas.Bool.{cases_Bool, or_left, or_right, and_from, and_parts}
 use Rattle.std.proofs.lemmas.Bool.{not_from_false}
 use Rattle.hg_place.specs.declared.Handle.{Handle}
-use Rattle.hg_place.specs.declared.Right.TheVariants as right
 use Rattle.hg_place.specs.declared.standing.Standing.{Standing}
 use Rattle.hg_place.specs.declared.standing.Standing.TheVariants.{Home, Open}
 use Rattle.hg_place.specs.Places.{number_of, place_at, segment_of, page_of, index_of}
 use Rattle.hg_place.specs.Standings.{is_home, standing_generation}
 use Rattle.hg_place.proofs.PlaceNumbers.{number_of-place_at}
 use Rattle.hg_machine.specs.declared.AllocVerdict.{AllocVerdict}
-use Rattle.hg_machine.specs.declared.AllocVerdict.TheVariants as alloc
 use Rattle.hg_machine.specs.Denial.{denial_on}
 use Rattle.hg_machine.specs.Policy.{arena_of}
 use Rattle.hg_machine.specs.Holders.{is_number}
@@ -27,6 +25,8 @@ use Rattle.hg_agreement.specs.Seen.{alloc_in, charge_in, is_open_to_in, has_open
 use Rattle.hg_agreement.specs.Seen.{is_room_in}
 use Rattle.hg_agreement.specs.Answerable.{RoomsAgree, RoomIsSomeHandle, RowIsThere}
 use Rattle.hg_agreement.proofs.Rooms.{same_room}
+use Rattle.hg_place.specs.declared.Right.TheVariants as right
+use Rattle.hg_machine.specs.declared.AllocVerdict.TheVariants as alloc
 
 pub rooms_agree : RoomsAgree
 rooms_agree m view shown arena size place agrees = same_room m view shown arena size place agrees
@@ -66,7 +66,7 @@ room_found : (view : View) (arena size : ℕ) → has_room_in view arena size �
     → HasPlace view arena size
 room_found view arena size e =
     let n = length view.policy.segments * 8192 in
-    elim (cases_Bool (has_open_in view arena size (Some size))) as (λ _. HasPlace view arena size) [
+    elim (cases_Bool (has_open_in view arena size (Some size))) [
       | inl t ↦
           let f = found (is_open_to_in view arena size (Some size)) n t in
           (f.0, f.1, or_left _ _ f.2, free_at view arena size (Some size) f.0 f.2)

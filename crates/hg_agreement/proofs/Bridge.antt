@@ -11,13 +11,12 @@ use Rattle.std.proofs.lemmas.Option.{same_Some, none-some}
 use Rattle.hg_place.specs.Places.{segment_of, segment_of_page}
 use Rattle.hg_place.specs.Slots.{slot_in}
 use Rattle.hg_place.specs.Standings.{standing_at, is_home as at_home}
-use Rattle.hg_machine.specs.Life.{is_live, contents_of}
+use Rattle.hg_machine.specs.Life.{contents_of}
 use Rattle.hg_machine.specs.State.{fresh, record_at, class_at, holder_at}
 use Rattle.hg_machine.specs.Holders.{is_held_by, holds}
 use Rattle.hg_agreement.specs.Views.{Shown}
 use Rattle.hg_agreement.specs.Agreement.{standing_of}
 use Rattle.hg_machine.specs.Shown.{IsShownBy}
-use Rattle.hg_agreement.specs.Witness.{held_life}
 use Rattle.hg_agreement.specs.Holdings.{Holding, block_of, holding_of, has, class_told}
 use Rattle.hg_agreement.specs.Holdings.{standing_told, block_told}
 use Rattle.hg_agreement.specs.Parts.{Plain, Parts, is_of, heap_at, holdings, plain_by, plain_of}
@@ -36,10 +35,7 @@ found_in : (heap : List Plain) (segment : ℕ) → has (holdings heap) segment �
     × (holding_of (holdings heap) segment ≡ Some one.holding)
 found_in [] segment e = absurd (true≢false (sym e))
 found_in (x ∷ xs) segment e =
-    elim (cases_Bool (x.holding.number == segment))
-    as (λ _. (one : Plain) × (cond (x.holding.number == segment) (Some x) (find (is_of segment) xs)
-    ≡ Some one) × (cond (x.holding.number == segment) (Some x.holding)
-    (holding_of (holdings xs) segment) ≡ Some one.holding)) [
+    elim (cases_Bool (x.holding.number == segment)) [
       | inl t ↦ (
         x,
         ap (λ b. cond b (Some x) (find (is_of segment) xs)) t,
@@ -58,7 +54,7 @@ found_in (x ∷ xs) segment e =
 -- the first of a range that passes
 pub first_passes : (p : ℕ → Bool) (a n u : ℕ) → find p (range_with_len a n) ≡ Some u → p u ≡ true
 first_passes p a zero u e = absurd (none-some u e)
-first_passes p a (suc n) u e = elim (cases_Bool (p a)) as (λ _. p u ≡ true) [
+first_passes p a (suc n) u e = elim (cases_Bool (p a)) [
   | inl t ↦
       let same : a ≡ u =
       same_Some a u (sym (ap (λ b. cond b (Some a) (find p (range_with_len (a + 1) n))) t)
@@ -72,8 +68,7 @@ pub some_passes : (p : ℕ → Bool) (a n k : ℕ) → a ≤ k → k < a + n →
     → (u : ℕ) × (find p (range_with_len a n) ≡ Some u)
 some_passes p a zero k low high e = absurd (omega arith)
 some_passes p a (suc n) k low high e =
-    elim (cases_Bool (p a))
-    as (λ _. (u : ℕ) × (cond (p a) (Some a) (find p (range_with_len (a + 1) n)) ≡ Some u)) [
+    elim (cases_Bool (p a)) [
       | inl t ↦ (a, ap (λ b. cond b (Some a) (find p (range_with_len (a + 1) n))) t)
       | inr f ↦
           let above : a ≡ k → ⊥ = λ same. true≢false (sym e ∙ ap p (sym same) ∙ f) in
@@ -97,11 +92,10 @@ fit_shown one at word is fit =
     in
     record {
       generation = fit.generation;
-      live = elim (cases_Bool (at_home st)) as (λ _. (slot_in word).live ≡ is_live
-          (held_life b st ws)) [
-            | inr given ↦ same ∙ sym (held_live b st ws given)
-            | inl free ↦ fit.freed free ∙ sym (held_dead b st ws free)
-          ];
+      live = elim (cases_Bool (at_home st)) [
+        | inr given ↦ same ∙ sym (held_live b st ws given)
+        | inl free ↦ fit.freed free ∙ sym (held_dead b st ws free)
+      ];
       owner = λ used. fit.owner (sym (held_home b st ws) ∙ used) ∙ sym (held_owner b st ws);
     }
 
@@ -155,16 +149,14 @@ module _ (parts : Parts) (w : ℕ) (sorted : IsSorted parts) (below : w < length
   holding_is : (segment : ℕ) → holds (state_of parts) w segment ≡ has heap segment
   unfolding heap left
   holding_is segment =
-      elim (cases_Bool (has heap segment)) as (λ _. holds (state_of parts) w segment
-      ≡ has heap segment) [
+      elim (cases_Bool (has heap segment)) [
         | inl t ↦ ap (is_held_by w) (holder_is parts segment (sorted.below w segment t))
             ∙ holder_held segment t ∙ sym t
-        | inr f ↦ elim (cases_lt segment (length parts.policy.segments))
-            as (λ _. holds (state_of parts) w segment ≡ has heap segment) [
-              | inl inside ↦ ap (is_held_by w) (holder_is parts segment inside)
-                  ∙ holder_other segment (worker_of parts segment) refl f ∙ sym f
-              | inr past ↦ ap (is_held_by w) (holder_past segment past) ∙ sym f
-            ]
+        | inr f ↦ elim (cases_lt segment (length parts.policy.segments)) [
+          | inl inside ↦ ap (is_held_by w) (holder_is parts segment inside)
+              ∙ holder_other segment (worker_of parts segment) refl f ∙ sym f
+          | inr past ↦ ap (is_held_by w) (holder_past segment past) ∙ sym f
+        ]
       ]
 
   class_same : (page : ℕ) → has heap (segment_of_page page) ≡ true → class_at (state_of parts) page

@@ -43,7 +43,7 @@ swept_find segment (x ∷ xs) (y ∷ ys) swept =
       long = omega arith;
       each = λ found one now e f. swept.each (suc found) one now e f;
     } in
-    elim (cases_Bool (x.holding.number == segment)) as (λ _. BothOrNone segment (x ∷ xs) (y ∷ ys)) [
+    elim (cases_Bool (x.holding.number == segment)) [
       | inl t ↦ inr (
         x,
         y,
@@ -55,7 +55,7 @@ swept_find segment (x ∷ xs) (y ∷ ys) swept =
           let before = ap (λ b. cond b (Some x) (find (is_of segment) xs)) f in
           let after = ap (λ b. cond b (Some y) (find (is_of segment) ys))
           (ap (λ k. k == segment) sw.number ∙ f) in
-          elim (swept_find segment xs ys rest) as (λ _. BothOrNone segment (x ∷ xs) (y ∷ ys)) [
+          elim (swept_find segment xs ys rest) [
             | inl none ↦ inl (before ∙ none.0, after ∙ none.1)
             | inr some ↦ inr (some.0, some.1, before ∙ some.2, after ∙ some.3, some.4)
           ]
@@ -98,8 +98,7 @@ module _ (parts : Parts) (w : ℕ) (heap : List Plain) (sorted : IsSorted parts)
   has_same : (segment v : ℕ) → has (holdings (heap_at after v)) segment ≡ has
       (holdings (heap_at parts v)) segment
   has_same segment v =
-      elim (cases_eq v w) as (λ _. has (holdings (heap_at after v)) segment ≡ has
-      (holdings (heap_at parts v)) segment) [
+      elim (cases_eq v w) [
         | inl e ↦
             ap (λ x. has (holdings (heap_at after x)) segment) e
             ∙ ap (λ h. has (holdings h) segment) heap_here
@@ -144,8 +143,7 @@ module _ (parts : Parts) (w : ℕ) (heap : List Plain) (sorted : IsSorted parts)
   unfolding after
   away_by segment None was is = refl
   away_by segment (Some v) was is =
-      elim (cases_eq v w) as (λ _. find (is_of segment) (heap_at after v) ≡ find (is_of segment)
-      (heap_at parts v)) [
+      elim (cases_eq v w) [
         | inl e ↦
             ap (λ x. find (is_of segment) (heap_at after x)) e
             ∙ ap (find (is_of segment)) heap_here
@@ -169,8 +167,7 @@ module _ (parts : Parts) (w : ℕ) (heap : List Plain) (sorted : IsSorted parts)
 
   record_same : (q : ℕ) → record_of after q ≡ record_of parts q
   record_same q =
-      elim (swept_find (segment_of q) (heap_at parts w) heap swept)
-      as (λ _. record_of after q ≡ record_of parts q) [
+      elim (swept_find (segment_of q) (heap_at parts w) heap swept) [
         | inl none ↦ ap (λ o. record_by o (q % 8192)) (away (segment_of q) none.0 none.1)
         | inr some ↦
             let at = here (segment_of q) some.0 some.1 some.2 some.3 in
@@ -198,8 +195,7 @@ module _ (parts : Parts) (w : ℕ) (heap : List Plain) (sorted : IsSorted parts)
   class_cleared : (page : ℕ) → page < length parts.policy.segments * 16
       → page_class after page ≡ cleared (state_of parts) w page
   class_cleared page h =
-      elim (swept_find (segment_of_page page) (heap_at parts w) heap swept)
-      as (λ _. page_class after page ≡ cleared (state_of parts) w page) [
+      elim (swept_find (segment_of_page page) (heap_at parts w) heap swept) [
         | inl none ↦
             ap (λ o. class_by o (page % 16)) (away (segment_of_page page) none.0 none.1)
             ∙ sym (class_is parts page h)

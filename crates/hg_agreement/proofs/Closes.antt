@@ -11,7 +11,7 @@ read_as w b = if b then unused_slot else record
     { generation = w / 4294967296; owner = w % 4294967296 / 2; live = w % 2 == 1 }
 
 pub native : (w : ℕ) → (slot_in w).live ≡ true → is_foreign w ≡ false
-native w e = elim (cases_Bool (is_foreign w)) as (λ _. is_foreign w ≡ false) [
+native w e = elim (cases_Bool (is_foreign w)) [
   | inl t ↦ absurd (true≢false (sym e ∙ ap (λ b. (read_as w b).live) t))
   | inr f ↦ f
 ]
@@ -26,7 +26,7 @@ parts w e =
     let o = or_parts (nat_lt 127 (w % 4294967296)) (w / 4294967296 == 0 && nat_lt 0 w) e in
     record {
       low = ltb-false 127 (w % 4294967296) o.0;
-      unused = λ z. elim (and_cases (w / 4294967296 == 0) (nat_lt 0 w) o.1) as (λ _. w ≤ 0) [
+      unused = λ z. elim (and_cases (w / 4294967296 == 0) (nat_lt 0 w) o.1) [
         | inl f ↦ absurd (eqb-false (w / 4294967296) 0 f z)
         | inr f ↦ ltb-false 0 w f
       ];
@@ -35,7 +35,7 @@ parts w e =
 pub from_parts : (w : ℕ) → IsNative w → is_foreign w ≡ false
 from_parts w n =
     or_from _ _ (le-ltb 127 (w % 4294967296) n.low)
-    (elim (cases_Bool (w / 4294967296 == 0)) as (λ _. (w / 4294967296 == 0 && nat_lt 0 w) ≡ false) [
+    (elim (cases_Bool (w / 4294967296 == 0)) [
       | inl t ↦ ap (λ b. w / 4294967296 == 0 && b) (le-ltb 0 w (n.unused (eqb-true _ _ t)))
           ∙ ap (λ b. b && false) t
       | inr f ↦ ap (λ b. b && nat_lt 0 w) f

@@ -8,8 +8,6 @@ use Rattle.std.proofs.lemmas.List.{get_or_past}
 use Rattle.std.proofs.lemmas.List.FromFn.{length-map-range_with_len}
 use Rattle.hg_place.specs.Places.{segment_of, segment_of_page}
 use Rattle.hg_place.specs.Standings.{is_home as at_home}
-use Rattle.hg_machine.specs.declared.Event.TheVariants as event
-use Rattle.hg_machine.specs.declared.Answer.TheVariants as answer
 use Rattle.hg_machine.specs.Life.{is_home}
 use Rattle.hg_machine.specs.State.{State, record_at, class_at, pages_in}
 use Rattle.hg_machine.specs.Holders.{holds}
@@ -23,6 +21,8 @@ use Rattle.hg_agreement.specs.Changed.{collected}
 use Rattle.hg_agreement.specs.Ties.{CollectIsTied}
 use Rattle.hg_agreement.proofs.Rooms.{home_by}
 use Rattle.hg_agreement.proofs.Frames.{served_follows}
+use Rattle.hg_machine.specs.declared.Event.TheVariants as event
+use Rattle.hg_machine.specs.declared.Answer.TheVariants as answer
 
 alls : (f g : ℕ → Bool) (a n : ℕ) → ((k : ℕ) → a ≤ k → k < a + n → f k ≡ g k)
     → list_all f (range_with_len a n) ≡ list_all g (range_with_len a n)
@@ -46,8 +46,7 @@ same_given_up : (m : State) (view : View) (shown : Option Shown) (page : ℕ) �
     → (holds m view.worker (segment_of_page page) && is_idle m page) ≡ is_given_up view page
 same_given_up m view shown page agrees =
     ap (λ b. b && is_idle m page) (agrees.holding (segment_of_page page))
-    ∙ elim (cases_Bool (view.holds (segment_of_page page)))
-    as (λ _. (view.holds (segment_of_page page) && is_idle m page) ≡ is_given_up view page) [
+    ∙ elim (cases_Bool (view.holds (segment_of_page page))) [
       | inl h ↦ ap (λ b. view.holds (segment_of_page page) && b)
           (same_idle m view shown page agrees h)
       | inr f ↦ ap (λ b. b && is_idle m page) f ∙ sym (ap (λ b. b && is_idle_in view page) f)
@@ -65,10 +64,7 @@ counted m view shown page agrees =
     ∙ ap (λ b. b && is_some (class_at m page)) (same_given_up m view shown page agrees)
     ∙ sym (both (view.holds (segment_of_page page)) (is_idle_in view page)
     (is_some (class_at m page)))
-    ∙ elim (cases_Bool (view.holds (segment_of_page page)))
-    as (λ _. (view.holds (segment_of_page page) && (is_idle_in view page && is_some
-    (class_at m page)))
-    ≡ (view.holds (segment_of_page page) && (is_idle_in view page && is_some (view.class page)))) [
+    ∙ elim (cases_Bool (view.holds (segment_of_page page))) [
       | inl h ↦ ap (λ c. view.holds (segment_of_page page) && (is_idle_in view page && is_some c))
           (agrees.classes page h)
       | inr f ↦ ap (λ b. b && (is_idle_in view page && is_some (class_at m page))) f
@@ -82,8 +78,7 @@ both_none false c e = refl
 class_after : (m : State) (w page : ℕ) → get_or (map (cleared m w) (pages_in m)) page None
     ≡ cleared m w page
 class_after m w page =
-    elim (cases_lt page (length m.classes)) as (λ _. get_or (map (cleared m w) (pages_in m)) page
-    None ≡ cleared m w page) [
+    elim (cases_lt page (length m.classes)) [
       | inl below ↦ cleared_at m w page below
       | inr past ↦
           let none : class_at m page ≡ None = get_or_past m.classes page None past in

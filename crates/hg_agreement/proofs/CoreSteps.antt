@@ -4,31 +4,29 @@ use Rattle.std.proofs.Common.{Some, None, refl, sym, ap, ◌∙◌, find, is_non
 use Rattle.std.proofs.Common.{slice_index_or, subst}
 use Rattle.std.proofs.lemmas.Bool.{cases_Bool, eq-eqb, eqb-true, true≢false}
 use Rattle.std.proofs.lemmas.Option.{none-some, same_Some}
-use Rattle.hg_machine.specs.declared.Event.TheVariants as event
-use Rattle.hg_machine.specs.declared.Answer.TheVariants as answer
 use Rattle.hg_machine.specs.First.{first_of}
 use Rattle.hg_machine.specs.Policy.{arena_of}
 use Rattle.hg_machine.specs.Holders.{is_number}
 use Rattle.hg_machine.specs.Refusal.{refusal}
 use Rattle.hg_machine.proofs.Serves.{served_step}
-use Rattle.hg_agreement.specs.Parts.{Plain, is_of, heap_at, state_of}
+use Rattle.hg_agreement.specs.Parts.{Plain, is_of, heap_at, state_of, holdings}
 use Rattle.hg_agreement.specs.CoreSteps.{TakeIsStep, LetGoIsStep, SweptIsStep, RefilledIsTakenUp}
 use Rattle.hg_agreement.specs.CoreSteps.{RefillIsStep, NoRefillIsStep}
 use Rattle.hg_machine.specs.Steps.{Step}
-use Rattle.hg_agreement.specs.Parts.{holdings}
 use Rattle.hg_agreement.specs.Holdings.{view_of}
-use Rattle.hg_agreement.proofs.Bridge.{heaps_agree}
+use Rattle.hg_agreement.proofs.Bridge.{heaps_agree, holds_had}
 use Rattle.hg_agreement.proofs.Collects.{collect_is_tied}
 use Rattle.hg_agreement.proofs.Clears.{swept_is_cleared}
 use Rattle.hg_agreement.specs.Seen.{idle_pages_in}
 use Rattle.hg_machine.proofs.Answered.{of_some}
-use Rattle.hg_agreement.proofs.Bridge.{holds_had}
-use Rattle.hg_agreement.proofs.Putting.{swap_had, swap_below}
+use Rattle.hg_agreement.proofs.Swapped.{swap_had, swap_below}
 use Rattle.hg_agreement.proofs.Leaves.{go_had, let_go_is_abandoned}
 use Rattle.hg_agreement.proofs.Firsts.{next_is_first}
 use Rattle.hg_agreement.proofs.Adopts.{taken_up_is_adopted}
 use Rattle.hg_agreement.proofs.Settles.{taken_in_is_settled}
 use Rattle.hg_agreement.proofs.Listed.{sent_are_listed}
+use Rattle.hg_machine.specs.declared.Event.TheVariants as event
+use Rattle.hg_machine.specs.declared.Answer.TheVariants as answer
 
 pub take_is_step : TakeIsStep
 take_is_step parts w found one now remotes sorted partition taken =
@@ -56,8 +54,7 @@ first_number : (p : ℕ → Bool) (xs : List Plain) (one : Plain) → find (λ x
     ≡ Some one → (p one.holding.number ≡ true) × (find (is_of one.holding.number) xs ≡ Some one)
 first_number p [] one e = absurd (none-some one e)
 first_number p (x ∷ xs) one e =
-    elim (cases_Bool (p x.holding.number)) as (λ _. (p one.holding.number ≡ true)
-    × (find (is_of one.holding.number) (x ∷ xs) ≡ Some one)) [
+    elim (cases_Bool (p x.holding.number)) [
       | inl t ↦
           let same : x ≡ one =
           same_Some x one (sym (ap (λ b. cond b (Some x) (find (λ k. p k.holding.number) xs)) t)
@@ -71,15 +68,13 @@ first_number p (x ∷ xs) one e =
           let rest = first_number p xs one
           (sym (ap (λ b. cond b (Some x) (find (λ k. p k.holding.number) xs)) f) ∙ e) in (
             rest.0,
-            elim (cases_Bool (x.holding.number == one.holding.number))
-                as (λ _. cond (x.holding.number == one.holding.number) (Some x)
-                (find (is_of one.holding.number) xs) ≡ Some one) [
-                  | inl t ↦ absurd
-                      (true≢false (sym rest.0
-                      ∙ ap p (sym (eqb-true x.holding.number one.holding.number t)) ∙ f))
-                  | inr away ↦ ap (λ b. cond b (Some x) (find (is_of one.holding.number) xs)) away
-                      ∙ rest.1
-                ],
+            elim (cases_Bool (x.holding.number == one.holding.number)) [
+              | inl t ↦ absurd
+                  (true≢false (sym rest.0
+                  ∙ ap p (sym (eqb-true x.holding.number one.holding.number t)) ∙ f))
+              | inr away ↦ ap (λ b. cond b (Some x) (find (is_of one.holding.number) xs)) away
+                  ∙ rest.1
+            ],
           )
     ]
 

@@ -35,7 +35,7 @@ count_append {X} p xs ys = sum_by-append (λ y. cond (p y) 1 0) xs ys
 pub none_counted : {X : Type 0} (p : X → Bool) (xs : List X) → list_any p xs ≡ false
     → count_by p xs ≡ 0
 none_counted {X} p [] e = refl
-none_counted {X} p (x ∷ xs) e = elim (cases_Bool (p x)) as (λ _. count_by p (x ∷ xs) ≡ 0) [
+none_counted {X} p (x ∷ xs) e = elim (cases_Bool (p x)) [
   | inl t ↦ absurd (true≢false (sym (ap (λ b. b || list_any p xs) t) ∙ e))
   | inr f ↦
       let c = count_cons p x xs ∙ ap (λ b. bit_of b + count_by p xs) f in
@@ -46,7 +46,7 @@ none_counted {X} p (x ∷ xs) e = elim (cases_Bool (p x)) as (λ _. count_by p (
 pub some_counted : {X : Type 0} (p : X → Bool) (xs : List X) → list_any p xs ≡ true
     → 1 ≤ count_by p xs
 some_counted {X} p [] e = absurd (true≢false (sym e))
-some_counted {X} p (x ∷ xs) e = elim (cases_Bool (p x)) as (λ _. 1 ≤ count_by p (x ∷ xs)) [
+some_counted {X} p (x ∷ xs) e = elim (cases_Bool (p x)) [
   | inl t ↦ let c = count_cons p x xs ∙ ap (λ b. bit_of b + count_by p xs) t in omega arith
   | inr f ↦
       let c = count_cons p x xs ∙ ap (λ b. bit_of b + count_by p xs) f in
@@ -57,7 +57,7 @@ some_counted {X} p (x ∷ xs) e = elim (cases_Bool (p x)) as (λ _. 1 ≤ count_
 pub any_found : {X : Type 0} (p : X → Bool) (xs : List X) (x : X) → find p xs ≡ Some x
     → list_any p xs ≡ true
 any_found {X} p [] x e = absurd (none-some x e)
-any_found {X} p (y ∷ ys) x e = elim (cases_Bool (p y)) as (λ _. (p y || list_any p ys) ≡ true) [
+any_found {X} p (y ∷ ys) x e = elim (cases_Bool (p y)) [
   | inl t ↦ ap (λ b. b || list_any p ys) t
   | inr f ↦ ap (λ b. b || list_any p ys) f
       ∙ any_found p ys x (sym (ap (λ b. cond b (Some y) (find p ys)) f) ∙ e)
@@ -72,8 +72,7 @@ pub pool_inside : (parts : Parts) (segment : ℕ) → IsPooled parts
     → 1 ≤ count_by (is_of segment) (parts.orphans ++ parts.fresh)
     → segment < length parts.policy.segments
 pool_inside parts segment pooled some =
-    elim (cases_lt segment (length parts.policy.segments))
-    as (λ _. segment < length parts.policy.segments) [
+    elim (cases_lt segment (length parts.policy.segments)) [
       | inl below ↦ below
       | inr past ↦
           let none = pooled.once segment ∙ bit_second (is_none (worker_of parts segment))
@@ -103,8 +102,7 @@ module _ (parts : Parts) (segment : ℕ) (pooled : IsPooled parts)
   fresh_by (Some w) is =
       let none = total
       ∙ ap (λ o. bit_of (is_none o && nat_lt segment (length parts.policy.segments))) is in
-      elim (cases_Bool (list_any (is_of segment) parts.fresh))
-      as (λ _. list_any (is_of segment) parts.fresh ≡ false) [
+      elim (cases_Bool (list_any (is_of segment) parts.fresh)) [
         | inl t ↦ let some = some_counted (is_of segment) parts.fresh t in absurd (omega arith)
         | inr f ↦ f
       ]
@@ -112,23 +110,17 @@ module _ (parts : Parts) (segment : ℕ) (pooled : IsPooled parts)
       let one = total
       ∙ ap (λ o. bit_of (is_none o && nat_lt segment (length parts.policy.segments))) is
       ∙ ap bit_of (lt-ltb segment (length parts.policy.segments) below) in
-      elim (cases_Bool (list_any (is_of segment) parts.orphans))
-      as (λ _. list_any (is_of segment) parts.fresh ≡ is_fresh
-      (holder_by None (list_any (is_of segment) parts.orphans))) [
+      elim (cases_Bool (list_any (is_of segment) parts.orphans)) [
         | inl t ↦
             let some = some_counted (is_of segment) parts.orphans t in
-            elim (cases_Bool (list_any (is_of segment) parts.fresh))
-            as (λ _. list_any (is_of segment) parts.fresh ≡ is_fresh
-            (holder_by None (list_any (is_of segment) parts.orphans))) [
+            elim (cases_Bool (list_any (is_of segment) parts.fresh)) [
               | inl too ↦ let more =
                   some_counted (is_of segment) parts.fresh too in absurd (omega arith)
               | inr f ↦ f ∙ sym (ap (λ b. is_fresh (holder_by None b)) t)
             ]
         | inr f ↦
             let none = none_counted (is_of segment) parts.orphans f in
-            elim (cases_Bool (list_any (is_of segment) parts.fresh))
-            as (λ _. list_any (is_of segment) parts.fresh ≡ is_fresh
-            (holder_by None (list_any (is_of segment) parts.orphans))) [
+            elim (cases_Bool (list_any (is_of segment) parts.fresh)) [
               | inl t ↦ t ∙ sym (ap (λ b. is_fresh (holder_by None b)) f)
               | inr nowhere ↦ let less =
                   none_counted (is_of segment) parts.fresh nowhere in absurd (omega arith)
@@ -162,8 +154,7 @@ find_rising p q [] a (suc n) r below e =
     ∙ find_rising p q [] (a + 1) n tt (λ k t. absurd (true≢false (sym t)))
     (λ k low high. e k (omega arith) (omega arith))
 find_rising p q (x ∷ xs) a (suc n) r below e =
-    elim (cases_eq x a) as (λ _. cond (p a) (Some a) (find p (range_with_len (a + 1) n)) ≡ cond
-    (q x) (Some x) (find q xs)) [
+    elim (cases_eq x a) [
       | inl same ↦
           let rest = find_rising p q xs (a + 1) n (subst (λ y. IsRising (y + 1) xs) same r.1)
           (λ k t. let b = below k (or_right (x == k) _ t) in omega arith)

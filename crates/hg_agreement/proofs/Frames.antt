@@ -8,9 +8,8 @@ use Rattle.hg_machine.specs.Soundness.{IsSound}
 use Rattle.hg_machine.specs.Refusal.{refusal}
 use Rattle.hg_machine.specs.Served.{IsServed}
 use Rattle.hg_machine.specs.Steps.{Step, successor}
-use Rattle.hg_machine.proofs.Answered.{state_is_determined}
+use Rattle.hg_machine.proofs.Answered.{state_is_determined, of_some}
 use Rattle.hg_machine.proofs.Preserves.{steps_keep_sound}
-use Rattle.hg_machine.proofs.Answered.{of_some}
 use Rattle.hg_machine.proofs.Serves.{served_step}
 use Rattle.hg_agreement.specs.Views.{View, Shown, slot_shown}
 use Rattle.hg_agreement.specs.Agreement.{Agrees, Follows}

@@ -3,11 +3,8 @@ use Rattle.std.proofs.Common.{◌≡◌, ℕ, ◌-◌, ◌<◌, true, false, [],
 use Rattle.std.proofs.Common.{Some, None, refl, sym, ap, subst, ◌∙◌}
 use Rattle.std.proofs.lemmas.Bool.{true≢false}
 use Rattle.std.proofs.lemmas.Grind.{get_or-set_at}
-use Rattle.hg_place.specs.declared.Right.TheVariants as right
 use Rattle.hg_place.specs.Places.{number_of, segment_of}
 use Rattle.hg_place.specs.Slots.{slot_in}
-use Rattle.hg_machine.specs.declared.Event.TheVariants as event
-use Rattle.hg_machine.specs.declared.Answer.TheVariants as answer
 use Rattle.hg_machine.specs.Life.{Life, home, live, parted, Record, is_home, is_live, owner_of}
 use Rattle.hg_machine.specs.Life.{contents_of}
 use Rattle.hg_machine.specs.State.{record_at}
@@ -26,6 +23,9 @@ use Rattle.hg_machine.proofs.Looks.{live_used}
 use Rattle.hg_agreement.proofs.Frames.{served_follows}
 use Rattle.hg_agreement.proofs.Puts.{put_agrees, record_here, record_there}
 use Rattle.hg_agreement.proofs.Closes.{closed}
+use Rattle.hg_place.specs.declared.Right.TheVariants as right
+use Rattle.hg_machine.specs.declared.Event.TheVariants as event
+use Rattle.hg_machine.specs.declared.Answer.TheVariants as answer
 
 -- a record of that generation and owner that isn't live is shown by the word before
 ended_shown : (r now : Record) (word : ℕ) → IsShownBy r word → is_live r.life ≡ true

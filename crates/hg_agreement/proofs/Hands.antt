@@ -3,7 +3,6 @@ use Rattle.std.proofs.Common.{◌≡◌, ℕ, ◌-◌, ◌*◌, ◌<◌, true, S
 use Rattle.std.proofs.Common.{length, Option, None}
 use Rattle.std.proofs.lemmas.Option.{same_Some, slice_get_within}
 use Rattle.std.proofs.lemmas.Bool.{true≢false}
-use Rattle.hg_place.specs.declared.Right.TheVariants as right
 use Rattle.hg_place.specs.declared.geometry.TheConstants.{SEGMENT_PLACES}
 use Rattle.hg_place.specs.Places.{number_of, segment_of}
 use Rattle.hg_place.specs.Slots.{slot_in}
@@ -12,6 +11,7 @@ use Rattle.hg_machine.proofs.Allowed.{parts, no_denial}
 use Rattle.hg_agreement.specs.Ties.{FreedHandIsUsual}
 use Rattle.hg_agreement.proofs.Closes.{closed}
 use Rattle.hg_agreement.proofs.Sees.{segment_is}
+use Rattle.hg_place.specs.declared.Right.TheVariants as right
 
 some_is : (o : Option ℕ) → is_some o ≡ true → (n : ℕ) × (o ≡ Some n)
 some_is None e = absurd (cc)

@@ -4,14 +4,14 @@ use Rattle.std.proofs.Common.{refl, sym, ap, ◌∙◌, find, is_none}
 use Rattle.std.specs.Option.{option_or}
 use Rattle.std.proofs.lemmas.Bool.{cases_Bool, eq-eqb, ne_eqb}
 use Rattle.std.proofs.lemmas.List.Folds.{find-append}
-use Rattle.hg_machine.specs.declared.Event.TheVariants as event
-use Rattle.hg_machine.specs.declared.Answer.TheVariants as answer
 use Rattle.hg_machine.specs.First.{first_of}
 use Rattle.hg_machine.proofs.Serves.{served_step}
 use Rattle.hg_agreement.specs.Parts.{Plain, is_of, state_of}
 use Rattle.hg_agreement.specs.Pool.{without}
 use Rattle.hg_agreement.specs.HeapMoves.{PushedHasCome, LeftOutIsGone, DeliverIsStep}
 use Rattle.hg_agreement.proofs.Adopts.{find_without}
+use Rattle.hg_machine.specs.declared.Event.TheVariants as event
+use Rattle.hg_machine.specs.declared.Answer.TheVariants as answer
 
 or_none : (o : Option Plain) → option_or o None ≡ o
 or_none None = refl
@@ -32,9 +32,7 @@ pushed_has_come heap one none = (
 found_gone : (xs : List Plain) (n : ℕ) → find (is_of n) (without n xs) ≡ None
 found_gone [] n = refl
 found_gone (x ∷ xs) n =
-    elim (cases_Bool (x.holding.number == n))
-    as (λ _. find (is_of n) (cond (not (x.holding.number == n)) (x ∷ without n xs) (without n xs))
-    ≡ None) [
+    elim (cases_Bool (x.holding.number == n)) [
       | inl t ↦ ap (λ b. find (is_of n) (cond (not b) (x ∷ without n xs) (without n xs))) t
           ∙ found_gone xs n
       | inr f ↦

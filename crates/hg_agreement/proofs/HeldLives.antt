@@ -1,10 +1,7 @@
 -- Lives of held places, as recorded.
-use Rattle.std.proofs.Common.{◌≡◌, ℕ, Bool, true, false}
-use Rattle.std.proofs.Common.{not, [], List}
-use Rattle.std.proofs.Common.{refl, sym}
+use Rattle.std.proofs.Common.{◌≡◌, ℕ, Bool, true, false, not, [], List, refl, sym}
 use Rattle.hg_place.specs.Standings.{is_home as at_home, standing_generation, standing_owner}
-use Rattle.hg_machine.specs.Life.{is_home, is_live, is_parted}
-use Rattle.hg_machine.specs.Life.{owner_of, contents_of}
+use Rattle.hg_machine.specs.Life.{is_home, is_live, is_parted, owner_of, contents_of}
 use Rattle.hg_place.specs.declared.standing.Standing.{Standing}
 use Rattle.hg_place.specs.declared.standing.Standing.TheVariants.{Home, Open}
 use Rattle.hg_agreement.specs.Agreement.{standing_by}

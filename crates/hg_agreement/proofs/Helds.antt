@@ -39,8 +39,7 @@ module _ (holdings : List Holding) (found : ℕ) (one now : Holding) (at : ℕ)
       → (segment ≡ one.number → f (Some now) ≡ f (Some one)) → f (holding_of after segment) ≡ f
       (holding_of holdings segment)
   told_same {X} f segment same =
-      elim (cases_eq segment one.number) as (λ _. f (holding_of after segment) ≡ f
-      (holding_of holdings segment)) [
+      elim (cases_eq segment one.number) [
         | inl e ↦
             ap (λ s. f (holding_of after s)) e
             ∙ ap f after_here
@@ -67,9 +66,7 @@ module _ (holdings : List Holding) (found : ℕ) (one now : Holding) (at : ℕ)
       (holding_of holdings (segment_of q)) (q % 8192))
   unfolding after place
   standing_is q =
-      elim (cases_eq q place) as (λ _. standing_told (holding_of after (segment_of q)) (q % 8192)
-      ≡ (if q == place then standing_at now.standings at else standing_told
-      (holding_of holdings (segment_of q)) (q % 8192))) [
+      elim (cases_eq q place) [
         | inl e ↦
             let b = is.below in
             let m : q % 8192 ≡ at = omega arith in
@@ -89,22 +86,20 @@ module _ (holdings : List Holding) (found : ℕ) (one now : Holding) (at : ℕ)
       ≡ (if q == one.number * 8192 + at then block_of now at else block_told
       (holding_of holdings (segment_of q)) (q % 8192))
   unfolding after place
-  block_is q = elim (cases_eq q place) as (λ _. block_told (holding_of after (segment_of q))
-      (q % 8192) ≡ (if q == place then block_of now at else block_told
-      (holding_of holdings (segment_of q)) (q % 8192))) [
-        | inl e ↦
-            let b = is.below in
-            let m : q % 8192 ≡ at = omega arith in
-            told_here (λ o. block_told o (q % 8192)) (segment_of q) (omega arith)
-            ∙ ap (block_of now) m
-            ∙ at_place (λ x. block_told (holding_of holdings (segment_of x)) (x % 8192))
-            (block_of now at) q place e
-        | inr ne ↦
-            told_same (λ o. block_told o (q % 8192)) (segment_of q)
-            (λ e. is.blocks (q % 8192) (omega arith) (λ f. ne (omega arith)))
-            ∙ off_place (λ x. block_told (holding_of holdings (segment_of x)) (x % 8192))
-            (block_of now at) q place ne
-      ]
+  block_is q = elim (cases_eq q place) [
+    | inl e ↦
+        let b = is.below in
+        let m : q % 8192 ≡ at = omega arith in
+        told_here (λ o. block_told o (q % 8192)) (segment_of q) (omega arith)
+        ∙ ap (block_of now) m
+        ∙ at_place (λ x. block_told (holding_of holdings (segment_of x)) (x % 8192))
+        (block_of now at) q place e
+    | inr ne ↦
+        told_same (λ o. block_told o (q % 8192)) (segment_of q)
+        (λ e. is.blocks (q % 8192) (omega arith) (λ f. ne (omega arith)))
+        ∙ off_place (λ x. block_told (holding_of holdings (segment_of x)) (x % 8192))
+        (block_of now at) q place ne
+  ]
 
   page : ℕ
   page = page_of (one.number * 8192 + at)
@@ -118,25 +113,23 @@ module _ (holdings : List Holding) (found : ℕ) (one now : Holding) (at : ℕ)
       ≡ (if q == page_of (one.number * 8192 + at) then class_of now (at / 512) else class_told
       (holding_of holdings (segment_of_page q)) (q % 16))
   unfolding after page
-  class_is q = elim (cases_eq q page) as (λ _. class_told (holding_of after (segment_of_page q))
-      (q % 16) ≡ (if q == page then class_of now (at / 512) else class_told
-      (holding_of holdings (segment_of_page q)) (q % 16))) [
-        | inl e ↦
-            let b = is.below in
-            let p = e ∙ page_is in
-            let m : q % 16 ≡ at / 512 = omega (arith, p) in
-            told_here (λ o. class_told o (q % 16)) (segment_of_page q) (omega (arith, p))
-            ∙ ap (class_of now) m
-            ∙ at_place (λ x. class_told (holding_of holdings (segment_of_page x)) (x % 16))
-            (class_of now (at / 512)) q page e
-        | inr ne ↦
-            let b = is.below in
-            let away : (q ≡ one.number * 16 + at / 512) → ⊥ = λ z. ne (z ∙ sym page_is) in
-            told_same (λ o. class_told o (q % 16)) (segment_of_page q)
-            (λ e. is.classes (q % 16) (omega arith) (λ f. away (omega arith)))
-            ∙ off_place (λ x. class_told (holding_of holdings (segment_of_page x)) (x % 16))
-            (class_of now (at / 512)) q page ne
-      ]
+  class_is q = elim (cases_eq q page) [
+    | inl e ↦
+        let b = is.below in
+        let p = e ∙ page_is in
+        let m : q % 16 ≡ at / 512 = omega (arith, p) in
+        told_here (λ o. class_told o (q % 16)) (segment_of_page q) (omega (arith, p))
+        ∙ ap (class_of now) m
+        ∙ at_place (λ x. class_told (holding_of holdings (segment_of_page x)) (x % 16))
+        (class_of now (at / 512)) q page e
+    | inr ne ↦
+        let b = is.below in
+        let away : (q ≡ one.number * 16 + at / 512) → ⊥ = λ z. ne (z ∙ sym page_is) in
+        told_same (λ o. class_told o (q % 16)) (segment_of_page q)
+        (λ e. is.classes (q % 16) (omega arith) (λ f. away (omega arith)))
+        ∙ off_place (λ x. class_told (holding_of holdings (segment_of_page x)) (x % 16))
+        (class_of now (at / 512)) q page ne
+  ]
 
   pub class_same : class_of now (at / 512) ≡ class_of one (at / 512) → (q : ℕ)
       → class_told (holding_of (slice_set holdings found now) (segment_of_page q)) (q % 16)
@@ -144,8 +137,7 @@ module _ (holdings : List Holding) (found : ℕ) (one now : Holding) (at : ℕ)
   unfolding after
   class_same same q =
       told_same (λ o. class_told o (q % 16)) (segment_of_page q)
-      (λ e. elim (cases_eq (q % 16) (at / 512)) as (λ _. class_of now (q % 16) ≡ class_of one
-      (q % 16)) [
+      (λ e. elim (cases_eq (q % 16) (at / 512)) [
         | inl f ↦ ap (class_of now) f ∙ same ∙ sym (ap (class_of one) f)
         | inr f ↦ is.classes (q % 16) (omega arith) f
       ])

@@ -1,23 +1,19 @@
 -- Abandoning a segment, in the state of a core.
-use Rattle.std.proofs.Common.{◌≡◌, ℕ, ◌*◌, ◌%◌, ◌==◌, inl, inr, Bool, true, false, cond, ◌||◌, ◌∷◌}
-use Rattle.std.proofs.Common.{[], ◌++◌, List, map, length, set, Option, Some, None, refl, sym, ap}
-use Rattle.std.proofs.Common.{◌∙◌, arith, find, is_some}
-use Rattle.std.specs.Option.{option_map}
+use Rattle.std.proofs.Common.{◌≡◌, ℕ, ◌==◌, inl, inr, Bool, true, false, cond, ◌||◌, ◌∷◌, [], ◌++◌}
+use Rattle.std.proofs.Common.{List, length, set, Option, Some, None, refl, sym, ap, ◌∙◌, find}
+use Rattle.std.proofs.Common.{is_some}
 use Rattle.std.specs.List.{range_with_len, list_any}
 use Rattle.std.proofs.lemmas.Bool.{cases_eq, cases_Bool, eq-eqb, ne_eqb, false_from_ne_true}
-use Rattle.std.proofs.lemmas.Grind.{get_or-set_at}
-use Rattle.std.proofs.lemmas.List.{length-set, get_or-set_other}
-use Rattle.hg_place.specs.Places.{segment_of, segment_of_page}
-use Rattle.hg_machine.specs.State.{fresh, orphan}
+use Rattle.hg_machine.specs.State.{orphan}
 use Rattle.hg_machine.specs.Changes.{abandoned}
 use Rattle.hg_agreement.specs.Holdings.{has}
 use Rattle.hg_agreement.specs.Parts.{Plain, Parts, is_of, heap_at, holdings, worker_of, plain_by}
-use Rattle.hg_agreement.specs.Parts.{plain_of, record_by, class_by, record_of, page_class}
-use Rattle.hg_agreement.specs.Parts.{holder_by, holder_of, state_of, IsSorted}
+use Rattle.hg_agreement.specs.Parts.{plain_of, holder_by, holder_of, state_of, IsSorted}
 use Rattle.hg_agreement.specs.LeftPut.{numbers}
 use Rattle.hg_agreement.specs.Moves.{with_orphan, IsLetGo, LetGoIsAbandoned}
-use Rattle.hg_agreement.proofs.Lookups.{kept_find, finds, maps, map_set}
-use Rattle.hg_agreement.proofs.Bridge.{some_passes, first_passes}
+use Rattle.hg_agreement.proofs.ReplacedHeap.{has_found, one_has, ReplacesHeap, heap_here}
+use Rattle.hg_agreement.proofs.ReplacedHeap.{heap_there, find_other, has_other, worker_other}
+use Rattle.hg_agreement.proofs.ReplacedHeap.{state_rehoused}
 
 pub none_passes : (p : ℕ → Bool) (xs : List ℕ) → ((k : ℕ) → p k ≡ false) → find p xs ≡ None
 none_passes p [] e = refl
@@ -29,8 +25,7 @@ one_more : (n : ℕ) (one : Plain) (xs ys : List Plain) → one.holding.number �
 one_more n one [] ys is none =
     ap (λ b. cond b (Some one) (find (is_of n) ys)) (eq-eqb one.holding.number n is)
 one_more n one (x ∷ xs) ys is none =
-    elim (cases_Bool (x.holding.number == n)) as (λ _. cond (x.holding.number == n) (Some x)
-    (find (is_of n) ((xs ++ one ∷ []) ++ ys)) ≡ Some one) [
+    elim (cases_Bool (x.holding.number == n)) [
       | inl t ↦ absurd
           (let bad : Some x ≡ None = sym (ap (λ b. cond b (Some x) (find (is_of n) (xs ++ ys))) t)
           ∙ none in cc)
@@ -68,192 +63,79 @@ numbers_more one (x ∷ xs) = ap (λ l. x.holding.number ∷ l) (numbers_more on
 
 module _ (parts : Parts) (w : ℕ) (heap : List Plain) (one : Plain) (sorted : IsSorted parts)
     (go : IsLetGo parts w heap one) where
-  n : ℕ
+  abbrev n : ℕ
   n = one.holding.number
 
-  after : Parts
+  abbrev after : Parts
   after = with_orphan parts w heap one
 
-  heap_here : heap_at after w ≡ heap
-  unfolding after
-  heap_here = get_or-set_at parts.heaps w w heap [] refl go.worker_below
+  new : ReplacesHeap parts after w heap n
+  new = record { heaps = refl; below = go.worker_below; others = go.others }
 
-  heap_there : (v : ℕ) → (v ≡ w → ⊥) → heap_at after v ≡ heap_at parts v
-  unfolding after
-  heap_there v ne = get_or-set_other parts.heaps w v heap [] ne
+  -- what heaps have, and the worker of a segment, once it is let go
+  pub go_has : (segment v : ℕ) → (segment ≡ n → ⊥)
+      → has (holdings (heap_at after v)) segment ≡ has (holdings (heap_at parts v)) segment
+  go_has = has_other new
 
-  has_before : has (holdings (heap_at parts w)) n ≡ true
-  unfolding n
-  has_before = ap is_some (kept_find (heap_at parts w) one.holding.number)
-      ∙ ap (λ o. is_some (option_map (λ k. k.holding) o)) go.there
+  pub go_had : has (holdings (heap_at parts w)) n ≡ true
+  go_had = has_found (heap_at parts w) n ∙ ap is_some go.there
 
-  has_gone : (v : ℕ) → has (holdings (heap_at after v)) n ≡ false
-  unfolding n after
-  has_gone v = elim (cases_eq v w) as (λ _. has (holdings (heap_at after v)) n ≡ false) [
+  pub go_gone : (v : ℕ) → has (holdings (heap_at after v)) n ≡ false
+  go_gone v = elim (cases_eq v w) [
     | inl e ↦
-        ap (λ x. has (holdings (heap_at after x)) n) e
-        ∙ ap (λ h. has (holdings h) n) heap_here
-        ∙ ap is_some (kept_find heap n)
-        ∙ ap (λ o. is_some (option_map (λ k. k.holding) o)) go.gone
+        rw e (ap (λ h. has (holdings h) n) (heap_here new) ∙ has_found heap n ∙ ap is_some go.gone)
     | inr ne ↦
-        ap (λ h. has (holdings h) n) (heap_there v ne)
-        ∙ false_from_ne_true _ (λ t. ne (sorted.one_heap v w n t has_before))
+        ap (λ h. has (holdings h) n) (heap_there new v ne)
+        ∙ false_from_ne_true _ (λ t. ne (sorted.one_heap v w n t go_had))
   ]
 
-  find_same : (v segment : ℕ) → (segment ≡ n → ⊥) → find (is_of segment) (heap_at after v) ≡ find
-      (is_of segment) (heap_at parts v)
-  unfolding n
-  find_same v segment ne =
-      elim (cases_eq v w) as (λ _. find (is_of segment) (heap_at after v) ≡ find (is_of segment)
-      (heap_at parts v)) [
-        | inl e ↦
-            ap (λ x. find (is_of segment) (heap_at after x)) e
-            ∙ ap (find (is_of segment)) heap_here
-            ∙ go.others segment ne
-            ∙ sym (ap (λ x. find (is_of segment) (heap_at parts x)) e)
-        | inr away ↦ ap (find (is_of segment)) (heap_there v away)
-      ]
+  pub go_worker : (segment : ℕ) → (segment ≡ n → ⊥)
+      → worker_of after segment ≡ worker_of parts segment
+  go_worker = worker_other new
 
-  has_same : (segment v : ℕ) → (segment ≡ n → ⊥) → has (holdings (heap_at after v)) segment ≡ has
-      (holdings (heap_at parts v)) segment
-  has_same segment v ne =
-      ap is_some (kept_find (heap_at after v) segment)
-      ∙ ap (λ o. is_some (option_map (λ k. k.holding) o)) (find_same v segment ne)
-      ∙ sym (ap is_some (kept_find (heap_at parts v) segment))
+  pub go_none : worker_of after n ≡ None
+  go_none = none_passes (λ v. has (holdings (heap_at after v)) n)
+      (range_with_len 0 (length after.heaps)) go_gone
 
-  worker_same : (segment : ℕ) → (segment ≡ n → ⊥) → worker_of after segment ≡ worker_of parts
-      segment
-  unfolding after
-  worker_same segment ne =
-      finds (λ v. has (holdings (heap_at (with_orphan parts w heap one) v)) segment)
-      (λ v. has (holdings (heap_at parts v)) segment)
-      (range_with_len 0 (length (set parts.heaps w heap))) (λ v. has_same segment v ne)
-      ∙ ap (λ l. find (λ v. has (holdings (heap_at parts v)) segment) (range_with_len 0 l))
-      (length-set parts.heaps w heap)
-
-  worker_none : worker_of after n ≡ None
-  unfolding after
-  worker_none = none_passes (λ v. has (holdings (heap_at (with_orphan parts w heap one) v)) n)
-      (range_with_len 0 (length (set parts.heaps w heap))) has_gone
-
-  worker_n : worker_of parts n ≡ Some w
-  worker_n =
-      let p : ℕ → Bool = λ v. has (holdings (heap_at parts v)) n in
-      let b = go.worker_below in
-      let some = some_passes p 0 (length parts.heaps) w (omega arith) (omega arith) has_before in
-      some.1 ∙ ap Some
-      (sorted.one_heap some.0 w n (first_passes p 0 (length parts.heaps) some.0 some.1)
-      has_before)
+  pub go_was : worker_of parts n ≡ Some w
+  go_was = one_has parts w n go.worker_below go_had (λ v t. sorted.one_heap v w n t go_had)
 
   by_same : (segment : ℕ) (o : Option ℕ) → (segment ≡ n → ⊥)
       → plain_by after segment o ≡ plain_by parts segment o
-  unfolding n after
-  by_same segment (Some v) ne = find_same v segment ne
+  by_same segment (Some v) ne = find_other new v segment ne
   by_same segment None ne = no_other segment one parts.orphans parts.fresh (λ e. ne (sym e))
 
-  plain_same : (segment : ℕ) → plain_of after segment ≡ plain_of parts segment
-  unfolding n after
-  plain_same segment =
-      elim (cases_eq segment n) as (λ _. plain_of after segment ≡ plain_of parts segment) [
-        | inl e ↦
-            ap (plain_of after) e
-            ∙ ap (plain_by after n) worker_none
-            ∙ one_more n one parts.orphans parts.fresh refl go.unpooled
-            ∙ sym (ap (plain_by parts n) worker_n ∙ go.there)
-            ∙ sym (ap (plain_of parts) e)
-        | inr ne ↦ ap (plain_by after segment) (worker_same segment ne)
-            ∙ by_same segment (worker_of parts segment) ne
-      ]
+  pub go_plain : (segment : ℕ) → plain_of after segment ≡ plain_of parts segment
+  go_plain segment = elim (cases_eq segment n) [
+    | inl e ↦
+        rw e (ap (plain_by after n) go_none
+        ∙ one_more n one parts.orphans parts.fresh refl go.unpooled
+        ∙ sym (ap (plain_by parts n) go_was ∙ go.there))
+    | inr ne ↦ ap (plain_by after segment) (go_worker segment ne)
+        ∙ by_same segment (worker_of parts segment) ne
+  ]
 
-  holder_other : (segment : ℕ) → (segment ≡ n → ⊥) → holder_of after segment ≡ holder_of parts
-      segment
-  unfolding n after
+  holder_other : (segment : ℕ) → (segment ≡ n → ⊥)
+      → holder_of after segment ≡ holder_of parts segment
   holder_other segment ne =
       ap (λ o. holder_by o (list_any (is_of segment) (parts.orphans ++ one ∷ [])))
-      (worker_same segment ne)
+      (go_worker segment ne)
       ∙ ap (holder_by (worker_of parts segment))
       (any_other segment one parts.orphans (λ e. ne (sym e)))
 
   holder_now : holder_of after n ≡ orphan
-  unfolding n after
   holder_now =
-      ap (λ o. holder_by o (list_any (is_of n) (parts.orphans ++ one ∷ []))) worker_none
+      ap (λ o. holder_by o (list_any (is_of n) (parts.orphans ++ one ∷ []))) go_none
       ∙ ap (holder_by None) (any_more n one parts.orphans refl)
 
-  pub leaves : state_of (with_orphan parts w heap one) ≡ abandoned (state_of parts)
-      one.holding.number
-  unfolding n after
+  leaves : state_of after ≡ abandoned (state_of parts) n
   leaves =
-      let s = state_of parts in
-      let a = with_orphan parts w heap one in
-      let segments = length parts.policy.segments in
-      let inside = sorted.below w one.holding.number has_before in
-      let holders = map_set (holder_of parts) (holder_of a) segments one.holding.number fresh inside
-      holder_other
-      ∙ ap (set (map (holder_of parts) (range_with_len 0 segments)) one.holding.number) holder_now
-      in
-      ap (λ rs. record s {
-        records = rs;
-        classes = map (page_class a)
-            (range_with_len 0 (segments * 16));
-        holders =
-            map (holder_of a) (range_with_len 0 segments);
-        orphans =
-            numbers (parts.orphans ++ one ∷ []);
-      })
-      (maps (record_of a) (record_of parts) (range_with_len 0 (segments * 8192))
-      (λ q. ap (λ o. record_by o (q % 8192)) (plain_same (segment_of q))))
-      ∙ ap (λ cs. record s {
-        classes = cs;
-        holders = map (holder_of a) (range_with_len 0 segments);
-        orphans = numbers (parts.orphans ++ one ∷ []);
-      })
-      (maps (page_class a) (page_class parts) (range_with_len 0 (segments * 16))
-      (λ q. ap (λ o. class_by o (q % 16)) (plain_same (segment_of_page q))))
-      ∙ ap (λ hs. record s { holders = hs; orphans = numbers (parts.orphans ++ one ∷ []) }) holders
-      ∙ ap (λ os. record s { holders = set s.holders one.holding.number orphan; orphans = os })
-      (numbers_more one parts.orphans)
+      state_rehoused parts (set parts.heaps w heap) (parts.orphans ++ one ∷ []) parts.fresh n orphan
+      (sorted.below w n go_had) go_plain holder_other holder_now
+      ∙ ap (λ os. record (state_of parts) {
+        holders = set (state_of parts).holders n orphan;
+        orphans = os;
+      }) (numbers_more one parts.orphans)
 
 pub let_go_is_abandoned : LetGoIsAbandoned
 let_go_is_abandoned parts worker heap one sorted go = leaves parts worker heap one sorted go
-
--- what heaps have, and the worker of a segment, once it is let go
-pub go_has : (parts : Parts) (w : ℕ) (heap : List Plain) (one : Plain) → IsSorted parts
-    → IsLetGo parts w heap one → (segment v : ℕ) → (segment ≡ one.holding.number → ⊥)
-    → has (holdings (heap_at (with_orphan parts w heap one) v)) segment ≡ has
-    (holdings (heap_at parts v)) segment
-unfolding n after
-go_has parts w heap one sorted go segment v ne = has_same parts w heap one sorted go segment v ne
-
-pub go_gone : (parts : Parts) (w : ℕ) (heap : List Plain) (one : Plain) → IsSorted parts
-    → IsLetGo parts w heap one → (v : ℕ) → has (holdings (heap_at (with_orphan parts w heap one) v))
-    one.holding.number ≡ false
-unfolding n after
-go_gone parts w heap one sorted go v = has_gone parts w heap one sorted go v
-
-pub go_had : (parts : Parts) (w : ℕ) (heap : List Plain) (one : Plain) → IsSorted parts
-    → IsLetGo parts w heap one → has (holdings (heap_at parts w)) one.holding.number ≡ true
-unfolding n
-go_had parts w heap one sorted go = has_before parts w heap one sorted go
-
-pub go_worker : (parts : Parts) (w : ℕ) (heap : List Plain) (one : Plain) → IsSorted parts
-    → IsLetGo parts w heap one → (segment : ℕ) → (segment ≡ one.holding.number → ⊥)
-    → worker_of (with_orphan parts w heap one) segment ≡ worker_of parts segment
-unfolding n after
-go_worker parts w heap one sorted go segment ne = worker_same parts w heap one sorted go segment ne
-
-pub go_none : (parts : Parts) (w : ℕ) (heap : List Plain) (one : Plain) → IsSorted parts
-    → IsLetGo parts w heap one → worker_of (with_orphan parts w heap one) one.holding.number ≡ None
-unfolding n after
-go_none parts w heap one sorted go = worker_none parts w heap one sorted go
-
-pub go_was : (parts : Parts) (w : ℕ) (heap : List Plain) (one : Plain) → IsSorted parts
-    → IsLetGo parts w heap one → worker_of parts one.holding.number ≡ Some w
-unfolding n
-go_was parts w heap one sorted go = worker_n parts w heap one sorted go
-
-pub go_plain : (parts : Parts) (w : ℕ) (heap : List Plain) (one : Plain) → IsSorted parts
-    → IsLetGo parts w heap one → (segment : ℕ)
-    → plain_of (with_orphan parts w heap one) segment ≡ plain_of parts segment
-unfolding n after
-go_plain parts w heap one sorted go segment = plain_same parts w heap one sorted go segment

@@ -61,7 +61,7 @@ module _ (parts : Parts) (orphans fresh : List Plain) (found : ℕ) (one now : P
 
   record_other : (q : ℕ) → (q ≡ n * 8192 + at → ⊥) → record_of after q ≡ record_of parts q
   record_other q ne =
-      elim (cases_eq (segment_of q) n) as (λ _. record_of after q ≡ record_of parts q) [
+      elim (cases_eq (segment_of q) n) [
         | inl e ↦
             let b = put.below in
             ap (λ s. record_by (plain_of after s) (q % 8192)) e
@@ -82,16 +82,15 @@ module _ (parts : Parts) (orphans fresh : List Plain) (found : ℕ) (one now : P
       ∙ ap (record_by (Some now)) m
 
   class_same : (q : ℕ) → page_class after q ≡ page_class parts q
-  class_same q = elim (cases_eq (segment_of_page q) n)
-      as (λ _. page_class after q ≡ page_class parts q) [
-        | inl e ↦
-            ap (λ s. class_by (plain_of after s) (q % 16)) e
-            ∙ ap (λ o. class_by o (q % 16)) after_here
-            ∙ put.classes (q % 16) (omega arith)
-            ∙ sym (ap (λ o. class_by o (q % 16)) before_here)
-            ∙ sym (ap (λ s. class_by (plain_of parts s) (q % 16)) e)
-        | inr away ↦ ap (λ o. class_by o (q % 16)) (plain_same (segment_of_page q) away)
-      ]
+  class_same q = elim (cases_eq (segment_of_page q) n) [
+    | inl e ↦
+        ap (λ s. class_by (plain_of after s) (q % 16)) e
+        ∙ ap (λ o. class_by o (q % 16)) after_here
+        ∙ put.classes (q % 16) (omega arith)
+        ∙ sym (ap (λ o. class_by o (q % 16)) before_here)
+        ∙ sym (ap (λ s. class_by (plain_of parts s) (q % 16)) e)
+    | inr away ↦ ap (λ o. class_by o (q % 16)) (plain_same (segment_of_page q) away)
+  ]
 
   holder_same : (segment : ℕ) → holder_of after segment ≡ holder_of parts segment
   unfolding after

@@ -13,9 +13,13 @@ pub mod HeldLives
 pub mod OtherRecords
 pub mod Observed
 pub mod WitnessParts
+pub mod WitnessAt
+pub mod WitnessSound
 pub mod Witnesses
 pub mod Bridge
 pub mod Lookups
+pub mod ReplacedHeap
+pub mod Swapped
 pub mod Putting
 pub mod Helds
 pub mod Lefts

@@ -49,7 +49,7 @@ one_in_range : (x a n : ℕ) → a ≤ x → x < a + n → sum_by (λ q. bit_of 
 one_in_range x a zero low high = absurd (omega arith)
 one_in_range x a (suc n) low high =
     let c = sum_cons (λ q. bit_of (x == q)) a (range_with_len (a + 1) n) in
-    elim (cases_eq x a) as (λ _. sum_by (λ q. bit_of (x == q)) (range_with_len a (suc n)) ≡ 1) [
+    elim (cases_eq x a) [
       | inl e ↦
           let z : bit_of (x == a) ≡ 1 = ap bit_of (eq-eqb x a e) in
           let rest = none_in_range x (a + 1) n (omega arith) in
@@ -89,7 +89,7 @@ sent_are_listed parts segment below partition =
     (subst (λ k. 1 ≤ k) ((partition x).sent segment) (some_counted (λ k. k == x) l t)) in
     let is : is_parted (record_at s x).life ≡ true =
     (and_parts _ _ ((and_parts (segment_of x == segment) (is_sent s x) sent).1)).0 in
-    elim (cases_lt x (length s.records)) as (λ _. x < length s.records) [
+    elim (cases_lt x (length s.records)) [
       | inl here ↦ here
       | inr past ↦ absurd
           (true≢false (sym is

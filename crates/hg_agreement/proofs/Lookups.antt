@@ -1,7 +1,6 @@
 -- Lists made of a range, and look-ups in heaps.
-use Rattle.std.proofs.Common.{◌≤◌, zero, suc, ◌≡◌, ℕ, ◌+◌, ◌==◌, ◌<◌}
-use Rattle.std.proofs.Common.{inl, inr, Bool, true, false, cond, ◌∷◌, [], List, map, get_or}
-use Rattle.std.proofs.Common.{set, Some, refl, sym, ap, ◌∙◌, arith, find}
+use Rattle.std.proofs.Common.{◌≤◌, zero, suc, ◌≡◌, ℕ, ◌+◌, ◌==◌, ◌<◌, inl, inr, Bool, true, false}
+use Rattle.std.proofs.Common.{cond, ◌∷◌, [], List, map, set, Some, refl, sym, ap, ◌∙◌, arith, find}
 use Rattle.std.specs.Option.{option_map}
 use Rattle.std.specs.List.{range_with_len}
 use Rattle.std.proofs.lemmas.Bool.{cases_eq}
@@ -48,7 +47,7 @@ map_set {X} f g n p d h same =
     let ls = length-set (map f (range_with_len 0 n)) p (g p) in
     ext_get_or d _ _ (omega arith) (λ k below.
     get_or-map-range_with_len g 0 n k k d (omega arith) (omega arith)
-    ∙ elim (cases_eq k p) as (λ _. g k ≡ get_or (set (map f (range_with_len 0 n)) p (g p)) k d) [
+    ∙ elim (cases_eq k p) [
       | inl e ↦ ap g e
           ∙ sym (get_or-set_at (map f (range_with_len 0 n)) p k (g p) d e (omega arith))
       | inr ne ↦

@@ -9,16 +9,14 @@ use Rattle.std.proofs.lemmas.List.{get_or-set_other}
 use Rattle.hg_place.specs.Places.{segment_of, segment_of_page}
 use Rattle.hg_place.specs.Slots.{Slot}
 use Rattle.hg_place.specs.Standings.{is_home as at_home}
-use Rattle.hg_machine.specs.Life.{home, live, parted, never_used, is_home, is_live}
-use Rattle.hg_machine.specs.Life.{contents_of}
+use Rattle.hg_machine.specs.Life.{home, live, parted, never_used, is_home, is_live, contents_of}
 use Rattle.hg_machine.specs.State.{fresh, orphan, held, record_at, class_at}
 use Rattle.hg_machine.specs.Holders.{is_number}
 use Rattle.hg_machine.proofs.Opening.{all_same}
 use Rattle.hg_agreement.specs.Views.{View, Shown, slot_shown}
 use Rattle.hg_agreement.specs.Witness.{record_held, record_elsewhere, one_word, is_shown_at, is_on}
-use Rattle.hg_agreement.specs.Witness.{is_shown_on}
-use Rattle.hg_agreement.specs.Witness.{other_record, is_ended, record_in, class_in, holder_in}
-use Rattle.hg_agreement.specs.Witness.{witness}
+use Rattle.hg_agreement.specs.Witness.{is_shown_on, other_record, is_ended, record_in, class_in}
+use Rattle.hg_agreement.specs.Witness.{holder_in, witness}
 use Rattle.hg_agreement.specs.WitnessLaws.{IsUntold, WitnessTellsNoMore}
 use Rattle.hg_agreement.specs.Pool.{IsRising}
 use Rattle.hg_agreement.proofs.HeldLives.{held_live}

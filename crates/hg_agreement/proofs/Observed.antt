@@ -1,6 +1,5 @@
 -- The place in the hand and the place of the observed word.
-use Rattle.std.proofs.Common.{◌≡◌, ℕ, true}
-use Rattle.std.proofs.Common.{Option, Some, None, refl, ap, ◌∙◌}
+use Rattle.std.proofs.Common.{◌≡◌, ℕ, true, Option, Some, None, refl, ap, ◌∙◌}
 use Rattle.std.proofs.lemmas.Bool.{eq-eqb, eqb-true}
 use Rattle.hg_place.specs.Places.{page_of}
 use Rattle.hg_machine.specs.Holders.{is_number}

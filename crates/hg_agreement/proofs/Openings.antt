@@ -41,8 +41,7 @@ range_counted : (x a n : ℕ) → a ≤ x → count_by (λ k. k == x) (range_wit
 range_counted x a zero low = sym (ap bit_of (le-ltb x (a + 0) (omega arith)))
 range_counted x a (suc n) low =
     let c = count_cons (λ k. k == x) a (range_with_len (a + 1) n) in
-    elim (cases_eq a x) as (λ _. count_by (λ k. k == x) (range_with_len a (suc n)) ≡ bit_of
-    (nat_lt x (a + suc n))) [
+    elim (cases_eq a x) [
       | inl e ↦
           let z : bit_of (a == x) ≡ 1 = ap bit_of (eq-eqb a x e) in
           let rest = none_counted x (a + 1) n (omega arith) in

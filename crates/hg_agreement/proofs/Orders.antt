@@ -18,7 +18,7 @@ use Rattle.std.proofs.lemmas.Map.Keys.{any_passes_from_place}
 use Rattle.hg_agreement.specs.Orders.{SwapKeepsOrder, SweptKeepsOrder, LetGoKeepsOrder}
 use Rattle.hg_agreement.specs.Orders.{TakenUpKeepsOrder}
 use Rattle.hg_agreement.proofs.Firsts.{count_cons, count_append, some_counted}
-use Rattle.hg_agreement.proofs.Putting.{swap_has, swap_worker}
+use Rattle.hg_agreement.proofs.Swapped.{swap_has, swap_worker}
 use Rattle.hg_agreement.proofs.Clears.{swept_has, swept_worker}
 use Rattle.hg_agreement.proofs.Leaves.{go_has, go_gone, go_had, go_worker, go_none, go_was}
 use Rattle.hg_agreement.proofs.Adopts.{numbers_without, up_has, up_only, up_worker, up_now}
@@ -102,9 +102,7 @@ let_go_keeps_order parts w heap one sorted pooled go = (
       ≡ unheld_bit (length parts.policy.segments) segment
       (worker_of (with_orphan parts w heap one) segment)
   counted segment =
-      elim (cases_eq segment one.holding.number) as (λ _. count_by (is_of segment)
-      ((parts.orphans ++ one ∷ []) ++ parts.fresh) ≡ unheld_bit (length parts.policy.segments)
-      segment (worker_of (with_orphan parts w heap one) segment)) [
+      elim (cases_eq segment one.holding.number) [
         | inl e ↦
             let n = one.holding.number in
             let segments = length parts.policy.segments in
@@ -139,9 +137,7 @@ let_go_keeps_order parts w heap one sorted pooled go = (
 pub none_without : (n : ℕ) (xs : List Plain) → count_by (is_of n) (without n xs) ≡ 0
 none_without n [] = refl
 none_without n (x ∷ xs) =
-    elim (cases_Bool (x.holding.number == n))
-    as (λ _. count_by (is_of n) (cond (not (x.holding.number == n)) (x ∷ without n xs)
-    (without n xs)) ≡ 0) [
+    elim (cases_Bool (x.holding.number == n)) [
       | inl t ↦ ap (λ b. count_by (is_of n) (cond (not b) (x ∷ without n xs) (without n xs))) t
           ∙ none_without n xs
       | inr f ↦
@@ -156,9 +152,7 @@ pub others_without : (n segment : ℕ) (xs : List Plain) → (segment ≡ n → 
     → count_by (is_of segment) (without n xs) ≡ count_by (is_of segment) xs
 others_without n segment [] ne = refl
 others_without n segment (x ∷ xs) ne =
-    elim (cases_Bool (x.holding.number == n)) as (λ _. count_by (is_of segment)
-    (cond (not (x.holding.number == n)) (x ∷ without n xs) (without n xs)) ≡ count_by
-    (is_of segment) (x ∷ xs)) [
+    elim (cases_Bool (x.holding.number == n)) [
       | inl t ↦
           let away = ne_eqb x.holding.number segment
           (λ e. ne (sym e ∙ eqb-true x.holding.number n t))
@@ -185,7 +179,7 @@ rising_filter p low [] r = tt
 rising_filter p low (x ∷ xs) r =
     let rest = rising_filter p (x + 1) xs r.1 in
     let a = r.0 in
-    elim (cases_Bool (p x)) as (λ _. IsRising low (cond (p x) (x ∷ filter p xs) (filter p xs))) [
+    elim (cases_Bool (p x)) [
       | inl t ↦ subst (λ b. IsRising low (cond b (x ∷ filter p xs) (filter p xs))) (sym t) (a, rest)
       | inr f ↦ subst (λ b. IsRising low (cond b (x ∷ filter p xs) (filter p xs))) (sym f)
           (rising_lower (x + 1) low (filter p xs) (omega arith) rest)
@@ -195,15 +189,14 @@ pub taken_up_keeps_order : TakenUpKeepsOrder
 unfolding unheld_bit
 taken_up_keeps_order parts w heap one sorted pooled up = (
   record {
-    below = λ v segment t. elim (cases_eq segment one.holding.number)
-        as (λ _. segment < length parts.policy.segments) [
-          | inl e ↦ subst (λ k. k < length parts.policy.segments) (sym e)
-              (up_inside parts w heap one pooled up)
-          | inr ne ↦ sorted.below v segment (sym (up_has parts w heap one pooled up segment v ne)
-              ∙ t)
-        ];
+    below = λ v segment t. elim (cases_eq segment one.holding.number) [
+      | inl e ↦ subst (λ k. k < length parts.policy.segments) (sym e)
+          (up_inside parts w heap one pooled up)
+      | inr ne ↦ sorted.below v segment (sym (up_has parts w heap one pooled up segment v ne)
+          ∙ t)
+    ];
     one_heap = λ v other segment t u.
-        elim (cases_eq segment one.holding.number) as (λ _. v ≡ other) [
+        elim (cases_eq segment one.holding.number) [
           | inl e ↦ only v segment e t ∙ sym (only other segment e u)
           | inr ne ↦ sorted.one_heap v other segment
               (sym (up_has parts w heap one pooled up segment v ne) ∙ t)
@@ -228,10 +221,7 @@ taken_up_keeps_order parts w heap one sorted pooled up = (
       one.holding.number parts.fresh) ≡ unheld_bit (length parts.policy.segments) segment
       (worker_of (with_adopted parts w heap one.holding.number) segment)
   counted segment =
-      elim (cases_eq segment one.holding.number) as (λ _. count_by (is_of segment)
-      (without one.holding.number parts.orphans ++ without one.holding.number parts.fresh)
-      ≡ unheld_bit (length parts.policy.segments) segment
-      (worker_of (with_adopted parts w heap one.holding.number) segment)) [
+      elim (cases_eq segment one.holding.number) [
         | inl e ↦
             let n = one.holding.number in
             let segments = length parts.policy.segments in
@@ -262,8 +252,7 @@ without_none : (xs : List Plain) (n : ℕ) → count_by (is_of n) xs ≡ 0 → w
 without_none [] n e = refl
 without_none (x ∷ xs) n e =
     let c = count_cons (is_of n) x xs in
-    elim (cases_Bool (x.holding.number == n)) as (λ _. cond (not (x.holding.number == n))
-    (x ∷ without n xs) (without n xs) ≡ x ∷ xs) [
+    elim (cases_Bool (x.holding.number == n)) [
       | inl t ↦ let b : bit_of (x.holding.number == n) ≡ 1 = ap bit_of t in absurd (omega arith)
       | inr f ↦
           let rest = without_none xs n (omega arith) in
@@ -281,8 +270,7 @@ without_once (x ∷ xs) n zero one there is e =
     ap (λ b. cond (not b) (x ∷ without n xs) (without n xs)) t ∙ without_none xs n (omega arith)
 without_once (x ∷ xs) n (suc found) one there is e =
     let c = count_cons (is_of n) x xs in
-    elim (cases_Bool (x.holding.number == n)) as (λ _. cond (not (x.holding.number == n))
-    (x ∷ without n xs) (without n xs) ≡ x ∷ remove xs found) [
+    elim (cases_Bool (x.holding.number == n)) [
       | inl t ↦
           let b : bit_of (x.holding.number == n) ≡ 1 = ap bit_of t in
           let some = some_counted (is_of n) xs (any_passes_from_place (is_of n) xs found one there

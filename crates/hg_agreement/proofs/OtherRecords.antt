@@ -1,16 +1,13 @@
 -- Records of places that a worker doesn't hold, in its witness state.
-use Rattle.std.proofs.Common.{◌≡◌, ℕ, ◌/◌, ◌%◌, ◌==◌, ◌<◌, ◌≤◌, Bool, true, false}
-use Rattle.std.proofs.Common.{◌||◌, if◌then◌else◌, length}
-use Rattle.std.proofs.Common.{Option, Some, refl, sym, ap, subst, ◌∙◌}
-use Rattle.std.proofs.Common.{arith}
+use Rattle.std.proofs.Common.{◌≡◌, ℕ, ◌/◌, ◌%◌, ◌==◌, ◌<◌, ◌≤◌, Bool, true, false, ◌||◌}
+use Rattle.std.proofs.Common.{if◌then◌else◌, length, Option, Some, refl, sym, ap, subst, ◌∙◌, arith}
 use Rattle.std.proofs.lemmas.Bool.{eqb-true, true≢false}
 use Rattle.hg_size.specs.Sizes.{places_of}
 use Rattle.hg_place.specs.Slots.{Slot, slot_in}
 use Rattle.hg_machine.specs.Life.{Life, home, live, parted, never_used, is_home, is_live, is_parted}
 use Rattle.hg_machine.specs.Life.{owner_of, contents_of}
 use Rattle.hg_machine.specs.Soundness.{IsSoundRecord}
-use Rattle.hg_agreement.specs.Witness.{one_word}
-use Rattle.hg_agreement.specs.Witness.{other_record}
+use Rattle.hg_agreement.specs.Witness.{one_word, other_record}
 use Rattle.hg_agreement.proofs.Closes.{native, parts}
 
 -- a live word has a generation

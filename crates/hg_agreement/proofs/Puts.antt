@@ -4,20 +4,16 @@ use Rattle.std.proofs.Common.{Option, Some, None, IfSome, refl, sym, ap, subst, 
 use Rattle.std.proofs.lemmas.Bool.{cases_eq, eq-eqb, ne_eqb}
 use Rattle.std.proofs.lemmas.Grind.{get_or-set_at}
 use Rattle.std.proofs.lemmas.List.{get_or-set_other}
-use Rattle.hg_place.specs.declared.Right.TheVariants as right
 use Rattle.hg_place.specs.declared.Place.{Place}
 use Rattle.hg_place.specs.Places.{number_of}
-use Rattle.hg_machine.specs.declared.Event.TheVariants as event
-use Rattle.hg_machine.specs.declared.Answer.TheVariants as answer
 use Rattle.hg_machine.specs.Life.{Life, home, live, parted, Record, never_used, is_live, owner_of}
 use Rattle.hg_machine.specs.Life.{contents_of}
 use Rattle.hg_machine.specs.State.{State, record_at, with_record}
 use Rattle.hg_machine.specs.Soundness.{IsSound}
 use Rattle.hg_machine.specs.Changes.{write, with_life}
 use Rattle.hg_machine.proofs.Allowed.{IsAllowed, allowed}
-use Rattle.hg_machine.proofs.Preserves.{live_within}
+use Rattle.hg_machine.proofs.Preserves.{live_within, write_home}
 use Rattle.hg_place.specs.declared.standing.Standing.{Standing}
-use Rattle.hg_machine.proofs.Preserves.{write_home}
 use Rattle.hg_agreement.specs.Views.{View, Shown, slot_shown}
 use Rattle.hg_agreement.specs.Agreement.{standing_by, standing_of, Agrees}
 use Rattle.hg_machine.specs.Shown.{IsShownBy}
@@ -27,6 +23,9 @@ use Rattle.hg_agreement.specs.Ties.{WriteIsTied}
 use Rattle.hg_agreement.proofs.Sees.{same_denial}
 use Rattle.hg_agreement.proofs.Frames.{served_follows}
 use Rattle.hg_agreement.proofs.Reading.{reached}
+use Rattle.hg_place.specs.declared.Right.TheVariants as right
+use Rattle.hg_machine.specs.declared.Event.TheVariants as event
+use Rattle.hg_machine.specs.declared.Answer.TheVariants as answer
 
 pub at_place : {X : Type 0} (f : ℕ → X) (x : X) (q p : ℕ) → q ≡ p → x ≡ (if q == p then x else f q)
 at_place f x q p e = sym (ap (λ b. if b then x else f q) (eq-eqb q p e))
@@ -54,20 +53,18 @@ put_agrees m view shown left p r standing words agrees below sound stands has wo
   policy = agrees.policy;
   holding = agrees.holding;
   classes = agrees.classes;
-  standings = λ q h. elim (cases_eq q p) as (λ _. standing_of (record_at (with_record m p r) q)
-      ≡ (if q == p then standing else view.standing q)) [
-        | inl e ↦ ap standing_of (record_here m p q r below e) ∙ stands
-            ∙ at_place view.standing standing q p e
-        | inr ne ↦ ap standing_of (record_there m p q r ne) ∙ agrees.standings q h
-            ∙ off_place view.standing standing q p ne
-      ];
-  blocks = λ q h. elim (cases_eq q p) as (λ _. contents_of (record_at (with_record m p r) q).life
-      ≡ (if q == p then words else view.block q)) [
-        | inl e ↦ ap (λ x. contents_of x.life) (record_here m p q r below e) ∙ has
-            ∙ at_place view.block words q p e
-        | inr ne ↦ ap (λ x. contents_of x.life) (record_there m p q r ne) ∙ agrees.blocks q h
-            ∙ off_place view.block words q p ne
-      ];
+  standings = λ q h. elim (cases_eq q p) [
+    | inl e ↦ ap standing_of (record_here m p q r below e) ∙ stands
+        ∙ at_place view.standing standing q p e
+    | inr ne ↦ ap standing_of (record_there m p q r ne) ∙ agrees.standings q h
+        ∙ off_place view.standing standing q p ne
+  ];
+  blocks = λ q h. elim (cases_eq q p) [
+    | inl e ↦ ap (λ x. contents_of x.life) (record_here m p q r below e) ∙ has
+        ∙ at_place view.block words q p e
+    | inr ne ↦ ap (λ x. contents_of x.life) (record_there m p q r ne) ∙ agrees.blocks q h
+        ∙ off_place view.block words q p ne
+  ];
   hand = agrees.hand;
   word = word;
 }

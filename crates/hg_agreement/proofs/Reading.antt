@@ -3,13 +3,10 @@ use Rattle.std.proofs.Common.{◌≡◌, ℕ, ◌*◌, ◌<◌, true, not, lengt
 use Rattle.std.proofs.Common.{ap, subst, ◌∙◌, nat_lt, max, is_some, slice_index}
 use Rattle.std.proofs.lemmas.Bool.{not-false, true≢false, ltb-true}
 use Rattle.hg_place.specs.declared.Right.{Right}
-use Rattle.hg_place.specs.declared.Right.TheVariants as right
 use Rattle.hg_place.specs.declared.Place.{Place}
 use Rattle.hg_place.specs.declared.Handle.{Handle}
 use Rattle.hg_place.specs.Places.{number_of, segment_of}
 use Rattle.hg_place.specs.Slots.{Slot}
-use Rattle.hg_machine.specs.declared.Event.TheVariants as event
-use Rattle.hg_machine.specs.declared.Answer.TheVariants as answer
 use Rattle.hg_machine.specs.declared.Row.{Row}
 use Rattle.hg_machine.specs.Policy.{arena_of}
 use Rattle.hg_machine.specs.State.{State, record_at}
@@ -24,6 +21,9 @@ use Rattle.hg_agreement.specs.Ties.{ReadIsTied, LookIsTied}
 use Rattle.hg_agreement.proofs.Sees.{segment_is, same_look}
 use Rattle.hg_machine.proofs.Looks.{live_used}
 use Rattle.hg_agreement.proofs.Frames.{served_follows}
+use Rattle.hg_place.specs.declared.Right.TheVariants as right
+use Rattle.hg_machine.specs.declared.Event.TheVariants as event
+use Rattle.hg_machine.specs.declared.Answer.TheVariants as answer
 
 -- what isn't refused is held, and the index is in the block
 pub record IsReached (view : View) (slot : Slot) (actor : ℕ) (right : Right) (handle : Handle)

@@ -4,15 +4,11 @@ use Rattle.std.proofs.Common.{if◌then◌else◌, length, Option, Some, None, r
 use Rattle.std.proofs.Common.{max, nat_lt}
 use Rattle.std.proofs.lemmas.Bool.{cases_Bool}
 use Rattle.hg_place.specs.declared.Right.{Right}
-use Rattle.hg_place.specs.declared.Right.TheVariants as right
 use Rattle.hg_place.specs.declared.Handle.{Handle}
 use Rattle.hg_place.specs.Places.{number_of, segment_of}
-use Rattle.hg_machine.specs.declared.Event.TheVariants as event
 use Rattle.hg_machine.specs.declared.Answer.{Answer}
-use Rattle.hg_machine.specs.declared.Answer.TheVariants as answer
 use Rattle.hg_machine.specs.declared.Rule.{Rule}
 use Rattle.hg_machine.specs.declared.AllocVerdict.{AllocVerdict}
-use Rattle.hg_machine.specs.declared.AllocVerdict.TheVariants as alloc
 use Rattle.hg_machine.specs.Life.{contents_of}
 use Rattle.hg_machine.specs.State.{State, record_at, hand_of}
 use Rattle.hg_machine.specs.Holders.{holds}
@@ -26,6 +22,10 @@ use Rattle.hg_agreement.specs.Seen.{IsShownAt, reach_in, alloc_in, charge_in}
 use Rattle.hg_agreement.specs.Ties.{RefusalsAgree}
 use Rattle.hg_agreement.proofs.Sees.{same_denial, same_look, segment_is}
 use Rattle.hg_agreement.proofs.Rooms.{same_charge, same_some_room}
+use Rattle.hg_place.specs.declared.Right.TheVariants as right
+use Rattle.hg_machine.specs.declared.Event.TheVariants as event
+use Rattle.hg_machine.specs.declared.Answer.TheVariants as answer
+use Rattle.hg_machine.specs.declared.AllocVerdict.TheVariants as alloc
 
 abbrev reach_by : Option Rule → Bool → ℕ → ℕ → Option Answer
 reach_by denied held size index =
@@ -51,8 +51,7 @@ same_reach m view shown actor right handle index agrees at =
     ap (λ d. reach_by d (holds m view.worker segment) size index)
     (same_denial m view shown actor right handle.place handle.generation agrees at)
     ∙ ap (λ b. reach_by o b size index) (agrees.holding segment)
-    ∙ elim (cases_Bool (view.holds segment)) as (λ _. reach_by o (view.holds segment) size index
-    ≡ reach_by o (view.holds segment) (length (view.block p)) index) [
+    ∙ elim (cases_Bool (view.holds segment)) [
       | inl h ↦ ap (λ ws. reach_by o (view.holds segment) (length ws) index)
           (agrees.blocks p (ap view.holds here ∙ h))
       | inr f ↦ unheld o (view.holds segment) size (length (view.block p)) index f

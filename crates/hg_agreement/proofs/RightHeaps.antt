@@ -3,18 +3,17 @@ use Rattle.std.proofs.Common.{refl, ◌≡◌, ℕ, ◌+◌, ◌*◌, ◌/◌, �
 use Rattle.std.proofs.Common.{false, cond, ◌∷◌, [], List, length, Option, Some, None, sym, ap}
 use Rattle.std.proofs.Common.{subst, ◌∙◌, arith, is_some}
 use Rattle.std.proofs.lemmas.Bool.{cases_Bool, eqb-true, true≢false}
-use Rattle.hg_size.specs.Sizes.{places_of}
+use Rattle.hg_size.specs.Sizes.{places_of, pages_of}
 use Rattle.hg_place.specs.Places.{segment_of, segment_of_page, page_of, index_of}
 use Rattle.hg_place.specs.Standings.{standing_at, standing_generation, is_home}
 use Rattle.hg_words.proofs.Ranges.{length-block_of}
 use Rattle.hg_segment.specs.Blocks.{block_at, block_of_class}
 use Rattle.hg_segment.specs.Right.{IsBlockPlace}
-use Rattle.hg_size.specs.Sizes.{pages_of}
 use Rattle.hg_size.proofs.Table.{fits_in_pages}
 use Rattle.hg_size.proofs.Within.{run_within}
 use Rattle.hg_machine.specs.Policy.{Policy}
-use Rattle.hg_agreement.specs.Holdings.{Holding, block_of, class_of, holding_of, has}
-use Rattle.hg_agreement.specs.Holdings.{class_told, standing_told, block_told}
+use Rattle.hg_agreement.specs.Holdings.{Holding, block_of, class_of, holding_of, has, class_told}
+use Rattle.hg_agreement.specs.Holdings.{standing_told, block_told}
 use Rattle.hg_agreement.specs.HoldingLaws.{IsHoldingRight, RightHoldingsAreHeaps}
 use Rattle.hg_agreement.proofs.Blocks.{block_home, block_out}
 
@@ -22,21 +21,18 @@ use Rattle.hg_agreement.proofs.Blocks.{block_home, block_out}
 there : (holdings : List Holding) (segment : ℕ) → has holdings segment ≡ true
     → (h : Holding) × (holding_of holdings segment ≡ Some h) × (h.number ≡ segment)
 there [] segment e = absurd (true≢false (sym e))
-there (x ∷ xs) segment e = elim (cases_Bool (x.number == segment))
-    as (λ _. (h : Holding)
-    × (cond (x.number == segment) (Some x) (holding_of xs segment) ≡ Some h)
-    × (h.number ≡ segment)) [
-      | inl t ↦ (
-        x,
-        ap (λ b. cond b (Some x) (holding_of xs segment)) t,
-        eqb-true x.number segment
-            t,
-      )
-      | inr f ↦
-          let miss = ap (λ b. cond b (Some x) (holding_of xs segment)) f in
-          let rest = there xs segment (sym (ap is_some miss) ∙ e) in
-          (rest.0, miss ∙ rest.1, rest.2)
-    ]
+there (x ∷ xs) segment e = elim (cases_Bool (x.number == segment)) [
+  | inl t ↦ (
+    x,
+    ap (λ b. cond b (Some x) (holding_of xs segment)) t,
+    eqb-true x.number segment
+        t,
+  )
+  | inr f ↦
+      let miss = ap (λ b. cond b (Some x) (holding_of xs segment)) f in
+      let rest = there xs segment (sym (ap is_some miss) ∙ e) in
+      (rest.0, miss ∙ rest.1, rest.2)
+]
 
 -- a block at a block place has the length of its page's class
 pub sized : (words : List ℕ) (page index : ℕ) (class : Option ℕ) → length words ≡ 8192

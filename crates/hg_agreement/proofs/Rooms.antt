@@ -52,9 +52,7 @@ shares m view shown tenant place agrees =
     let r = record_at m place in
     ap (λ b. share_of tenant b (not (is_home r.life)) (owner_of r.life) (contents_of r.life))
     (agrees.holding (segment_of place))
-    ∙ elim (cases_Bool (view.holds (segment_of place)))
-    as (λ _. share_of tenant (view.holds (segment_of place)) (not (is_home r.life))
-    (owner_of r.life) (contents_of r.life) ≡ share_in view tenant place) [
+    ∙ elim (cases_Bool (view.holds (segment_of place))) [
       | inl h ↦
           let b = view.holds (segment_of place) in
           let st = agrees.standings place h in
@@ -112,9 +110,7 @@ opens m view shown arena size wanted place agrees =
     ∙ ap (λ z. b && (is_number arena (arena_of view.policy (segment_of place)) && (suits
     (class_at m) size wanted (page_of place) && (nat_lt (index_of place) (places_of size) && z))))
     (once (is_home r.life) (r.generation == view.policy.max_generation))
-    ∙ elim (cases_Bool b) as (λ _. open_now arena size place b view.policy
-    (suits (class_at m) size wanted (page_of place)) (is_home r.life) r.generation ≡ is_open_to_in view arena size
-    wanted place) [
+    ∙ elim (cases_Bool b) [
       | inl h ↦
           let st = agrees.standings place h in
           ap (λ c. open_now arena size place b view.policy c (is_home r.life) r.generation)

@@ -8,7 +8,6 @@ use Rattle.hg_place.specs.declared.Right.{Right}
 use Rattle.hg_place.specs.Places.{number_of, segment_of}
 use Rattle.hg_place.specs.Slots.{Slot, slot_in, unused_slot}
 use Rattle.hg_machine.specs.declared.Rule.{Rule}
-use Rattle.hg_machine.specs.declared.Rule.TheVariants as rule
 use Rattle.hg_machine.specs.First.{first_of}
 use Rattle.hg_machine.specs.Policy.{Policy, is_tenant, arena_of, grants, forbids}
 use Rattle.hg_machine.specs.Life.{is_live, owner_of}
@@ -19,6 +18,7 @@ use Rattle.hg_agreement.specs.Agreement.{Agrees}
 use Rattle.hg_machine.proofs.Looks.{live_used}
 use Rattle.hg_machine.specs.Shown.{IsShownBy}
 use Rattle.hg_agreement.specs.Seen.{IsShownAt}
+use Rattle.hg_machine.specs.declared.Rule.TheVariants as rule
 
 -- a verdict by the arena of the segment and the parts of a slot
 abbrev on : Policy → ℕ → Right → ℕ → Option ℕ → ℕ → ℕ → Bool → Option Rule

@@ -21,7 +21,7 @@ use Rattle.hg_agreement.specs.TakenIn.{remote_places, is_listed, taken_in, IsTak
 use Rattle.hg_agreement.specs.TakenIn.{TakenInIsSettled}
 use Rattle.hg_agreement.proofs.Told.{record_is, class_is}
 use Rattle.hg_agreement.proofs.Lookups.{maps_below}
-use Rattle.hg_agreement.proofs.Putting.{swap_is_map, swap_before, swap_below}
+use Rattle.hg_agreement.proofs.Swapped.{swap_is_map, swap_before, swap_below}
 use Rattle.hg_agreement.proofs.Firsts.{some_counted, none_counted}
 
 places_apart : (base : ℕ) (xss : List (List ℕ)) → concat (map (places_from base) xss) ≡ places_from
@@ -76,9 +76,7 @@ any_moved : (base at : ℕ) (xs : List ℕ) → list_any (λ k. k == base + at) 
     ≡ list_any (λ k. k == at) xs
 any_moved base at [] = refl
 any_moved base at (x ∷ xs) =
-    elim (cases_eq x at)
-    as (λ _. (((base + x) == (base + at)) || list_any (λ k. k == base + at) (places_from base xs))
-    ≡ ((x == at) || list_any (λ k. k == at) xs)) [
+    elim (cases_eq x at) [
       | inl e ↦
           ap (λ b. b || list_any (λ k. k == base + at) (places_from base xs))
           (eq-eqb (base + x) (base + at) (omega arith))
@@ -106,8 +104,7 @@ listed_is_sent parts segment at below partition =
     let count : times place xs ≡ bit_of sent = sym (ap (times place) (sent_are parts segment below))
     ∙ (partition place).sent segment in
     sym (any_moved (segment * 8192) at (remote_places (remote_at parts segment)))
-    ∙ elim (cases_Bool (list_any (λ k. k == place) xs)) as (λ _. list_any (λ k. k == place) xs
-    ≡ sent) [
+    ∙ elim (cases_Bool (list_any (λ k. k == place) xs)) [
       | inl t ↦ t ∙ sym
           (bit_true sent (subst (λ k. 1 ≤ k) count (some_counted (λ k. k == place) xs t)))
       | inr f ↦ f ∙ sym (bit_zero sent (sym count ∙ none_counted (λ k. k == place) xs f))
@@ -123,8 +120,7 @@ module _ (parts : Parts) (w found : ℕ) (one now : Plain) (sorted : IsSorted pa
   record_settled : (q : ℕ) → q < length parts.policy.segments * 8192
       → record_now parts now q ≡ settled (state_of parts) one.holding.number q
   record_settled q h =
-      elim (cases_eq (segment_of q) one.holding.number) as (λ _. record_now parts now q ≡ settled
-      (state_of parts) one.holding.number q) [
+      elim (cases_eq (segment_of q) one.holding.number) [
         | inl e ↦
             let s = state_of parts in
             let split : one.holding.number * 8192 + q % 8192 ≡ q = omega arith in
@@ -150,8 +146,7 @@ module _ (parts : Parts) (w found : ℕ) (one now : Plain) (sorted : IsSorted pa
   class_same : (q : ℕ) → q < length parts.policy.segments * 16
       → class_now parts now q ≡ page_class parts q
   class_same q h =
-      elim (cases_eq (segment_of_page q) one.holding.number) as (λ _. class_now parts now q
-      ≡ page_class parts q) [
+      elim (cases_eq (segment_of_page q) one.holding.number) [
         | inl e ↦
             ap (λ b. if b then class_of now.holding (q % 16) else class_at (state_of parts) q)
             (eq-eqb (segment_of_page q) now.holding.number (e ∙ sym taken.swap.number))

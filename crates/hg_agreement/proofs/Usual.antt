@@ -1,6 +1,5 @@
 -- Which words a worker finds, and which workers are usual.
-use Rattle.std.proofs.Common.{◌≡◌, ◌%◌, ◌≤◌, false, Some, None}
-use Rattle.std.proofs.Common.{refl, sym, ap, subst, ◌∙◌, arith}
+use Rattle.std.proofs.Common.{◌≡◌, ◌%◌, ◌≤◌, false, Some, None, refl, sym, ap, subst, ◌∙◌, arith}
 use Rattle.std.proofs.lemmas.Option.{same_Some, none-some}
 use Rattle.std.proofs.lemmas.Bool.{true≢false, ne_eqb}
 use Rattle.hg_place.specs.Slots.{slot_in}

@@ -1,7 +1,6 @@
 -- Classes and holders that the witness state tells.
-use Rattle.std.proofs.Common.{◌≡◌, ℕ, Bool, true, false}
-use Rattle.std.proofs.Common.{not, if◌then◌else◌}
-use Rattle.std.proofs.Common.{Option, Some, None, refl, subst}
+use Rattle.std.proofs.Common.{◌≡◌, ℕ, Bool, true, false, not, if◌then◌else◌, Option, Some, None}
+use Rattle.std.proofs.Common.{refl, subst}
 use Rattle.std.proofs.lemmas.Bool.{eq-eqb}
 use Rattle.std.proofs.lemmas.Option.{same_Some, none-some}
 use Rattle.hg_machine.specs.State.{fresh, orphan, held}

@@ -1,419 +1,81 @@
--- An Alloc that gives a block, as a step with its choices.
-use Rattle.std.proofs.Common.{◌≡◌, ℕ, ◌+◌, ◌*◌, ◌%◌, ◌<◌, ◌==◌, ◌&&◌, inl, inr, Bool, true, not}
-use Rattle.std.proofs.Common.{nat_lt, cond, [], ◌∷◌, ◌++◌, List, filter, drop, length, set, Option}
-use Rattle.std.proofs.Common.{Some, None, refl, sym, ap, subst, ◌∙◌, arith, Contains}
-use Rattle.std.specs.List.{range_with_len}
-use Rattle.std.proofs.lemmas.Bool.{and_parts, or_cases, eq-eqb}
+-- The choices of an Alloc that gives a block.
+use Rattle.std.proofs.Common.{◌≡◌, ℕ, ◌<◌, set, Some, sym, ap, subst, ◌∙◌}
 use Rattle.hg_place.specs.declared.Actor.{Actor}
 use Rattle.hg_place.specs.declared.Handle.{Handle}
 use Rattle.hg_place.specs.declared.plain.PlainWords.{PlainWords}
-use Rattle.hg_place.specs.declared.standing.Standing.{Standing}
-use Rattle.hg_place.specs.Plain.{plain_records}
-use Rattle.hg_place.specs.Places.{number_of, page_number, page_of, segment_of, index_of}
-use Rattle.hg_place.specs.Places.{segment_of_page}
-use Rattle.hg_place.specs.Standings.{standing_at}
-use Rattle.hg_size.specs.Sizes.{sizes, places_of, number_of_size}
+use Rattle.hg_place.specs.Places.{page_number, segment_of_page}
+use Rattle.hg_size.specs.Sizes.{number_of_size}
 use Rattle.hg_size.specs.SizeLaws.{key_of}
-use Rattle.hg_size.proofs.Table.{size_for_is_least}
-use Rattle.hg_page.specs.PageLists.{PageLists, fresh, listed, Pops}
-use Rattle.hg_segment.specs.Kept.{Kept, class_at, lists_at, refilled, slot}
-use Rattle.hg_segment.specs.Right.{is_vacant, vacant_in, HasVacant}
 use Rattle.hg_segment.specs.Parted.{plain_number}
-use Rattle.std.proofs.lemmas.Option.{none-some}
-use Rattle.hg_size.specs.Runs.{may_begin}
-use Rattle.hg_size.proofs.Covers.{begins_not}
-use Rattle.hg_size.proofs.Within.{begins_within}
-use Rattle.hg_size.proofs.Table.{places_small}
-use Rattle.hg_machine.specs.declared.Event.TheVariants as event
-use Rattle.hg_machine.specs.declared.Answer.TheVariants as answer
-use Rattle.hg_machine.specs.SoundPolicy.{IsSoundPolicy}
-use Rattle.hg_machine.specs.Policy.{arena_of}
-use Rattle.hg_machine.specs.State.{State}
-use Rattle.hg_machine.specs.State.{class_at as class_of_page}
-use Rattle.hg_machine.specs.Holders.{holds, is_in_arena, is_number}
-use Rattle.hg_machine.specs.Charge.{charge}
-use Rattle.hg_machine.specs.Request.{words_for, size_of}
-use Rattle.hg_machine.specs.Room.{suits, is_usable, is_open_to, has_open, is_room}
-use Rattle.hg_machine.proofs.Allowed.{fitting}
-use Rattle.hg_machine.proofs.Cases.{Served}
-use Rattle.hg_heap.specs.Held.{Held, segment_in, is_held, has_place}
-use Rattle.hg_heap.specs.Held.{lists_on as lists_in}
-use Rattle.hg_heap.specs.Held.{lists_by as lists_had}
-use Rattle.hg_heap.specs.Choice.{begun_or, blank_of, blank_by, blank_on}
-use Rattle.hg_heap.specs.Choice.{lists_for as lists_for_in}
+use Rattle.std.proofs.lemmas.List.{length-set}
+use Rattle.hg_machine.specs.Request.{size_of}
+use Rattle.hg_heap.specs.Held.{Held, segment_in, has_place, lists_on as lists_in}
 use Rattle.hg_heap.specs.Requeued.{requeued}
-use Rattle.hg_heap.proofs.ViewRoom.{open_by, found_one}
-use Rattle.hg_heap.proofs.Chosen.{blank_there}
-use Rattle.hg_agreement.specs.Parts.{Parts, state_of, lists_of, places_from}
-use Rattle.hg_parts.specs.Tidy.{IsTidy}
-use Rattle.hg_laws.proofs.Refusals.{was_served}
-use Rattle.hg_choice.specs.PageLists.{lists_on, popped}
+use Rattle.hg_machine.specs.Lists.{Lists}
+use Rattle.hg_agreement.specs.Parts.{state_of, lists_of}
+use Rattle.hg_choice.specs.PageLists.{lists_on}
 use Rattle.hg_choice.specs.Choice.{queues_of}
-use Rattle.hg_choice.specs.ListsAfter.{lists_for, given_from}
+use Rattle.hg_choice.specs.ListsAfter.{given_from}
 use Rattle.hg_choice.specs.QueuesAfter.{placed}
-use Rattle.hg_events.specs.Core.{Core, parts_of, heap_of}
-use Rattle.hg_events.specs.Own.{with_heap, IsServedBy}
-use Rattle.hg_events.proofs.Elsewhere.{holds_is_held}
-use Rattle.hg_chosen.specs.Choice.{IsHeapSettled}
-use Rattle.hg_chosen.specs.Given.{IsGiven, AllocIsChosen}
+use Rattle.hg_events.specs.Core.{Core, parts_of}
+use Rattle.hg_events.specs.Own.{with_heap}
+use Rattle.hg_chosen.specs.Given.{AllocIsChosen}
 use Rattle.hg_chosen.proofs.ChoiceTold.{choice_is_told}
-use Rattle.hg_chosen.proofs.Filters.{filter_same, filter_shift, filter_cut}
-use Rattle.hg_chosen.proofs.HeapTold.{queues_told, open_told}
-use Rattle.hg_chosen.proofs.HeapLists.{numbered, heap_now, lists_changed, some_is}
-use Rattle.hg_chosen.proofs.Numbered.{has_numbered, same_page, numbered_told, class_told}
-use Rattle.hg_chosen.proofs.Numbered.{arena_told}
-use Rattle.hg_chosen.proofs.HeldSame.{seen, held_same, queues_put}
+use Rattle.hg_chosen.proofs.HeapTold.{queues_told}
+use Rattle.hg_chosen.proofs.HeapLists.{numbered, heap_now, some_is}
+use Rattle.hg_chosen.proofs.Numbered.{has_numbered, numbered_told}
+use Rattle.hg_chosen.proofs.HeldSame.{seen, queues_put}
+use Rattle.hg_chosen.proofs.AllocPage.{IsAlloc, sized, held, here}
+use Rattle.hg_chosen.proofs.AllocLists.{lists_given}
 
--- lists by numbers are refilled as by indexes
-free_refilled : (first : ℕ) (free others : List ℕ) (one two : List Bool)
-    → (refilled (record {
-      free = places_from first free;
-      local_free = places_from first others;
-      used = one;
-    })).free
-    ≡ places_from first (refilled (record { free = free; local_free = others; used = two })).free
-free_refilled first [] others one two = refl
-free_refilled first (x ∷ xs) others one two = refl
-
-local_refilled : (first : ℕ) (free others : List ℕ) (one two : List Bool)
-    → (refilled (record {
-      free = places_from first free;
-      local_free = places_from first others;
-      used = one;
-    })).local_free
-    ≡ places_from first (refilled (record {
-      free = free;
-      local_free = others;
-      used = two;
-    })).local_free
-local_refilled first [] others one two = refl
-local_refilled first (x ∷ xs) others one two = refl
-
--- by numbers a page has these lists
-record AreNumbered (first : ℕ) (x l : PageLists) : Type 0 where
-  free : x.free ≡ places_from first l.free
-  others : x.local_free ≡ places_from first l.local_free
-
-popped_free : (first index : ℕ) (x l new : PageLists) → AreNumbered first x l
-    → Pops index (refilled l) new → (popped (refilled x)).free ≡ places_from first new.free
-popped_free first index x l new are pops =
-    ap (λ f. drop 1 (refilled (record { free = f; local_free = x.local_free; used = x.used })).free)
-    are.free
-    ∙ ap (λ f. drop 1 (refilled (record {
-      free = places_from first l.free;
-      local_free = f;
-      used = x.used;
-    })).free) are.others
-    ∙ ap (drop 1) (free_refilled first l.free l.local_free x.used l.used)
-    ∙ ap (λ f. drop 1 (places_from first f)) pops.free
-
-popped_local : (first index : ℕ) (x l new : PageLists) → AreNumbered first x l
-    → Pops index (refilled l) new
-    → (popped (refilled x)).local_free ≡ places_from first new.local_free
-popped_local first index x l new are pops =
-    ap (λ f. (refilled (record { free = f; local_free = x.local_free; used = x.used })).local_free)
-    are.free
-    ∙ ap (λ f. (refilled (record {
-      free = places_from first l.free;
-      local_free = f;
-      used = x.used;
-    })).local_free) are.others
-    ∙ local_refilled first l.free l.local_free x.used l.used
-    ∙ ap (places_from first) (sym pops.local_free)
-
-none_listed : (l : PageLists) → listed l ≡ [] → (refilled l).free ≡ []
-none_listed l e = by l.free l.local_free l.used e
-  where
-    by : (free others : List ℕ) (used : List Bool) → free ++ others ≡ []
-        → (refilled (record { free = free; local_free = others; used = used })).free ≡ []
-    by [] others used k = k
-    by (x ∷ xs) others used k = absurd (cc)
-
-vacant_none : (greatest : ℕ) (records : List Standing) (page : ℕ) (lists : PageLists) (o : Option ℕ)
-    → o ≡ None → HasVacant greatest records page lists o → listed lists ≡ []
-vacant_none greatest records page lists None k h = h
-vacant_none greatest records page lists (Some n) k h = absurd (cc)
-
-nil_cons : (x : ℕ) (xs : List ℕ) → [] ≡ x ∷ xs → ⊥
-nil_cons x xs k = cc
-
-list_cases : (xs : List ℕ) (A : Type 0) → (xs ≡ [] → A) → ((y : ℕ) (ys : List ℕ) → xs ≡ y ∷ ys → A)
-    → A
-list_cases [] A none some = none refl
-list_cases (x ∷ xs) A none some = some x xs refl
-
-option_cases : (P : Option ℕ → Type 0) → ((n : ℕ) → P (Some n)) → P None → (o : Option ℕ) → P o
-option_cases P some none None = none
-option_cases P some none (Some n) = some n
-
-module _ (core : Core) (worker : ℕ) (actor : Actor) (arena bytes : ℕ) (handle : Handle)
-    (heap : Held PlainWords) (policy : IsSoundPolicy core.policy) (t : IsTidy (parts_of core))
-    (below : worker < length core.heaps) (settled : IsHeapSettled (heap_of core worker))
-    (served : IsServedBy core worker (event.Alloc actor arena bytes) (answer.Block handle)
-    (with_heap core worker heap))
-    (given : IsGiven (heap_of core worker) heap arena (size_of bytes) handle) where
-  abbrev parts : Parts
-  parts = parts_of core
-
-  abbrev now : Parts
-  now = parts_of (with_heap core worker heap)
-
-  abbrev s : State
-  s = state_of parts
-
-  abbrev size : ℕ
-  size = size_of bytes
-
+module _ {core : Core} {worker : ℕ} {actor : Actor} {arena bytes : ℕ} {handle : Handle}
+    {heap : Held PlainWords} (made : IsAlloc core worker actor arena bytes handle heap) where
   abbrev page : ℕ
   page = page_number handle.place
 
-  abbrev old : List (Kept PlainWords)
-  old = (heap_of core worker).segments
+  abbrev after : Lists
+  after = given_from (state_of (parts_of core)) (lists_of (parts_of core)) (size_of bytes) page
 
-  is : Served s worker (event.Alloc actor arena bytes) (answer.Block handle) (state_of now)
-  is = was_served s worker (event.Alloc actor arena bytes) (answer.Block handle) (state_of now)
-      served.0 refl
-
-  pub sized : Contains sizes size
-  sized = (size_for_is_least (words_for bytes) size
-      (fitting s worker actor.0 arena (words_for bytes) (charge s worker actor.0) is.none).0).listed
-
-  room : is_room s worker arena size (number_of handle.place) ≡ true
-  room =
-      let same : is.serves.0 ≡ handle = (let e = is.serves.1 in cc) in
-      subst (λ h. is_room s worker arena size (number_of h.place) ≡ true) same is.serves.2.room
-
-  room_held : (p : ℕ) → is_room s worker arena size p ≡ true → holds s worker (segment_of p) ≡ true
-  room_held p e =
-      elim (or_cases (is_open_to s worker arena size (Some size) p) _ e) as
-      (λ _. holds s worker (segment_of p) ≡ true) [
-        | inl o ↦ (and_parts (holds s worker (segment_of p)) _ o).0
-        | inr o ↦ (and_parts (holds s worker (segment_of p)) _
-            (and_parts (not (has_open s worker arena size (Some size))) _ o).1).0
-      ]
-
-  held : (n : ℕ) → is_held plain_number heap.segments n ≡ is_held plain_number old n
-  held = held_same core worker heap t below served.1 (ap (λ x. x.holders) is.after)
-
-  same_segment : segment_of (number_of handle.place) ≡ segment_of_page page
-  same_segment = let b = handle.place.index_below in omega (arith, b)
-
-  held_here : holds s worker (segment_of_page page) ≡ true
-  held_here = ap (holds s worker) (sym same_segment) ∙ room_held (number_of handle.place) room
-
-  here : is_held plain_number old (segment_of_page page) ≡ true
-  here = sym (holds_is_held core worker (segment_of_page page) t below) ∙ held_here
-
-  abbrev one : Kept PlainWords
-  one = (some_is (segment_in plain_number old (segment_of_page page)) here).0
-
-  found : segment_in plain_number old (segment_of_page page) ≡ Some one
-  found = (some_is (segment_in plain_number old (segment_of_page page)) here).1
-
-  abbrev had : PageLists
-  had = lists_in plain_number old page
-
-  abbrev blanks : List ℕ
-  blanks = blank_on plain_number plain_records old arena size page
-
-  -- a place of a page without a class may have such a block as the segment says
-  usable_told : may_begin (class_at one.classes) size (page % 16) ≡ true → one.arena ≡ arena → (i : ℕ) → i < 512
-      → is_usable s size (page * 512 + i)
-      ≡ (nat_lt i (places_of size)
-      && is_vacant one.greatest (standing_at (plain_records one.slots) (slot (page % 16) i)))
-  usable_told may same i low =
-      let p = page * 512 + i in
-      let sg : segment_of p ≡ segment_of_page page = omega (arith, low) in
-      let pg : page_of p ≡ page = omega (arith, low) in
-      let ix : index_of p ≡ i = omega (arith, low) in
-      let vac = nat_lt i (places_of size)
-      && is_vacant one.greatest (standing_at (plain_records one.slots) (slot (page % 16) i)) in
-      let usable = is_usable s size p in
-      let left : is_open_to s worker arena size None p ≡ usable =
-      ap (λ b. b && (is_in_arena s arena (segment_of p)
-      && (suits (class_of_page s) size None (page_of p) && usable)))
-      (ap (holds s worker) sg ∙ held_here)
-      ∙ ap (λ n. is_number arena (arena_of core.policy n)
-      && (suits (class_of_page s) size None (page_of p) && usable)) sg
-      ∙ ap (λ o. is_number arena o && (suits (class_of_page s) size None (page_of p) && usable))
-      (arena_told core worker policy t below page one found)
-      ∙ ap (λ b. b && (suits (class_of_page s) size None (page_of p) && usable))
-      (ap (λ n. n == arena) same ∙ eq-eqb arena arena refl)
-      ∙ ap (λ b. b && usable) (ap (may_begin (class_of_page s) size) pg
-      ∙ begins_within (class_at one.classes) (class_of_page s) size page
-      (λ q e. class_told core worker policy t below q one
-      (ap (segment_in plain_number old) e ∙ found)) ∙ may)
-      in
-      let right : open_by plain_number plain_records arena size None
-      (segment_in plain_number old (segment_of p)) (page_of p % 16) (index_of p) ≡ vac =
-      ap (λ n. open_by plain_number plain_records arena size None (segment_in plain_number old n)
-      (page_of p % 16) (index_of p)) sg
-      ∙ ap (λ n. open_by plain_number plain_records arena size None
-      (segment_in plain_number old (segment_of_page page)) (n % 16) (index_of p)) pg
-      ∙ ap (λ n. open_by plain_number plain_records arena size None
-      (segment_in plain_number old (segment_of_page page)) (page % 16) n) ix
-      ∙ ap (λ o. open_by plain_number plain_records arena size None o (page % 16) i) found
-      ∙ ap (λ b. b && (suits (class_at one.classes) size None (page % 16) && vac))
-      (ap (λ n. n == arena) same ∙ eq-eqb arena arena refl)
-      ∙ ap (λ b. b && vac) may
-      in
-      sym left ∙ open_told core worker policy t below arena size None p ∙ right
-
-  blanks_told : may_begin (class_at one.classes) size (page % 16) ≡ true → one.arena ≡ arena
-      → filter (is_usable s size) (range_with_len (page * 512) 512)
-      ≡ places_from (page * 512) (vacant_in one.greatest (plain_records one.slots) (page % 16)
-      (places_of size))
-  blanks_told may same =
-      let q : ℕ → Bool =
-      (λ i. is_vacant one.greatest (standing_at (plain_records one.slots) (slot (page % 16) i))) in
-      let z : page * 512 ≡ page * 512 + 0 = omega arith in
-      ap (λ n. filter (is_usable s size) (range_with_len n 512)) z
-      ∙ filter_shift (is_usable s size) (page * 512) 0 512
-      ∙ ap (places_from (page * 512))
-      (
-      filter_same (λ i. is_usable s size (page * 512 + i)) (λ i. nat_lt i (places_of size) && q i) 0
-      512 (λ i a b. usable_told may same i (omega (arith, b)))
-      ∙ filter_cut q (places_of size) 0 (places_of size) 512 (omega arith) (places_small size)
-      )
-
-  abbrev from_heap : PageLists
-  from_heap = lists_for_in plain_number plain_records old arena size page
-
-  -- the lists from which the place is taken, by numbers: of a page that has a class
-  classed : (other : ℕ) → class_at one.classes (page % 16) ≡ Some other
-      → AreNumbered (page * 512) (lists_on (lists_of parts) page) from_heap
-  classed other e =
-      let plain : from_heap ≡ had =
-      ap (λ o. begun_or (blank_by plain_number plain_records arena size o (page % 16)) had) found
-      ∙ ap (λ m. begun_or (blank_of plain_number plain_records arena size (page % 16) one m) had)
-      (begins_not (class_at one.classes) size (page % 16) (λ m.
-      none-some other (sym (m.none (page % 16) (omega arith) (omega arith)) ∙ e)))
-      in
-      let same = numbered_told core worker policy t below page one found in
-      record {
-        free = ap (λ l. l.free) same ∙ ap (λ l. places_from (page * 512) l.free) (sym plain);
-        others = ap (λ l. l.local_free) same
-            ∙ ap (λ l. places_from (page * 512) l.local_free) (sym plain);
-      }
-
-  -- one without a class has places
-  some_blank : class_at one.classes (page % 16) ≡ None → blanks ≡ [] → ⊥
-  some_blank e none =
-      let f = found_one plain_number plain_records old (segment_of_page page) one found in
-      let all = ((settled.each one f.0).lists (page % 16) (omega arith)).all in
-      let empty : listed had ≡ [] =
-      ap (λ o. listed (lists_had plain_number o (page % 16))) found
-      ∙ vacant_none one.greatest (plain_records one.slots) (page % 16)
-      (lists_at one.lists (page % 16)) (class_at one.classes (page % 16)) e all
-      in
-      let plain : from_heap ≡ had = ap (λ bs. begun_or bs had) none in
-      let nothing : (refilled from_heap).free ≡ [] =
-      ap (λ l. (refilled l).free) plain ∙ none_listed had empty in
-      nil_cons handle.place.index _ (sym nothing ∙ given.lists.popped.free)
-
-  -- and those are all that may have such a block
-  begun_free : class_at one.classes (page % 16) ≡ None → (x : ℕ) (xs : List ℕ) → blanks ≡ x ∷ xs
-      → filter (is_usable s size) (range_with_len (page * 512) 512)
-      ≡ places_from (page * 512) blanks
-  begun_free e x xs some =
-      let on = blank_there plain_number plain_records (heap_of core worker) settled.queued
-      settled.each arena size (page % 16) x (segment_in plain_number old (segment_of_page page))
-      (subst (λ (ys : List ℕ). Contains ys x) (sym some) (0, omega arith, refl))
-      in
-      let same_one : on.k ≡ one = (let k : Some on.k ≡ Some one = sym on.is ∙ found in cc) in
-      let same : one.arena ≡ arena = ap (λ k. k.arena) (sym same_one) ∙ on.arena_is in
-      let may : may_begin (class_at one.classes) size (page % 16) ≡ true =
-      ap (λ k. may_begin (class_at k.classes) size (page % 16)) (sym same_one) ∙ on.class in
-      let blanks_are : blanks ≡ vacant_in one.greatest (plain_records one.slots) (page % 16)
-      (places_of size) =
-      ap (λ o. blank_by plain_number plain_records arena size o (page % 16)) found
-      ∙ ap (blank_of plain_number plain_records arena size (page % 16) one) may
-      ∙ ap (λ b. cond b (vacant_in one.greatest (plain_records one.slots) (page % 16)
-      (places_of size)) []) (ap (λ n. n == arena) same ∙ eq-eqb arena arena refl)
-      in
-      blanks_told may same ∙ ap (places_from (page * 512)) (sym blanks_are)
-
-  begun : class_at one.classes (page % 16) ≡ None → (x : ℕ) (xs : List ℕ) → blanks ≡ x ∷ xs
-      → (free : List ℕ)
-      → free ≡ places_from (page * 512) blanks → AreNumbered (page * 512) (fresh free) from_heap
-  begun e x xs some free are =
-      let plain : from_heap ≡ fresh blanks =
-      ap (λ bs. begun_or bs had) some ∙ sym (ap fresh some) ∙ ap (λ bs. fresh bs) refl in
-      record {
-        free = are ∙ ap (λ l. places_from (page * 512) l.free) (sym plain);
-        others = ap (λ l. places_from (page * 512) l.local_free) (sym plain);
-      }
-
-  unclassed : class_at one.classes (page % 16) ≡ None
-      → AreNumbered (page * 512) (lists_for s (lists_of parts) size page None) from_heap
-  unclassed e =
-      list_cases blanks (AreNumbered (page * 512) (lists_for s (lists_of parts) size page None)
-      from_heap)
-      (λ none. absurd (some_blank e none))
-      (λ x xs some. begun e x xs some (filter (is_usable s size) (range_with_len (page * 512) 512))
-      (begun_free e x xs some))
-
-  lists_numbered : (class : Option ℕ) → class_at one.classes (page % 16) ≡ class
-      → AreNumbered (page * 512) (lists_for s (lists_of parts) size page class) from_heap
-  lists_numbered class =
-      option_cases (λ c. class_at one.classes (page % 16) ≡ c
-      → AreNumbered (page * 512) (lists_for s (lists_of parts) size page c) from_heap) classed
-      unclassed class
-
-  pub lists_given : lists_of now ≡ given_from s (lists_of parts) size page
-  lists_given =
-      let l = lists_of parts in
-      let class = class_of_page s page in
-      let x = lists_for s l size page class in
-      let new = lists_in plain_number heap.segments page in
-      let are = lists_numbered class (sym (class_told core worker policy t below page one found)) in
-      lists_changed core worker heap t below served.1 held page here given.lists.others
-      ∙ same_page l page (numbered page new) (popped (refilled x))
-      (sym (popped_free (page * 512) handle.place.index x
-      (lists_for_in plain_number plain_records old arena size page) new are given.lists.popped))
-      (sym (popped_local (page * 512) handle.place.index x
-      (lists_for_in plain_number plain_records old arena size page) new are given.lists.popped))
-
-  found_now : (other : Kept PlainWords)
-      → segment_in plain_number heap.segments (segment_of_page page) ≡ Some other
-      → lists_on (lists_of now) page ≡ numbered page (lists_in plain_number heap.segments page)
-  found_now other e =
-      let same = heap_now core worker heap below in
-      numbered_told (with_heap core worker heap) worker policy served.1
-      (subst (λ m. worker < m) (sym (Rattle.std.proofs.lemmas.List.length-set core.heaps worker
-      heap)) below) page other
-      (ap (λ h. segment_in plain_number h.segments (segment_of_page page)) same ∙ e)
-      ∙ ap (λ h. numbered page (lists_in plain_number h.segments page)) same
-
-  has_now : has_place (lists_on (given_from s (lists_of parts) size page) page)
+  has_now : has_place (lists_on after page)
       ≡ has_place (lists_in plain_number heap.segments page)
   has_now =
+      let same = heap_now core worker heap made.below in
       let other = some_is (segment_in plain_number heap.segments (segment_of_page page))
-      (held (segment_of_page page) ∙ here) in
-      ap (λ l. has_place (lists_on l page)) (sym lists_given)
-      ∙ ap has_place (found_now other.0 other.1)
-      ∙ has_numbered page (lists_in plain_number heap.segments page)
+      (held made (segment_of_page page) ∙ here made) in
+      let told = numbered_told (with_heap core worker heap) worker made.policy made.served.1
+      (subst (λ m. worker < m) (sym (length-set core.heaps worker heap)) made.below) page other.0
+      (ap (λ h. segment_in plain_number h.segments (segment_of_page page)) same ∙ other.1)
+      ∙ ap (λ h. numbered page (lists_in plain_number h.segments page)) same in
+      ap (λ l. has_place (lists_on l page)) (sym (lists_given made))
+      ∙ ap has_place told ∙ has_numbered page (lists_in plain_number heap.segments page)
 
-  pub queues_given : (seen (with_heap core worker heap)).queues
-      ≡ set (seen core).queues worker (placed (given_from s (lists_of parts) size page) page
-      (Some (key_of arena (number_of_size size))) (queues_of (seen core) worker))
+  queues_given : (seen (with_heap core worker heap)).queues ≡ set (seen core).queues worker
+      (placed after page (Some (key_of arena (number_of_size (size_of bytes))))
+      (queues_of (seen core) worker))
   queues_given =
-      let key = key_of arena (number_of_size size) in
-      queues_put core worker heap t below served.1
+      let key = key_of arena (number_of_size (size_of bytes)) in
+      queues_put core worker heap made.tidy made.below made.served.1
       ∙ ap (set (seen core).queues worker)
-      (
-      given.queues
+      (made.given.queues
       ∙ ap (λ qs. requeued key page (has_place (lists_in plain_number heap.segments page)) qs)
       (sym (queues_told core worker))
-      ∙ ap (λ b. requeued key page b (queues_of (seen core) worker)) (sym has_now)
-      )
+      ∙ ap (λ b. requeued key page b (queues_of (seen core) worker)) (sym has_now))
 
 pub alloc_is_chosen : AllocIsChosen
-alloc_is_chosen core w actor arena bytes handle heap policy t below settled served given = record {
-  step = served.0;
-  chosen = choice_is_told core w arena (size_of bytes) policy t below settled
-      (sized core w actor arena bytes handle heap policy t below settled served given)
-      ∙ given.chosen;
-  lists = lists_given core w actor arena bytes handle heap policy t below settled served given;
-  queues = queues_given core w actor arena bytes handle heap policy t below settled served given;
-}
+alloc_is_chosen core w actor arena bytes handle heap policy t below settled served given =
+    let made : IsAlloc core w actor arena bytes handle heap = record {
+      policy = policy;
+      tidy = t;
+      below = below;
+      settled = settled;
+      served = served;
+      given = given;
+    } in
+    record {
+      step = served.0;
+      chosen =
+          choice_is_told core w arena (size_of bytes) policy t below settled (sized made)
+          ∙ given.chosen;
+      lists = lists_given made;
+      queues = queues_given made;
+    }

@@ -1,6 +1,5 @@
 -- A place that comes home where its segment stands, in the lists and queues of the core.
-use Rattle.std.proofs.Common.{◌≡◌, ◌≢◌, ℕ, ◌+◌, ◌*◌, ◌==◌, ◌<◌, Bool, List, sym, ap, ◌∙◌}
-use Rattle.std.proofs.Common.{arith}
+use Rattle.std.proofs.Common.{◌≡◌, ◌≢◌, ℕ, ◌+◌, ◌*◌, ◌==◌, ◌<◌, Bool, List, sym, ap, ◌∙◌, arith}
 use Rattle.std.specs.Prelude.{Option, Some, option_map, option_and_then}
 use Rattle.hg_place.specs.Places.{page_of, segment_of_page}
 use Rattle.hg_page.specs.PageLists.{PageLists}
@@ -20,8 +19,8 @@ use Rattle.hg_parts.specs.Tidy.{IsTidy}
 use Rattle.hg_choice.specs.ListsAfter.{came_home}
 use Rattle.hg_choice.specs.PageLists.{lists_on, with_page}
 use Rattle.hg_choice.specs.QueuesAfter.{key_on, placed}
-use Rattle.hg_chosen.proofs.ListedSwaps.{as_places, returned_place, has_as_places}
-use Rattle.hg_chosen.proofs.ListedSwaps.{with_one, page_seen, page_put, before, inside}
+use Rattle.hg_chosen.proofs.ListedSwaps.{as_places, returned_place, has_as_places, with_one}
+use Rattle.hg_chosen.proofs.ListedSwaps.{page_seen, page_put, before, inside}
 
 module _ (parts : Parts) (spot : Spot) (one : Plain) (hands : List (Option ℕ)) (t : IsTidy parts)
     (there : segment_at parts spot ≡ Some one) where

@@ -1,7 +1,7 @@
 -- The order of choice of a heap, told of its core.
 use Rattle.std.proofs.Common.{◌≡◌, ℕ, ◌+◌, ◌*◌, ◌%◌, ◌<◌, ◌≤◌, ◌==◌, inl, inr, Bool, true, false}
 use Rattle.std.proofs.Common.{cond, [], ◌∷◌, List, length, Option, Some, None, refl, sym, ap, subst}
-use Rattle.std.proofs.Common.{◌∙◌, arith, find, is_some, slice_get, Contains}
+use Rattle.std.proofs.Common.{◌∙◌, arith, find, slice_get, Contains}
 use Rattle.std.specs.List.{range_with_len}
 use Rattle.std.proofs.lemmas.Bool.{cases_eq, lt-ltb, eq-eqb, and_from, false_from_ne_true}
 use Rattle.std.proofs.lemmas.Bool.{true≢false}
@@ -12,7 +12,7 @@ use Rattle.hg_place.specs.Standings.{standing_at}
 use Rattle.hg_size.specs.Sizes.{sizes, places_of, number_of_size}
 use Rattle.hg_size.specs.SizeLaws.{key_of}
 use Rattle.hg_page.specs.PageLists.{PageLists}
-use Rattle.hg_segment.specs.Kept.{class_at, lists_at, slot}
+use Rattle.hg_segment.specs.Kept.{lists_at, slot}
 use Rattle.hg_segment.specs.Right.{is_vacant, vacant_in}
 use Rattle.hg_segment.specs.Parted.{plain_number}
 use Rattle.hg_size.proofs.Table.{places_small}
@@ -20,8 +20,7 @@ use Rattle.hg_queue.specs.Queues.{queue_of}
 use Rattle.hg_machine.specs.SoundPolicy.{IsSoundPolicy}
 use Rattle.hg_machine.specs.State.{places_in}
 use Rattle.hg_machine.specs.Room.{is_open_to}
-use Rattle.hg_machine.specs.Lists.{list_at}
-use Rattle.hg_machine.specs.Lists.{Kept as KeptCore}
+use Rattle.hg_machine.specs.Lists.{list_at, Kept as KeptCore}
 use Rattle.hg_heap.specs.Held.{Held, segment_in, lists_by, is_some_place, all_pages}
 use Rattle.hg_heap.specs.Choice.{next_index, front_page, blank_page, blank_of, blank_by, blank_on}
 use Rattle.hg_heap.specs.Choice.{chosen_place as chosen_in}
@@ -32,8 +31,7 @@ use Rattle.hg_heap.proofs.Blanks.{blank_vacant, vacant_some}
 use Rattle.hg_agreement.specs.Parts.{kept_of, places_from}
 use Rattle.hg_parts.specs.Tidy.{IsTidy}
 use Rattle.hg_choice.specs.PageLists.{lists_on}
-use Rattle.hg_choice.specs.Choice.{chosen_by, chosen_place}
-use Rattle.hg_choice.specs.Choice.{front_page as front_of}
+use Rattle.hg_choice.specs.Choice.{chosen_by, chosen_place, front_page as front_of}
 use Rattle.hg_events.specs.Core.{Core, parts_of, heap_of}
 use Rattle.hg_chosen.specs.Choice.{IsHeapSettled, ChoiceIsTold}
 use Rattle.hg_chosen.proofs.Searches.{IsFirst, find_first, find_none, find_nothing, find_is}
@@ -211,7 +209,7 @@ module _ (core : Core) (worker arena size : ℕ) (policy : IsSoundPolicy core.po
         passes = open_at page x low on;
         least = λ q a b. false_from_ne_true (is_open q) (λ e.
             let here = opens_at q e in
-            elim (cases_eq (page_of q) page) as (λ _. ⊥) [
+            elim (cases_eq (page_of q) page) [
               | inl same ↦
                   none_before page x xs on first (index_of q) (omega (arith, b, same))
                   (subst (λ m. Opens m (index_of q)) same here)

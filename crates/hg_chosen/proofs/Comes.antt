@@ -1,6 +1,6 @@
 -- Places of one segment of a heap that come home one after the other.
-use Rattle.std.proofs.Common.{◌≡◌, ℕ, ◌+◌, ◌*◌, ◌≤◌, List, [], ◌∷◌, length, slice_get}
-use Rattle.std.proofs.Common.{slice_set, refl, sym, ap, ◌∙◌, arith, subst, set, ⊎_elim}
+use Rattle.std.proofs.Common.{◌≡◌, ℕ, ◌+◌, ◌*◌, ◌≤◌, List, [], ◌∷◌, length, slice_get, slice_set}
+use Rattle.std.proofs.Common.{refl, sym, ap, ◌∙◌, arith, subst, set, ⊎_elim}
 use Rattle.std.specs.Prelude.{Some}
 use Rattle.std.proofs.lemmas.List.{set-set, set-get_or, length-set}
 use Rattle.std.proofs.lemmas.Option.{same_Some, get_or_from_slice_get}

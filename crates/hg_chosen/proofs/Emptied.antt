@@ -11,12 +11,10 @@ use Rattle.hg_place.specs.Plain.{plain_records}
 use Rattle.hg_place.specs.Slots.{slot_in}
 use Rattle.hg_place.specs.Standings.{standing_at, is_home as at_home}
 use Rattle.hg_page.specs.PageLists.{PageLists, freed}
-use Rattle.hg_segment.specs.Kept.{Kept, slot}
-use Rattle.hg_segment.specs.Kept.{class_at as class_in}
+use Rattle.hg_segment.specs.Kept.{Kept, slot, class_at as class_in}
 use Rattle.hg_segment.specs.Parted.{plain_number}
 use Rattle.hg_heap.specs.Held.{Held, segment_in, is_held}
-use Rattle.hg_heap.specs.Idle.{bare, is_idle_by, IdleAreOut}
-use Rattle.hg_heap.specs.Idle.{is_idle as is_idle_in}
+use Rattle.hg_heap.specs.Idle.{bare, is_idle_by, IdleAreOut, is_idle as is_idle_in}
 use Rattle.hg_heap.proofs.Filtered.{filters_same}
 use Rattle.hg_heap.proofs.Idles.{all_shift, home_on, rest_in}
 use Rattle.hg_heap.proofs.Options.{is_some_map}

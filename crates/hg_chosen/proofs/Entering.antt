@@ -10,14 +10,12 @@ use Rattle.std.proofs.lemmas.List.Folds.{find-append}
 use Rattle.std.proofs.lemmas.List.FromFn.{length-map-range_with_len, get_or-map-range_with_len}
 use Rattle.std.proofs.lemmas.Option.{same_Some, none-some}
 use Rattle.hg_place.specs.declared.plain.PlainWords.{PlainWords}
-use Rattle.hg_segment.specs.Kept.{Kept, lists_at}
-use Rattle.hg_segment.specs.Kept.{class_at as class_in}
+use Rattle.hg_segment.specs.Kept.{Kept, lists_at, class_at as class_in}
 use Rattle.hg_segment.specs.Parted.{plain_number}
 use Rattle.hg_queue.specs.Queues.{queue_of}
 use Rattle.hg_pool.specs.Pooled.{Pooled, is_of_arena}
 use Rattle.hg_heap.specs.Held.{Held, has_place, is_some_place}
-use Rattle.hg_heap.specs.Entering.{is_key_of}
-use Rattle.hg_heap.specs.Entering.{pages_of_key as pages_in}
+use Rattle.hg_heap.specs.Entering.{is_key_of, pages_of_key as pages_in}
 use Rattle.hg_machine.specs.State.{State, class_at}
 use Rattle.hg_machine.specs.Lists.{Lists, list_at}
 use Rattle.hg_agreement.specs.Parts.{Plain, Parts, plain_from, plain_of, plain_by, is_of, state_of}
@@ -42,7 +40,7 @@ use Rattle.hg_chosen.proofs.MovedLists.{moved_lists, queues_with}
 found_passes : (p : Kept PlainWords → Bool) (xs : List (Kept PlainWords)) (y : Kept PlainWords)
     → find p xs ≡ Some y → p y ≡ true
 found_passes p [] y e = absurd (none-some y e)
-found_passes p (x ∷ xs) y e = elim (cases_Bool (p x)) as (λ _. p y ≡ true) [
+found_passes p (x ∷ xs) y e = elim (cases_Bool (p x)) [
   | inl t ↦
       let same : x ≡ y = same_Some x y (sym (ap (λ b. cond b (Some x) (find p xs)) t) ∙ e) in
       sym (ap p same) ∙ t

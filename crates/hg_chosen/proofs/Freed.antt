@@ -1,27 +1,21 @@
 -- A Free of a block that the worker holds, in lists and queues.
 use Rattle.std.proofs.Common.{◌≡◌, ◌≢◌, ℕ, ◌+◌, ◌*◌, ◌-◌, ◌%◌, ◌==◌, ◌<◌, Bool, true, false, List}
-use Rattle.std.proofs.Common.{[], ◌∷◌}
-use Rattle.std.proofs.Common.{refl, sym, ap, ◌∙◌, arith}
+use Rattle.std.proofs.Common.{[], ◌∷◌, refl, sym, ap, ◌∙◌, arith}
 use Rattle.std.specs.Prelude.{Option, Some, None, MatchOption, option_map}
 use Rattle.hg_place.specs.declared.Actor.{Actor}
 use Rattle.hg_place.specs.declared.Handle.{Handle}
-use Rattle.hg_place.specs.declared.Right.TheVariants as right
 use Rattle.hg_place.specs.declared.plain.PlainWords.{PlainWords}
 use Rattle.hg_place.specs.Lives.{IsLiveWord}
 use Rattle.hg_place.specs.Places.{number_of, page_number, page_of, segment_of_page}
 use Rattle.hg_size.specs.Sizes.{number_of_size}
 use Rattle.hg_size.specs.SizeLaws.{key_of}
-use Rattle.hg_segment.specs.Kept.{Kept, lists_at, returned}
-use Rattle.hg_segment.specs.Kept.{class_at as class_in}
+use Rattle.hg_segment.specs.Kept.{Kept, lists_at, returned, class_at as class_in}
 use Rattle.hg_segment.specs.Parted.{plain_number}
 use Rattle.hg_heap.specs.Held.{Held, segment_in, greatest_in, greatest_by, has_place}
 use Rattle.hg_heap.specs.Held.{lists_on as lists_held}
-use Rattle.hg_heap.specs.Queues.{key_by}
-use Rattle.hg_heap.specs.Queues.{key_on as key_held}
+use Rattle.hg_heap.specs.Queues.{key_by, key_on as key_held}
 use Rattle.hg_heap.specs.Requeued.{requeued}
 use Rattle.hg_machine.specs.declared.Answer.{Answer}
-use Rattle.hg_machine.specs.declared.Answer.TheVariants as answer
-use Rattle.hg_machine.specs.declared.Event.TheVariants as event
 use Rattle.hg_machine.specs.declared.Rule.{Rule}
 use Rattle.hg_machine.specs.Denial.{denial}
 use Rattle.hg_machine.specs.Lists.{Lists}
@@ -45,8 +39,10 @@ use Rattle.hg_chosen.specs.Freed.{IsFreed, FreeIsChosen}
 use Rattle.hg_chosen.proofs.CameHome.{home_lists, home_placed, key_told}
 use Rattle.hg_chosen.proofs.CoreQueues.{queues_seen, queues_set}
 use Rattle.hg_chosen.proofs.ListedSwaps.{alike, same_lists}
-use Rattle.hg_chosen.proofs.Same.{one_told, number_kept, lists_one, lists_now, lists_new}
-use Rattle.hg_chosen.proofs.Same.{there}
+use Rattle.hg_chosen.proofs.Same.{one_told, number_kept, lists_one, lists_now, lists_new, there}
+use Rattle.hg_place.specs.declared.Right.TheVariants as right
+use Rattle.hg_machine.specs.declared.Answer.TheVariants as answer
+use Rattle.hg_machine.specs.declared.Event.TheVariants as event
 
 -- an answer that no reason to refuse gives
 
@@ -122,8 +118,7 @@ module _ (core : Core) (worker : ℕ) (actor : Actor) (handle : Handle) (word : 
   greatest_is =
       ap (greatest_in plain_number old) (sym own.stepped.segment)
       ∙ ap (λ (o : Option (Kept PlainWords)). greatest_by plain_number o)
-      (one_told core worker handle.place word (word - 1) (event.Free actor handle) answer.Done heap
-      policy t own)
+      (one_told policy t own)
       ∙ is_right.greatest
 
   place_is : (n * 16 + page) * 512 + index ≡ number_of handle.place
@@ -139,14 +134,12 @@ module _ (core : Core) (worker : ℕ) (actor : Actor) (handle : Handle) (word : 
   one_has : (p : ℕ) → p < 16
       → lists_held plain_number old (n * 16 + p) ≡ lists_at one.lists p
   one_has =
-      lists_one core worker handle.place word (word - 1) (event.Free actor handle) answer.Done heap
-      policy t own
+      lists_one policy t own
 
   now_has : (p : ℕ) → p < 16
       → lists_held plain_number heap.segments (n * 16 + p) ≡ lists_at now.lists p
   now_has =
-      lists_now core worker handle.place word (word - 1) (event.Free actor handle) answer.Done heap
-      policy t own
+      lists_now policy t own
 
   page_is : n * 16 + page ≡ page_number handle.place
   page_is = ap (λ k. k * 16 + page) own.stepped.segment
@@ -173,13 +166,11 @@ module _ (core : Core) (worker : ℕ) (actor : Actor) (handle : Handle) (word : 
 
   is_there : segment_at parts its ≡ Some (plain_from one)
   is_there =
-      there core worker handle.place word (word - 1) (event.Free actor handle) answer.Done heap
-      policy t own
+      there policy t own
 
   number : plain_number now.slots ≡ n
   number =
-      number_kept core worker handle.place word (word - 1) (event.Free actor handle) answer.Done
-      heap policy t own
+      number_kept policy t own
 
   abbrev with_now : Lists
   with_now = lists_of (with_segment parts its (plain_from now) core.hands)
@@ -202,8 +193,7 @@ module _ (core : Core) (worker : ℕ) (actor : Actor) (handle : Handle) (word : 
   pub lists : lists_of (parts_of (with_heap core worker heap))
       ≡ came_home s (lists_of parts) (number_of handle.place)
   lists =
-      lists_new core worker handle.place word (word - 1) (event.Free actor handle) answer.Done heap
-      policy t own
+      lists_new policy t own
       ∙ now_lists
 
   -- the page's key
@@ -217,8 +207,7 @@ module _ (core : Core) (worker : ℕ) (actor : Actor) (handle : Handle) (word : 
       ∙ ap (λ k. key_by plain_number (segment_in plain_number old k) ((n * 16 + page) % 16))
       own_page
       ∙ ap (λ (o : Option (Kept PlainWords)). key_by plain_number o ((n * 16 + page) % 16))
-      (one_told core worker handle.place word (word - 1) (event.Free actor handle) answer.Done heap
-      policy t own)
+      (one_told policy t own)
       ∙ ap (λ p. option_map (λ size. key_of one.arena (number_of_size size))
       (class_in one.classes p)) m)
       ∙ freed.queues.1

@@ -1,7 +1,7 @@
 -- The lists of a core of which one heap has changed.
 use Rattle.std.proofs.Common.{◌≡◌, ◌≢◌, ℕ, ◌*◌, ◌%◌, ◌<◌, inl, inr, Bool, true, false, [], List}
-use Rattle.std.proofs.Common.{map, length, get_or, set, Option, Some, None, refl, sym, ap, ◌∙◌}
-use Rattle.std.proofs.Common.{arith, find, is_some}
+use Rattle.std.proofs.Common.{map, length, set, Option, Some, None, refl, sym, ap, ◌∙◌, arith, find}
+use Rattle.std.proofs.Common.{is_some}
 use Rattle.std.proofs.Math.Path.{fun_ext}
 use Rattle.std.specs.List.{range_with_len}
 use Rattle.std.specs.Option.{option_map}
@@ -14,8 +14,7 @@ use Rattle.hg_place.specs.Places.{segment_of_page}
 use Rattle.hg_page.specs.PageLists.{PageLists}
 use Rattle.hg_segment.specs.Kept.{Kept}
 use Rattle.hg_segment.specs.Parted.{plain_number}
-use Rattle.hg_heap.specs.Held.{Held, segment_in, is_held, KeepsLists}
-use Rattle.hg_heap.specs.Held.{lists_on as lists_in}
+use Rattle.hg_heap.specs.Held.{Held, segment_in, is_held, KeepsLists, lists_on as lists_in}
 use Rattle.hg_heap.specs.Held.{lists_by as lists_had}
 use Rattle.hg_heap.proofs.Options.{none_is}
 use Rattle.hg_agreement.specs.Parts.{Plain, Parts, plain_of, plain_by, plain_from, worker_of}
@@ -79,8 +78,7 @@ one_changed F G n page others =
     let put = length-set (map G (range_with_len 0 n)) page (F page) in
     same_lists _ _ (long ∙ sym (put ∙ short)) λ k d below.
     let inside : k < n = omega (arith, below, long) in
-    elim (cases_eq k page) as (λ _. get_or (map F (range_with_len 0 n)) k d
-    ≡ get_or (set (map G (range_with_len 0 n)) page (F page)) k d) [
+    elim (cases_eq k page) [
       | inl here ↦
           get_or-map-range_with_len F 0 n k k d inside (omega arith)
           ∙ ap F here
@@ -117,9 +115,7 @@ module _ (core : Core) (worker : ℕ) (heap : Held PlainWords) (t : IsTidy (part
       ≡ has (holdings (heap_at parts other)) n
   had_same n other =
       had_held (with_heap core worker heap) other n
-      ∙ elim (cases_eq other worker) as (λ _. is_held plain_number
-      (heap_of (with_heap core worker heap) other).segments n
-      ≡ is_held plain_number (heap_of core other).segments n) [
+      ∙ elim (cases_eq other worker) [
         | inl same ↦
             ap (λ w. is_held plain_number (heap_of (with_heap core worker heap) w).segments n) same
             ∙ ap (λ h. is_held plain_number h.segments n) (heap_now core worker heap below)
@@ -153,9 +149,7 @@ module _ (core : Core) (worker : ℕ) (heap : Held PlainWords) (t : IsTidy (part
       by None = refl
       by (Some other) =
           ap (find (is_of n)) (heap_told (with_heap core worker heap) other)
-          ∙ elim (cases_eq other worker) as (λ _. find (is_of n)
-          (map plain_from (heap_of (with_heap core worker heap) other).segments)
-          ≡ find (is_of n) (map plain_from (heap_of core other).segments)) [
+          ∙ elim (cases_eq other worker) [
             | inl same ↦
                 ap (λ w. find (is_of n) (map plain_from (heap_of (with_heap core worker heap)
                 w).segments)) same

@@ -5,6 +5,9 @@ pub mod ChoiceTold
 pub mod Filters
 pub mod Numbered
 pub mod HeldSame
+mod PoppedLists
+mod AllocPage
+mod AllocLists
 pub mod Allots
 pub mod ListedSwaps
 pub mod CoreQueues

@@ -1,7 +1,7 @@
 -- The lists of a core's parts where a segment has changed where it stands.
 use Rattle.std.proofs.Common.{◌≡◌, ◌≢◌, ℕ, ◌+◌, ◌*◌, ◌%◌, ◌<◌, ◌≤◌, Bool, true, false, nat_eq}
-use Rattle.std.proofs.Common.{nat_lt, List, [], ◌∷◌, ◌++◌, length, map, count_by, slice_set}
-use Rattle.std.proofs.Common.{refl, sym, ap, ◌∙◌, arith, inl, inr}
+use Rattle.std.proofs.Common.{nat_lt, List, [], ◌∷◌, ◌++◌, length, map, count_by, slice_set, refl}
+use Rattle.std.proofs.Common.{sym, ap, ◌∙◌, arith, inl, inr}
 use Rattle.std.specs.Prelude.{Option, Some}
 use Rattle.std.specs.List.{range_with_len}
 use Rattle.std.proofs.lemmas.Bool.{cases_eq}
@@ -13,8 +13,7 @@ use Rattle.hg_heap.specs.Held.{has_place, is_some_place}
 use Rattle.hg_machine.specs.State.{Holder}
 use Rattle.hg_machine.specs.Lists.{Lists, list_at}
 use Rattle.hg_agreement.specs.Parts.{Plain, Parts, plain_of, lists_by, lists_of, free_of, local_of}
-use Rattle.hg_agreement.specs.Parts.{places_from}
-use Rattle.hg_agreement.specs.Parts.{lists_on as lists_in}
+use Rattle.hg_agreement.specs.Parts.{places_from, lists_on as lists_in}
 use Rattle.hg_agreement.proofs.Lookups.{maps, map_set}
 use Rattle.hg_agreement.proofs.Told.{segments_are_told}
 use Rattle.hg_parts.specs.Rights.{segments_in, is_numbered}
@@ -177,8 +176,7 @@ module _ (parts : Parts) (spot : Spot) (one : Plain) (hands : List (Option ℕ))
       → ((page : ℕ) → page < 16 → lists_at now.lists page ≡ lists_at one.lists page)
       → (page : ℕ) → lists_in (with_one now) page ≡ lists_in parts page
   same_lists now number keeps page =
-      elim (cases_eq (segment_of_page page) n)
-      as (λ _. lists_in (with_one now) page ≡ lists_in parts page) [
+      elim (cases_eq (segment_of_page page) n) [
         | inl e ↦
             lists_here now number page e ∙ keeps (page % 16) (omega arith)
             ∙ sym (lists_before page e)
@@ -195,8 +193,7 @@ module _ (parts : Parts) (spot : Spot) (one : Plain) (hands : List (Option ℕ))
 
     off_page : (p : ℕ) → p ≢ q → lists_in (with_one now) p ≡ lists_in (with_one mid) p
     off_page p ne =
-        elim (cases_eq (segment_of_page p) n)
-        as (λ _. lists_in (with_one now) p ≡ lists_in (with_one mid) p) [
+        elim (cases_eq (segment_of_page p) n) [
           | inl e ↦
               lists_here now number p e
               ∙ keeps (p % 16) (omega arith) (λ f. ne (omega (arith, e, f)))

@@ -69,9 +69,7 @@ module _ (parts : Parts) (n : ℕ) (low : n < length parts.policy.segments)
       let told : list_at threads page ≡ thread_of parts page =
       get_or-map-range_with_len (thread_of parts) 0 (count * 16) page page []
       (omega (arith, below)) (omega arith) in
-      elim (cases_eq (segment_of_page page) n)
-      as (λ _. thread_of emptied page
-      ≡ cond (segment_of_page page == n) [] (list_at threads page)) [
+      elim (cases_eq (segment_of_page page) n) [
         | inl e ↦
             threads_here page e
             ∙ sym (ap (λ b. cond b [] (list_at threads page)) (eq-eqb (segment_of_page page) n e))

@@ -14,11 +14,9 @@ use Rattle.hg_machine.specs.Policy.{arena_of}
 use Rattle.hg_machine.specs.SoundPolicy.{IsSoundPolicy}
 use Rattle.hg_machine.specs.State.{class_at as class_of_page}
 use Rattle.hg_machine.specs.Lists.{Lists, list_at}
-use Rattle.hg_heap.specs.Held.{segment_in, has_place, is_some_place}
-use Rattle.hg_heap.specs.Held.{lists_on as lists_in}
+use Rattle.hg_heap.specs.Held.{segment_in, has_place, is_some_place, lists_on as lists_in}
 use Rattle.hg_heap.specs.Held.{lists_by as lists_had}
-use Rattle.hg_heap.specs.Queues.{key_by}
-use Rattle.hg_heap.specs.Queues.{key_on as key_in}
+use Rattle.hg_heap.specs.Queues.{key_by, key_on as key_in}
 use Rattle.hg_heap.proofs.ViewRoom.{found_one}
 use Rattle.hg_agreement.specs.Parts.{state_of, lists_of, places_from}
 use Rattle.hg_parts.specs.Tidy.{IsTidy}

@@ -1,6 +1,6 @@
 -- A Free of a block of a segment that the worker doesn't hold leaves all lists and queues.
-use Rattle.std.proofs.Common.{◌≡◌, ℕ, ◌≤◌, List, map, slice_get, slice_set}
-use Rattle.std.proofs.Common.{refl, sym, ap, ◌∙◌, inl, inr}
+use Rattle.std.proofs.Common.{◌≡◌, ℕ, ◌≤◌, List, map, slice_get, slice_set, refl, sym, ap, ◌∙◌, inl}
+use Rattle.std.proofs.Common.{inr}
 use Rattle.std.specs.Prelude.{Some, Option}
 use Rattle.std.proofs.lemmas.List.{map-set}
 use Rattle.hg_place.specs.declared.Place.{Place}
@@ -119,9 +119,7 @@ module _ (core : Core) (worker : ℕ) (place : Place) (word : ℕ) (pool : Poole
   pool_lists =
       ap (λ (p : Pooled PlainWords). pooled (map plain_from p.orphans) (map plain_from p.fresh))
       is.now
-      ∙ elim (stands_pooled core n is.before t is.there)
-      as (λ _. pooled (map plain_from (replaced plain_number n is.after os))
-      (map plain_from (replaced plain_number n is.after fs)) ≡ lists_of (parts_of core)) [
+      ∙ elim (stands_pooled core n is.before t is.there) [
         | inl among ↦
             ap (λ xs. pooled xs (map plain_from (replaced plain_number n is.after fs)))
             (one_is os among.at among.there among.few)

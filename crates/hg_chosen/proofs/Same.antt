@@ -1,7 +1,7 @@
 -- Calls of a worker on its own heap that leave all lists and queues: each is a step with its
 -- choices.
-use Rattle.std.proofs.Common.{◌≡◌, ℕ, ◌+◌, ◌*◌, ◌%◌, ◌<◌, List, map, slice_set, sym, ap, ◌∙◌}
-use Rattle.std.proofs.Common.{arith, length}
+use Rattle.std.proofs.Common.{◌≡◌, ℕ, ◌+◌, ◌*◌, ◌%◌, ◌<◌, List, map, slice_set, sym, ap, ◌∙◌, arith}
+use Rattle.std.proofs.Common.{length}
 use Rattle.std.specs.Prelude.{Some, Option}
 use Rattle.std.proofs.lemmas.List.{map-set}
 use Rattle.hg_place.specs.declared.Place.{Place}
@@ -9,27 +9,26 @@ use Rattle.hg_place.specs.declared.plain.PlainWords.{PlainWords}
 use Rattle.hg_place.specs.Places.{segment_of_page}
 use Rattle.hg_segment.specs.Kept.{Kept, lists_at}
 use Rattle.hg_segment.specs.Parted.{plain_number}
-use Rattle.hg_heap.specs.Held.{Held, segment_in, KeepsLists}
-use Rattle.hg_heap.specs.Held.{lists_on as lists_held, lists_by as lists_from}
+use Rattle.hg_heap.specs.Held.{Held, segment_in, KeepsLists, lists_on as lists_held}
+use Rattle.hg_heap.specs.Held.{lists_by as lists_from}
 use Rattle.hg_machine.specs.declared.Answer.{Answer}
-use Rattle.hg_machine.specs.declared.Answer.TheVariants as answer
 use Rattle.hg_machine.specs.declared.Event.{Event}
-use Rattle.hg_machine.specs.declared.Event.TheVariants as event
 use Rattle.hg_machine.specs.Lists.{Lists}
 use Rattle.hg_machine.specs.SoundPolicy.{IsSoundPolicy}
-use Rattle.hg_heap.specs.Answers.{read_answer, done_answer, row_answer, list_denial}
+use Rattle.hg_heap.specs.Answers.{row_answer, list_denial}
 use Rattle.hg_agreement.specs.Parts.{Plain, Parts, plain_from, lists_of, kept_of}
 use Rattle.hg_parts.specs.Spots.{Spot, in_heap, segment_at, with_segment}
 use Rattle.hg_parts.specs.Tidy.{IsTidy}
 use Rattle.hg_events.specs.Core.{Core, parts_of, heap_of}
 use Rattle.hg_events.specs.Own.{with_heap, IsOwnCall}
 use Rattle.hg_events.proofs.CoreHeaps.{heap_is, spot}
-use Rattle.hg_events.proofs.OwnCall.{one_in, now_in, number}
+use Rattle.hg_events.proofs.OwnStepped.{one_in, now_in, number}
 use Rattle.hg_events.proofs.OwnSteps.{read_is_step, write_is_step, look_is_step, free_is_denied}
-use Rattle.hg_chosen.specs.Same.{ReadIsChosen, WriteIsChosen, LookIsChosen}
-use Rattle.hg_chosen.specs.Same.{DeniedFreeIsChosen}
+use Rattle.hg_chosen.specs.Same.{ReadIsChosen, WriteIsChosen, LookIsChosen, DeniedFreeIsChosen}
 use Rattle.hg_chosen.proofs.CoreQueues.{queues_same}
 use Rattle.hg_chosen.proofs.ListedSwaps.{alike, same_lists}
+use Rattle.hg_machine.specs.declared.Answer.TheVariants as answer
+use Rattle.hg_machine.specs.declared.Event.TheVariants as event
 
 -- the heap of a core with another of its segments at an index
 pub heap_set : (core : Core) (worker found : ℕ) (heap : Held PlainWords) (now : Kept PlainWords)
@@ -45,8 +44,8 @@ heap_set core worker found heap now below e =
     ∙ ap (λ (h : List Plain). slice_set h found (plain_from now))
     (sym (heap_is core worker below)))
 
-module _ (core : Core) (worker : ℕ) (place : Place) (word left : ℕ) (e : Event) (a : Answer)
-    (heap : Held PlainWords) (policy : IsSoundPolicy core.policy) (t : IsTidy (parts_of core))
+module _ {core : Core} {worker : ℕ} {place : Place} {word left : ℕ} {e : Event} {a : Answer}
+    {heap : Held PlainWords} (policy : IsSoundPolicy core.policy) (t : IsTidy (parts_of core))
     (own : IsOwnCall core worker place word left e a heap) where
   abbrev parts : Parts
   parts = parts_of core
@@ -67,15 +66,15 @@ module _ (core : Core) (worker : ℕ) (place : Place) (word left : ℕ) (e : Eve
   its = in_heap worker own.stepped.found
 
   pub one_told : segment_in plain_number old n ≡ Some one
-  one_told = one_in core worker place word left heap policy t own.below own.stepped own.settled
+  one_told = one_in policy t own
 
   pub number_kept : plain_number now.slots ≡ n
-  number_kept = number core worker place word left heap policy t own.below own.stepped own.settled
+  number_kept = number policy t own
 
   pub now_told : segment_in plain_number heap.segments n ≡ Some now
   now_told =
       ap (segment_in plain_number heap.segments) (sym number_kept)
-      ∙ now_in core worker place word left heap policy t own.below own.stepped own.settled
+      ∙ now_in policy t own
 
   -- the lists of a page of the segment, before and after
   pub lists_one : (page : ℕ) → page < 16
@@ -127,9 +126,7 @@ pub read_is_chosen : ReadIsChosen
 read_is_chosen core worker actor handle index word result heap policy t own same = record {
   step = (read_is_step core worker actor handle index word result heap policy t own).0;
   chosen = tt;
-  lists =
-      lists_same core worker handle.place word word (event.Read actor handle index)
-      (read_answer result) heap policy t own same.lists;
+  lists = lists_same policy t own same.lists;
   queues = queues_same core worker heap same.queues;
 }
 
@@ -137,9 +134,7 @@ pub write_is_chosen : WriteIsChosen
 write_is_chosen core worker actor handle index value word result heap policy t own same = record {
   step = (write_is_step core worker actor handle index value word result heap policy t own).0;
   chosen = tt;
-  lists =
-      lists_same core worker handle.place word word (event.Write actor handle index value)
-      (done_answer result) heap policy t own same.lists;
+  lists = lists_same policy t own same.lists;
   queues = queues_same core worker heap same.queues;
 }
 
@@ -147,9 +142,7 @@ pub look_is_chosen : LookIsChosen
 look_is_chosen core worker actor place word row heap policy t own same = record {
   step = (look_is_step core worker actor place word row heap policy t own).0;
   chosen = tt;
-  lists =
-      lists_same core worker place word word (event.Look actor place)
-      (row_answer row (list_denial core.policy actor place word)) heap policy t own same.lists;
+  lists = lists_same policy t own same.lists;
   queues = queues_same core worker heap same.queues;
 }
 
@@ -157,8 +150,6 @@ pub denied_free_is_chosen : DeniedFreeIsChosen
 denied_free_is_chosen core worker actor handle word rule heap policy t own same = record {
   step = (free_is_denied core worker actor handle word rule heap policy t own).0;
   chosen = tt;
-  lists =
-      lists_same core worker handle.place word word (event.Free actor handle)
-      (answer.Denied rule) heap policy t own same.lists;
+  lists = lists_same policy t own same.lists;
   queues = queues_same core worker heap same.queues;
 }

@@ -8,8 +8,7 @@ use Rattle.std.proofs.lemmas.Grind.{get_or-set_at}
 use Rattle.std.proofs.lemmas.List.{length-map, get_or-set_other, set-get_or}
 use Rattle.hg_place.specs.declared.Place.{Place}
 use Rattle.hg_place.specs.Places.{number_of, segment_of, page_of, index_of, segment_of_page}
-use Rattle.hg_remote.specs.Remote.{Remote, IsRight, slot, is_delayed}
-use Rattle.hg_remote.specs.Remote.{thread_at as thread_in}
+use Rattle.hg_remote.specs.Remote.{Remote, IsRight, slot, is_delayed, thread_at as thread_in}
 use Rattle.hg_remote.specs.Sends.{sent, with_thread}
 use Rattle.hg_machine.specs.Lists.{Lists, list_at}
 use Rattle.hg_agreement.specs.Parts.{Parts, remote_at, thread_at, thread_of, delayed_of, lists_of}
@@ -18,8 +17,7 @@ use Rattle.hg_agreement.proofs.Lookups.{map_set}
 use Rattle.hg_agreement.proofs.Told.{remotes_are_told}
 use Rattle.hg_parts.specs.Rights.{list_of, remote_from}
 use Rattle.hg_parts.specs.Tidy.{IsTidy}
-use Rattle.hg_choice.specs.ListsAfter.{delivered as delivered_to}
-use Rattle.hg_choice.specs.ListsAfter.{remote_of as remote_in}
+use Rattle.hg_choice.specs.ListsAfter.{delivered as delivered_to, remote_of as remote_in}
 use Rattle.hg_events.specs.Core.{Core, parts_of}
 use Rattle.hg_events.specs.Delivered.{IsInHand, delivered, remote_of, nothing_there}
 use Rattle.hg_events.proofs.Delivered.{hand_is_unsent, deliver_is_served}
@@ -35,7 +33,7 @@ any_moved segment page (x ∷ xs) =
     let far = page_of (segment * 8192 + x) in
     let p = segment * 16 + page in
     let here : (far == p) ≡ (page_of x == page) =
-    elim (cases_eq (page_of x) page) as (λ _. (far == p) ≡ (page_of x == page)) [
+    elim (cases_eq (page_of x) page) [
       | inl e ↦ eq-eqb far p (omega (arith, e)) ∙ sym (eq-eqb (page_of x) page e)
       | inr ne ↦ ne_eqb far p (λ e. ne (omega (arith, e))) ∙ sym (ne_eqb (page_of x) page ne)
     ] in
@@ -209,7 +207,7 @@ module _ (core : Core) (worker : ℕ) (place : Place) (remote : Remote) (t : IsT
 
   thread_other : (k : ℕ) → k ≢ p → thread_of new k ≡ thread_of parts k
   thread_other k ne =
-      elim (cases_eq (segment_of_page k) n) as (λ _. thread_of new k ≡ thread_of parts k) [
+      elim (cases_eq (segment_of_page k) n) [
         | inl e ↦
             thread_at_page new k e
             ∙ ap (λ (r : Remote). places_from (n * 8192) (thread_in r (k % 16)))

@@ -1,11 +1,10 @@
 -- A Take of a core, in lists and queues.
-use Rattle.std.proofs.Common.{◌≡◌, ℕ, ◌*◌, ◌==◌, ◌<◌, Bool, true, false, cond, not}
-use Rattle.std.proofs.Common.{List, [], ◌∷◌, length, map, slice_get, slice_set}
-use Rattle.std.proofs.Common.{refl, sym, ap, ◌∙◌, subst, count_by}
+use Rattle.std.proofs.Common.{◌≡◌, ℕ, ◌*◌, ◌==◌, ◌<◌, Bool, true, false, cond, not, List, [], ◌∷◌}
+use Rattle.std.proofs.Common.{length, map, slice_get, slice_set, refl, sym, ap, ◌∙◌, subst}
+use Rattle.std.proofs.Common.{count_by}
 use Rattle.std.specs.Prelude.{Some, MatchOption}
 use Rattle.std.specs.List.{position_or_len}
-use Rattle.std.proofs.lemmas.List.{map-set}
-use Rattle.std.proofs.lemmas.List.{length-set}
+use Rattle.std.proofs.lemmas.List.{map-set, length-set}
 use Rattle.std.proofs.lemmas.Grind.{get_or-set_at}
 use Rattle.std.proofs.lemmas.Option.{slice_get-get_or, slice_get_within}
 use Rattle.std.proofs.lemmas.List.Folds.{find_at}
@@ -18,8 +17,6 @@ use Rattle.hg_heap.specs.Held.{Held, is_of, segment_in}
 use Rattle.hg_heap.proofs.Founds.{Contains-get, Found, passes}
 use Rattle.hg_heap.proofs.Options.{some_of}
 use Rattle.hg_machine.specs.declared.Answer.{Answer}
-use Rattle.hg_machine.specs.declared.Answer.TheVariants as answer
-use Rattle.hg_machine.specs.declared.Event.TheVariants as event
 use Rattle.hg_machine.specs.First.{first_of}
 use Rattle.hg_machine.specs.Lists.{Lists, list_at}
 use Rattle.hg_machine.specs.SoundPolicy.{IsSoundPolicy}
@@ -28,8 +25,7 @@ use Rattle.hg_machine.specs.Steps.{Step}
 use Rattle.hg_machine.specs.Sweeps.{is_sent_to}
 use Rattle.hg_machine.specs.Holders.{holds}
 use Rattle.hg_agreement.specs.Parts.{Plain, Parts, plain_from, lists_of, kept_of, state_of}
-use Rattle.hg_agreement.specs.Parts.{places_from}
-use Rattle.hg_agreement.specs.Parts.{Remote as PartsRemote}
+use Rattle.hg_agreement.specs.Parts.{places_from, Remote as PartsRemote}
 use Rattle.hg_agreement.proofs.Listed.{sent_are_listed}
 use Rattle.hg_parts.specs.Rights.{remote_from, IsSegmentRight}
 use Rattle.hg_parts.specs.Spots.{Spot, in_heap, segment_at, with_segment}
@@ -39,21 +35,21 @@ use Rattle.hg_choice.specs.Choice.{queues_of}
 use Rattle.hg_choice.specs.ListsAfter.{all_home, taken, remote_of}
 use Rattle.hg_choice.specs.QueuesAfter.{all_placed}
 use Rattle.hg_events.specs.Core.{Core, parts_of, heap_of}
-use Rattle.hg_events.specs.Take.{with_taken, IsTaking}
-use Rattle.hg_events.specs.Take.{remote_of as remote_in}
+use Rattle.hg_events.specs.Take.{with_taken, IsTaking, remote_of as remote_in}
 use Rattle.hg_events.proofs.CoreHeaps.{spot, one_right, inside}
 use Rattle.hg_events.proofs.Taking.{taking_is_take}
 use Rattle.hg_events.proofs.Told.{held_once}
 use Rattle.hg_chosen.specs.Taken.{TakeIsChosen}
 use Rattle.hg_chosen.proofs.Comes.{K, HaveComeIn, all_in, as_many_lists}
 use Rattle.hg_chosen.proofs.CoreQueues.{queues_seen, queues_set}
-use Rattle.hg_chosen.proofs.Drained.{drained_below, drained_length}
-use Rattle.hg_chosen.proofs.Drained.{drained_told}
+use Rattle.hg_chosen.proofs.Drained.{drained_below, drained_length, drained_told}
 use Rattle.hg_chosen.proofs.ListedSwaps.{alike, same_lists}
 use Rattle.hg_chosen.proofs.NothingSent.{home_threads, home_delayed, emptied, thread_lists}
 use Rattle.hg_chosen.proofs.NothingSent.{delayed_lists}
 use Rattle.hg_chosen.proofs.Same.{heap_set}
 use Rattle.hg_chosen.proofs.TakenLists.{IsAfter, lists_with, lists_all}
+use Rattle.hg_machine.specs.declared.Answer.TheVariants as answer
+use Rattle.hg_machine.specs.declared.Event.TheVariants as event
 
 -- what is answered where the worker holds the segment
 held_count : (held : Bool) (count all : ℕ) (P : Type 0) (Q : Answer → Type 0)

@@ -1,6 +1,6 @@
 -- Places of a worker's segment that come home one after the other, in lists and queues.
-use Rattle.std.proofs.Common.{◌≡◌, ◌≢◌, ℕ, ◌+◌, ◌*◌, ◌==◌, ◌<◌, Bool, List, [], ◌∷◌}
-use Rattle.std.proofs.Common.{length, refl, sym, ap, ◌∙◌, arith, inl, inr, slice_set}
+use Rattle.std.proofs.Common.{◌≡◌, ◌≢◌, ℕ, ◌+◌, ◌*◌, ◌==◌, ◌<◌, Bool, List, [], ◌∷◌, length, refl}
+use Rattle.std.proofs.Common.{sym, ap, ◌∙◌, arith, inl, inr, slice_set}
 use Rattle.std.specs.Prelude.{Option, Some, option_map}
 use Rattle.std.proofs.lemmas.Bool.{cases_eq}
 use Rattle.std.proofs.lemmas.List.{get_or-set_other, get_or-set_same, length-set}
@@ -148,10 +148,7 @@ module _ (parts : Parts) (spot : Spot) (one : K) (hands : List (Option ℕ)) (t 
           let g : ℕ = standing_generation (standing_at (plain_records mid.slots)
           (slot page index)) in
           ap (λ rs. standing_generation (standing_at rs at)) c.went.took.home
-          ∙ elim (cases_eq at (slot page index))
-          as (λ _. standing_generation (standing_at (slice_set (plain_records mid.slots)
-          (slot page index) (Home g)) at)
-          ≡ standing_generation (standing_at (plain_records mid.slots) at)) [
+          ∙ elim (cases_eq at (slot page index)) [
             | inl e ↦
                 ap (λ k. standing_generation (standing_at (slice_set (plain_records mid.slots)
                 (slot page index) (Home g)) k)) e

@@ -1,6 +1,6 @@
 -- A worker gives up a segment.
-use Rattle.std.proofs.Common.{◌≡◌, ℕ, ◌<◌, [], ◌∷◌, ◌++◌, Some, None, slice_index_or}
-use Rattle.std.proofs.Common.{slice_set, refl, sym, ap, subst, ◌∙◌}
+use Rattle.std.proofs.Common.{◌≡◌, ℕ, ◌<◌, [], ◌∷◌, ◌++◌, Some, None, slice_index_or, slice_set}
+use Rattle.std.proofs.Common.{refl, sym, ap, subst, ◌∙◌}
 use Rattle.std.specs.Box.{boxed_slice_items, boxed_slice_with_item}
 use Rattle.std.proofs.lemmas.List.{length-set}
 use Rattle.hg_place.specs.declared.plain.PlainWords.{PlainWords}
@@ -9,8 +9,6 @@ use Rattle.hg_segment.specs.Parted.{plain_number}
 use Rattle.hg_pool.specs.Pooled.{Pooled, IsPooled}
 use Rattle.hg_heap.specs.Held.{Held, segment_in}
 use Rattle.hg_heap.specs.Releasing.{without_segment, without_pages}
-use Rattle.hg_machine.specs.declared.Event.TheVariants as event
-use Rattle.hg_machine.specs.declared.Answer.TheVariants as answer
 use Rattle.hg_machine.specs.State.{State, orphan}
 use Rattle.hg_machine.proofs.Answered.{state_is_determined}
 use Rattle.hg_events.specs.Core.{Core, heap_of}
@@ -23,6 +21,8 @@ use Rattle.hg_core.specs.Stored.{core_of, IsStored}
 use Rattle.hg_core.proofs.After.{IsAfter, after_moved, after_refused, heap_read, heap_below}
 use Rattle.hg_core.proofs.After.{put_back}
 use Rattle.hg_core.proofs.HoldersKept.{holders_abandoned}
+use Rattle.hg_machine.specs.declared.Event.TheVariants as event
+use Rattle.hg_machine.specs.declared.Answer.TheVariants as answer
 
 module _ (a : Inside) (s : Core) (at worker segment : ℕ) (old : Held PlainWords)
     (view : core_of a ≡ s) (stored : IsStored a) (below : worker < s.policy.workers)

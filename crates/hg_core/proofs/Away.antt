@@ -1,17 +1,13 @@
 -- Blocks of a segment that the worker doesn't hold.
-use Rattle.std.proofs.Common.{◌≡◌, ℕ, ◌<◌, true, false, refl, sym, subst}
-use Rattle.std.proofs.Common.{◌∙◌}
+use Rattle.std.proofs.Common.{◌≡◌, ℕ, ◌<◌, true, false, refl, sym, subst, ◌∙◌}
 use Rattle.hg_place.specs.declared.Actor.{Actor}
 use Rattle.hg_place.specs.declared.Handle.{Handle}
 use Rattle.hg_place.specs.declared.Place.{Place}
-use Rattle.hg_place.specs.declared.Right.TheVariants as right
 use Rattle.hg_heap.specs.declared.refused.Refused.{Refused}
-use Rattle.hg_heap.specs.declared.refused.Refused.TheVariants as refused
 use Rattle.hg_heap.specs.Answers.{refused_answer, away_answer, list_denial}
 use Rattle.hg_heap.specs.Reading.{use_denial}
 use Rattle.hg_machine.specs.declared.Answer.{Answer}
 use Rattle.hg_machine.specs.declared.Event.{Event}
-use Rattle.hg_machine.specs.declared.Event.TheVariants as event
 use Rattle.hg_machine.specs.Holders.{holds}
 use Rattle.hg_machine.specs.Steps.{Step}
 use Rattle.hg_laws.specs.Asked.{is_refusal}
@@ -23,14 +19,14 @@ use Rattle.hg_chosen.specs.Chosen.{IsChosenBy}
 use Rattle.hg_chosen.proofs.Refusals.{refused_is_chosen}
 use Rattle.hg_core.specs.Keeping.{state_in, IsKept}
 use Rattle.hg_core.proofs.After.{heap_below}
+use Rattle.hg_place.specs.declared.Right.TheVariants as right
+use Rattle.hg_heap.specs.declared.refused.Refused.TheVariants as refused
+use Rattle.hg_machine.specs.declared.Event.TheVariants as event
 
 -- each refusal of a heap is answered by one
 pub answers_refusal : (why : Refused) → is_refusal (refused_answer why) ≡ true
 answers_refusal (refused.Denied rule) = refl
-answers_refusal refused.TooLarge = refl
-answers_refusal refused.NoRoom = refl
-answers_refusal refused.Elsewhere = refl
-answers_refusal refused.OutOfBlock = refl
+answers_refusal _ = refl
 
 -- so a step that it refuses is one with its choices
 pub refused_by_heap : (s : Core) (worker : ℕ) (e : Event) (why : Refused)

@@ -1,7 +1,7 @@
 -- What counts against a tenant's limit with a worker is what its heap tells.
-use Rattle.std.proofs.Common.{◌≡◌, ℕ, ◌/◌, ◌==◌, ◌<◌, ◌≤◌, ◌&&◌, Bool, false, not, cond, List}
-use Rattle.std.proofs.Common.{[], ◌∷◌, map, length, slice_index_or, Contains, None, inl, inr, refl}
-use Rattle.std.proofs.Common.{sym, ap, subst, ◌∙◌, arith}
+use Rattle.std.proofs.Common.{◌≡◌, ℕ, ◌/◌, ◌==◌, ◌<◌, ◌≤◌, ◌&&◌, Bool, false, not, cond, List, []}
+use Rattle.std.proofs.Common.{◌∷◌, map, length, slice_index_or, Contains, None, inl, inr, refl, sym}
+use Rattle.std.proofs.Common.{ap, subst, ◌∙◌, arith}
 use Rattle.std.specs.Box.{boxed_slice_items}
 use Rattle.std.proofs.lemmas.Bool.{cases_lt, ne_eqb}
 use Rattle.std.proofs.lemmas.List.Sums.{sum_by-cons}
@@ -23,7 +23,6 @@ use Rattle.hg_heap.specs.Settled.{IsSettled}
 use Rattle.hg_heap.specs.Ties.{heap_view}
 use Rattle.hg_heap.proofs.ViewCharges.{view_charge}
 use Rattle.hg_machine.specs.Charge.{charge}
-use Rattle.hg_machine.specs.Charge as machine
 use Rattle.hg_machine.specs.Holders.{is_held_by}
 use Rattle.hg_machine.specs.Life.{is_home as is_life_home, owner_of, bytes_of}
 use Rattle.hg_machine.specs.State.{State, Holder, fresh, orphan, held, holder_at, record_at}
@@ -36,6 +35,7 @@ use Rattle.hg_core.specs.declared.stores.Stores.TheInside.{Inside}
 use Rattle.hg_core.specs.Keeping.{state_in, IsKept}
 use Rattle.hg_core.specs.Stored.{core_of, IsStored}
 use Rattle.hg_core.proofs.After.{heap_read, heap_below}
+use Rattle.hg_machine.specs.Charge as machine
 
 -- no place has an owner whose number no tenant may have
 module _ (tenant : ℕ) (past : 64 ≤ tenant) where
@@ -70,7 +70,7 @@ heap_told : (segments : List (Kept PlainWords)) (tenant told : ℕ)
     → (tenant < 64 → told ≡ charge_in plain_records segments tenant)
     → (¬ tenant < 64 → told ≡ 0) → told ≡ charge_in plain_records segments tenant
 heap_told segments tenant told counted nobody =
-    elim (cases_lt tenant 64) as (λ _. told ≡ charge_in plain_records segments tenant) [
+    elim (cases_lt tenant 64) [
       | inl lt ↦ counted lt
       | inr ge ↦
           nobody (λ lt. omega (arith, lt, ge)) ∙ sym (none_charged tenant ge segments)

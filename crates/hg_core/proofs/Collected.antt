@@ -1,6 +1,6 @@
 -- A worker's heap is collected.
-use Rattle.std.proofs.Common.{◌≡◌, ℕ, ◌<◌, length, slice_index_or, Contains, refl, sym, ap}
-use Rattle.std.proofs.Common.{subst, ◌∙◌}
+use Rattle.std.proofs.Common.{◌≡◌, ℕ, ◌<◌, length, slice_index_or, Contains, refl, sym, ap, subst}
+use Rattle.std.proofs.Common.{◌∙◌}
 use Rattle.std.specs.Box.{boxed_slice_items, boxed_slice_with_item}
 use Rattle.hg_place.specs.declared.plain.PlainWords.{PlainWords}
 use Rattle.hg_place.specs.Plain.{plain_records}
@@ -9,8 +9,6 @@ use Rattle.hg_segment.specs.Parted.{plain_number}
 use Rattle.hg_heap.specs.Held.{Held}
 use Rattle.hg_heap.specs.Idle.{idle_pages, Collected, IdleAreOut}
 use Rattle.hg_heap.specs.Settled.{IsSettled}
-use Rattle.hg_machine.specs.declared.Event.TheVariants as event
-use Rattle.hg_machine.specs.declared.Answer.TheVariants as answer
 use Rattle.hg_events.specs.Core.{Core, heap_of}
 use Rattle.hg_events.specs.Collects.{with_collected, IsCollected}
 use Rattle.hg_events.proofs.Collects.{collect_is_step}
@@ -18,6 +16,8 @@ use Rattle.hg_chosen.proofs.Emptied.{collect_is_chosen}
 use Rattle.hg_core.specs.declared.stores.Stores.TheInside.{Inside}
 use Rattle.hg_core.specs.Stored.{core_of, IsStored}
 use Rattle.hg_core.proofs.After.{IsAfter, after_still, heap_read, heap_below}
+use Rattle.hg_machine.specs.declared.Event.TheVariants as event
+use Rattle.hg_machine.specs.declared.Answer.TheVariants as answer
 
 pub after_collect : (a : Inside) (s : Core) (at worker count : ℕ) (old new : Held PlainWords)
     → core_of a ≡ s → IsStored a → worker < s.policy.workers → at ≡ worker

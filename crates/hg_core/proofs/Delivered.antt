@@ -1,7 +1,6 @@
 -- A place goes from a worker's hand to a remote list.
 use Rattle.std.proofs.Common.{◌≡◌, ℕ, ◌<◌, Option, Some, None, map, length, Contains}
-use Rattle.std.proofs.Common.{slice_index_or}
-use Rattle.std.proofs.Common.{slice_set, refl, sym, ap, subst, ◌∙◌, arith}
+use Rattle.std.proofs.Common.{slice_index_or, slice_set, refl, sym, ap, subst, ◌∙◌, arith}
 use Rattle.std.specs.Option.{option_map}
 use Rattle.std.specs.Box.{boxed_slice_items, boxed_slice_with_item}
 use Rattle.std.proofs.lemmas.List.{length-map, map-set, get_or-map, get_or_read}
@@ -10,12 +9,9 @@ use Rattle.hg_place.specs.Places.{number_of}
 use Rattle.hg_lists.specs.Inserts.{Inserts}
 use Rattle.hg_remote.specs.Remote.{Remote, IsRight, contents, slot}
 use Rattle.hg_remote.specs.Sends.{sent as with_sent}
-use Rattle.hg_machine.specs.declared.Event.TheVariants as event
-use Rattle.hg_machine.specs.declared.Answer.TheVariants as answer
 use Rattle.hg_events.specs.Core.{Core}
 use Rattle.hg_events.specs.Delivered.{IsInHand, IsUnsent, remote_of, nothing_there, delivered}
-use Rattle.hg_events.proofs.Delivered.{hand_is_unsent, deliver_is_served}
-use Rattle.hg_events.proofs.Delivered.{deliver_is_refused}
+use Rattle.hg_events.proofs.Delivered.{hand_is_unsent, deliver_is_served, deliver_is_refused}
 use Rattle.hg_chosen.specs.Chosen.{IsChosenBy}
 use Rattle.hg_chosen.specs.Delivered.{IsSent}
 use Rattle.hg_chosen.proofs.Refusals.{refused_is_chosen}
@@ -23,6 +19,8 @@ use Rattle.hg_chosen.proofs.Sending.{deliver_is_chosen}
 use Rattle.hg_core.specs.declared.stores.Stores.TheInside.{Inside}
 use Rattle.hg_core.specs.Stored.{core_of, IsStored}
 use Rattle.hg_core.proofs.After.{IsAfter, after_still}
+use Rattle.hg_machine.specs.declared.Event.TheVariants as event
+use Rattle.hg_machine.specs.declared.Answer.TheVariants as answer
 
 -- a worker's hand, as it is read
 pub hand_read : (a : Inside) (s : Core) (at worker : ℕ) (hand : Option Place) → core_of a ≡ s

@@ -8,7 +8,6 @@ use Rattle.std.proofs.lemmas.List.{map-set}
 use Rattle.hg_place.specs.declared.Actor.{Actor}
 use Rattle.hg_place.specs.declared.Handle.{Handle}
 use Rattle.hg_place.specs.declared.Place.{Place}
-use Rattle.hg_place.specs.declared.Right.TheVariants as right
 use Rattle.hg_place.specs.declared.plain.PlainWords.{PlainWords}
 use Rattle.hg_place.specs.Lives.{IsLiveWord}
 use Rattle.hg_place.specs.Places.{number_of}
@@ -16,15 +15,11 @@ use Rattle.hg_place.specs.Plain.{plain_words}
 use Rattle.hg_place.specs.Standings.{slot_of}
 use Rattle.hg_segment.specs.Parted.{plain_number}
 use Rattle.hg_heap.specs.Held.{Held}
-use Rattle.hg_heap.specs.Parting.{word_in}
-use Rattle.hg_heap.specs.Parting.{PartedIn as PartedInHeap}
+use Rattle.hg_heap.specs.Parting.{word_in, PartedIn as PartedInHeap}
 use Rattle.hg_heap.specs.Reading.{use_denial}
 use Rattle.hg_pool.specs.Pooled.{Pooled, IsPooled, IsOf}
 use Rattle.hg_pool.specs.Parting.{PartedIn as PartedInPool}
-use Rattle.hg_machine.specs.declared.Answer.TheVariants as answer
-use Rattle.hg_machine.specs.declared.Event.TheVariants as event
 use Rattle.hg_machine.specs.declared.Rule.{Rule}
-use Rattle.hg_machine.specs.declared.Verdict.TheVariants as verdict
 use Rattle.hg_machine.specs.Denial.{verdict_of}
 use Rattle.hg_machine.specs.Holders.{holds}
 use Rattle.hg_machine.specs.State.{holder_at}
@@ -47,6 +42,10 @@ use Rattle.hg_core.proofs.After.{IsAfter, after_still, heap_read}
 use Rattle.hg_core.proofs.Away.{is_away}
 use Rattle.hg_core.proofs.Delivered.{hand_read}
 use Rattle.hg_core.proofs.Words.{holder_below, no_holder, heap_word, pool_word}
+use Rattle.hg_place.specs.declared.Right.TheVariants as right
+use Rattle.hg_machine.specs.declared.Answer.TheVariants as answer
+use Rattle.hg_machine.specs.declared.Event.TheVariants as event
+use Rattle.hg_machine.specs.declared.Verdict.TheVariants as verdict
 
 -- the verdict, as what denies it
 pub denied_some : (denial : Option Rule) (rule : Rule) → verdict.Denied rule ≡ verdict_of denial

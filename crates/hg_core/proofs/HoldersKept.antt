@@ -1,14 +1,12 @@
 -- Who holds which segment after a step.
-use Rattle.std.proofs.Common.{◌≡◌, ℕ, ◌<◌, inl, inr, if◌then◌else◌, Bool, true, false, List}
-use Rattle.std.proofs.Common.{Option, Some, None, length, set, slice_index_or, slice_set}
-use Rattle.std.proofs.Common.{refl, sym, ap, ◌∙◌, arith}
+use Rattle.std.proofs.Common.{◌≡◌, ℕ, ◌<◌, inl, inr, if◌then◌else◌, Bool, true, false, List, Option}
+use Rattle.std.proofs.Common.{Some, None, length, set, slice_index_or, slice_set, refl, sym, ap}
+use Rattle.std.proofs.Common.{◌∙◌, arith}
 use Rattle.std.proofs.lemmas.Bool.{cases_eq, cases_lt}
 use Rattle.std.proofs.lemmas.Grind.{get_or-set_at}
 use Rattle.std.proofs.lemmas.List.{get_or-set_other, get_or_past, length-set}
 use Rattle.hg_machine.specs.declared.Event.{Event}
-use Rattle.hg_machine.specs.declared.Event.TheVariants as event
 use Rattle.hg_machine.specs.declared.Answer.{Answer}
-use Rattle.hg_machine.specs.declared.Answer.TheVariants as answer
 use Rattle.hg_machine.specs.State.{State, Holder, fresh, orphan, held}
 use Rattle.hg_machine.specs.Holders.{holds}
 use Rattle.hg_machine.specs.Served.{IsServed}
@@ -16,6 +14,8 @@ use Rattle.hg_machine.specs.Steps.{Step, successor}
 use Rattle.hg_machine.proofs.Cases.{step_cases}
 use Rattle.hg_core.specs.Held.{worker_in}
 use Rattle.hg_core.specs.Stored.{AreHolders}
+use Rattle.hg_machine.specs.declared.Event.TheVariants as event
+use Rattle.hg_machine.specs.declared.Answer.TheVariants as answer
 
 -- the event moves no segment
 abbrev pub MovesNone : Event → Type 0
@@ -61,7 +61,7 @@ served_holders s w (event.Refill arena) a m g = absurd m
 pub holders_kept : (s t : State) (w : ℕ) (e : Event) (a : Answer) → MovesNone e → Step s w e a t
     → t.holders ≡ s.holders
 holders_kept s t w e a m h =
-    elim (step_cases s w e a t h) as (λ _. t.holders ≡ s.holders) [
+    elim (step_cases s w e a t h) [
       | inl is ↦ ap (λ x. x.holders) is.after ∙ served_holders s w e a m is.serves
       | inr is ↦ ap (λ x. x.holders) is.same
     ]
@@ -76,7 +76,7 @@ holders_same holders s t e h segment =
 put_none : (hs : List (Option ℕ)) (n k : ℕ) → k ≡ n
     → slice_index_or (slice_set hs n None) k None ≡ None
 put_none hs n k e =
-    elim (cases_lt n (length hs)) as (λ _. slice_index_or (slice_set hs n None) k None ≡ None) [
+    elim (cases_lt n (length hs)) [
       | inl lt ↦ get_or-set_at hs n k None None e lt
       | inr ge ↦
           get_or_past (set hs n None) k None (omega (arith, length-set hs n None, ge, e))

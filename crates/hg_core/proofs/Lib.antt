@@ -8,7 +8,9 @@ mod Refilled
 mod Opened
 mod Opens
 mod OpenLists
+mod HeapCall
 mod OwnCalls
+mod AllocCalls
 mod Away
 mod Words
 mod FreedAway

@@ -62,10 +62,9 @@ pub are_holders : (core : Core) (holders : List (Option ℕ)) → IsTidy (parts_
 are_holders core holders tidy few all each n = elim (cases_lt n (length core.policy.segments)) [
   | inl lt ↦ each n (omega (arith, lt, few))
       ∙ sym (ap worker_in (holder_is (parts_of core) n lt) ∙ worker_by (worker_of (parts_of core) n) _)
-  | inr ge ↦ elim (cases_lt n 64) as (λ _. slice_index_or holders n None
-      ≡ worker_in (holder_at (state_in core) n)) [
-        | inl lt ↦ each n lt ∙ unheld core tidy n ge ∙ sym (held_past core tidy n ge)
-        | inr past ↦ get_or_past holders n None (omega (arith, past, all))
-            ∙ sym (held_past core tidy n ge)
-      ]
+  | inr ge ↦ elim (cases_lt n 64) [
+    | inl lt ↦ each n lt ∙ unheld core tidy n ge ∙ sym (held_past core tidy n ge)
+    | inr past ↦ get_or_past holders n None (omega (arith, past, all))
+        ∙ sym (held_past core tidy n ge)
+  ]
 ]

@@ -1,7 +1,6 @@
 -- The stores of a core that opens.
 use Rattle.std.proofs.Common.{◌≡◌, ℕ, ◌<◌, [], ◌∷◌, Bool, true, false, cond, List, map, length}
-use Rattle.std.proofs.Common.{find}
-use Rattle.std.proofs.Common.{Some, None, replicate, slice_index_or, refl, sym, ap, subst}
+use Rattle.std.proofs.Common.{find, Some, None, replicate, slice_index_or, refl, sym, ap, subst}
 use Rattle.std.proofs.Common.{◌∙◌, not, ◌/◌, ◌%◌, arith}
 use Rattle.std.specs.Option.{option_map}
 use Rattle.std.specs.Box.{boxed_slice_items}

@@ -1,7 +1,6 @@
 -- A worker takes the next segment of an arena.
-use Rattle.std.proofs.Common.{◌≡◌, ℕ, ◌<◌, [], ◌∷◌, ◌++◌, false, length, map, Some}
-use Rattle.std.proofs.Common.{None, slice_index_or, slice_set, refl, sym, ap, subst, ◌∙◌}
-use Rattle.std.proofs.Common.{arith}
+use Rattle.std.proofs.Common.{◌≡◌, ℕ, ◌<◌, [], ◌∷◌, ◌++◌, false, length, map, Some, None}
+use Rattle.std.proofs.Common.{slice_index_or, slice_set, refl, sym, ap, subst, ◌∙◌, arith}
 use Rattle.std.specs.Box.{boxed_slice_items, boxed_slice_with_item}
 use Rattle.std.proofs.lemmas.List.{length-set}
 use Rattle.hg_lists.specs.Repeats.{HasNoRepeats}
@@ -11,8 +10,6 @@ use Rattle.hg_segment.specs.Kept.{Kept}
 use Rattle.hg_segment.specs.Parted.{plain_number}
 use Rattle.hg_pool.specs.Pooled.{Pooled, next_in, without_segment}
 use Rattle.hg_heap.specs.Held.{Held, is_held}
-use Rattle.hg_machine.specs.declared.Event.TheVariants as event
-use Rattle.hg_machine.specs.declared.Answer.TheVariants as answer
 use Rattle.hg_machine.specs.State.{State, held}
 use Rattle.hg_machine.proofs.Answered.{state_is_determined}
 use Rattle.hg_parts.proofs.Sound.{tidy_sound}
@@ -27,6 +24,8 @@ use Rattle.hg_core.specs.Keeping.{state_in}
 use Rattle.hg_core.specs.Stored.{core_of, IsStored}
 use Rattle.hg_core.proofs.After.{IsAfter, after_moved, after_refused, heap_read, heap_below}
 use Rattle.hg_core.proofs.HoldersKept.{holders_adopted}
+use Rattle.hg_machine.specs.declared.Event.TheVariants as event
+use Rattle.hg_machine.specs.declared.Answer.TheVariants as answer
 
 -- none where the pool has none of it
 pub nothing_refilled : (a : Inside) (s : Core) (worker arena : ℕ) (pool : Pooled PlainWords)

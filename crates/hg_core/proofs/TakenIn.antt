@@ -12,8 +12,6 @@ use Rattle.hg_segment.specs.Parted.{plain_number}
 use Rattle.hg_heap.specs.Held.{Held, is_held}
 use Rattle.hg_heap.specs.Settled.{IsSettled}
 use Rattle.hg_heap.specs.Taking.{Takes}
-use Rattle.hg_machine.specs.declared.Event.TheVariants as event
-use Rattle.hg_machine.specs.declared.Answer.TheVariants as answer
 use Rattle.hg_events.specs.Core.{Core}
 use Rattle.hg_events.specs.Take.{plain_shows, plain_steps, remote_of, with_taken, IsTaking}
 use Rattle.hg_events.proofs.Taking.{taking_is_take, no_take_is_take}
@@ -21,8 +19,9 @@ use Rattle.hg_chosen.proofs.Taken.{take_is_chosen}
 use Rattle.hg_core.specs.declared.stores.Stores.TheInside.{Inside}
 use Rattle.hg_core.specs.Stored.{core_of, IsStored}
 use Rattle.hg_core.proofs.After.{IsAfter, after_still, after_refused, heap_read, heap_below}
-use Rattle.hg_core.proofs.After.{put_back}
-use Rattle.hg_core.proofs.After.{held_inside, remotes_all}
+use Rattle.hg_core.proofs.After.{put_back, held_inside, remotes_all}
+use Rattle.hg_machine.specs.declared.Event.TheVariants as event
+use Rattle.hg_machine.specs.declared.Answer.TheVariants as answer
 
 module _ (a : Inside) (s : Core) (at worker segment : ℕ) (old : Held PlainWords)
     (view : core_of a ≡ s) (stored : IsStored a) (below : worker < s.policy.workers)

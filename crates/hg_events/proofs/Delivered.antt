@@ -9,8 +9,6 @@ use Rattle.hg_lists.proofs.RepeatsLemmas.{in_contains, count_by-in}
 use Rattle.hg_place.specs.declared.Place.{Place}
 use Rattle.hg_place.specs.Places.{number_of, segment_of}
 use Rattle.hg_remote.specs.Remote.{contents, slot}
-use Rattle.hg_machine.specs.declared.Event.TheVariants as event
-use Rattle.hg_machine.specs.declared.Answer.TheVariants as answer
 use Rattle.hg_machine.specs.First.{first_of}
 use Rattle.hg_machine.specs.Life.{is_parted}
 use Rattle.hg_machine.specs.Lists.{times, sent_in}
@@ -29,9 +27,11 @@ use Rattle.hg_parts.proofs.Remotes.{delivered as delivered_tidy}
 use Rattle.hg_parts.proofs.Sent.{sent_is}
 use Rattle.hg_parts.proofs.Times.{hand_counts, bit_small}
 use Rattle.hg_events.specs.Core.{Core, parts_of}
-use Rattle.hg_events.specs.Delivered.{IsInHand, delivered, remote_of, HandIsUnsent}
-use Rattle.hg_events.specs.Delivered.{DeliverIsServed, DeliverIsRefused}
+use Rattle.hg_events.specs.Delivered.{IsInHand, delivered, remote_of, HandIsUnsent, DeliverIsServed}
+use Rattle.hg_events.specs.Delivered.{DeliverIsRefused}
 use Rattle.hg_events.proofs.Told.{remote_told}
+use Rattle.hg_machine.specs.declared.Event.TheVariants as event
+use Rattle.hg_machine.specs.declared.Answer.TheVariants as answer
 
 -- a place by its segment and its number there
 number_is : (place : Place)

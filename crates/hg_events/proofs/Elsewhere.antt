@@ -1,6 +1,6 @@
 -- Events on blocks of segments that the worker doesn't hold, refused.
-use Rattle.std.proofs.Common.{◌≡◌, ℕ, ◌&&◌, ◌%◌, Bool, true, false, not, nat_lt, is_some, List}
-use Rattle.std.proofs.Common.{[], ◌∷◌, length, map, max, refl, sym, ap, ◌∙◌, arith}
+use Rattle.std.proofs.Common.{◌≡◌, ℕ, ◌&&◌, ◌%◌, Bool, true, false, not, nat_lt, is_some, List, []}
+use Rattle.std.proofs.Common.{◌∷◌, length, map, max, refl, sym, ap, ◌∙◌, arith}
 use Rattle.std.specs.Prelude.{Option, Some, None}
 use Rattle.std.proofs.lemmas.Bool.{eqb-true}
 use Rattle.std.proofs.lemmas.List.{length-map}
@@ -8,13 +8,10 @@ use Rattle.std.proofs.lemmas.Option.{slice_get_within}
 use Rattle.hg_place.specs.declared.Handle.{Handle}
 use Rattle.hg_place.specs.declared.Place.{Place}
 use Rattle.hg_place.specs.declared.Right.{Right}
-use Rattle.hg_place.specs.declared.Right.TheVariants as right
 use Rattle.hg_place.specs.Places.{number_of}
 use Rattle.hg_place.specs.Slots.{slot_in}
 use Rattle.hg_machine.specs.declared.Answer.{Answer}
-use Rattle.hg_machine.specs.declared.Answer.TheVariants as answer
 use Rattle.hg_machine.specs.declared.Event.{Event}
-use Rattle.hg_machine.specs.declared.Event.TheVariants as event
 use Rattle.hg_machine.specs.declared.Rule.{Rule}
 use Rattle.hg_machine.specs.Denial.{denial, denial_on}
 use Rattle.hg_machine.specs.Holders.{holds}
@@ -33,11 +30,14 @@ use Rattle.hg_parts.specs.Tidy.{IsTidy}
 use Rattle.hg_parts.proofs.Sorted.{tidy_sorted}
 use Rattle.hg_events.specs.Core.{Core, parts_of}
 use Rattle.hg_heap.specs.Answers.{away_answer}
-use Rattle.hg_events.specs.Elsewhere.{word_at, IsAway, ReadElsewhere, WriteElsewhere}
-use Rattle.hg_events.specs.Elsewhere.{LookElsewhere, FreeIsDeniedElsewhere, FreeIsBusy}
-use Rattle.hg_events.specs.Elsewhere.{HoldsIsHeld, UndeniedWordIsLive}
+use Rattle.hg_events.specs.Elsewhere.{word_at, IsAway, ReadElsewhere, WriteElsewhere, LookElsewhere}
+use Rattle.hg_events.specs.Elsewhere.{FreeIsDeniedElsewhere, FreeIsBusy, HoldsIsHeld}
+use Rattle.hg_events.specs.Elsewhere.{UndeniedWordIsLive}
 use Rattle.hg_events.proofs.WordAt.{word_shown, word_denies, word_is_slot, had_held}
 use Rattle.hg_heap.proofs.Options.{some_of}
+use Rattle.hg_place.specs.declared.Right.TheVariants as right
+use Rattle.hg_machine.specs.declared.Answer.TheVariants as answer
+use Rattle.hg_machine.specs.declared.Event.TheVariants as event
 
 -- what is refused changes nothing
 refused_step : (s : State) (worker : ℕ) (event : Event) (refused : Answer)

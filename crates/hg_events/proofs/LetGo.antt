@@ -1,7 +1,6 @@
 -- A segment leaves a worker's heap, and is the last orphan.
 use Rattle.std.proofs.Common.{◌≡◌, ℕ, ◌<◌, false, not, ◌∷◌, [], ◌++◌, List, map, length, find}
-use Rattle.std.proofs.Common.{is_some, nat_lt, Some, None, refl, sym, ap, ◌∙◌, arith}
-use Rattle.std.proofs.Common.{subst}
+use Rattle.std.proofs.Common.{is_some, nat_lt, Some, None, refl, sym, ap, ◌∙◌, arith, subst}
 use Rattle.std.specs.Option.{option_map}
 use Rattle.std.specs.List.{position_or_len}
 use Rattle.std.proofs.lemmas.Bool.{false_from_ne_true}
@@ -12,15 +11,11 @@ use Rattle.hg_lists.specs.Repeats.{HasNoRepeats}
 use Rattle.hg_place.specs.declared.plain.PlainWords.{PlainWords}
 use Rattle.hg_segment.specs.Kept.{Kept}
 use Rattle.hg_segment.specs.Parted.{plain_number}
-use Rattle.hg_heap.specs.Held.{segment_in}
-use Rattle.hg_heap.specs.Held.{is_of as is_number}
+use Rattle.hg_heap.specs.Held.{segment_in, is_of as is_number}
 use Rattle.hg_heap.specs.Releasing.{without_by, without_segment}
 use Rattle.hg_heap.proofs.Options.{none_is}
-use Rattle.hg_heap.proofs.Founds.{Found, passes}
-use Rattle.hg_heap.proofs.Founds.{numbers as numbers_in}
+use Rattle.hg_heap.proofs.Founds.{Found, passes, numbers as numbers_in}
 use Rattle.hg_heap.proofs.Gone.{rest, once_rest, gone, others}
-use Rattle.hg_machine.specs.declared.Event.TheVariants as event
-use Rattle.hg_machine.specs.declared.Answer.TheVariants as answer
 use Rattle.hg_machine.specs.First.{first_of}
 use Rattle.hg_machine.specs.Refusal.{refusal}
 use Rattle.hg_machine.specs.Steps.{Step}
@@ -40,7 +35,10 @@ use Rattle.hg_parts.proofs.Times.{bit_small}
 use Rattle.hg_events.specs.Core.{Core, parts_of, heap_of}
 use Rattle.hg_events.specs.LetGo.{without, let_go, IsHeldBy, HeldIsUnpooled, AbandonIsServed}
 use Rattle.hg_events.specs.LetGo.{AbandonIsRefused}
-use Rattle.hg_events.proofs.Told.{found_told, heap_told, numbers_told, held_once, requeued}
+use Rattle.hg_events.proofs.Told.{found_told, heap_told, numbers_told, held_once}
+use Rattle.hg_events.proofs.CoreHeaps.{requeued_tidy}
+use Rattle.hg_machine.specs.declared.Event.TheVariants as event
+use Rattle.hg_machine.specs.declared.Answer.TheVariants as answer
 
 module _ (core : Core) (worker segment : ℕ) (one : Kept PlainWords) (t : IsTidy (parts_of core))
     (held : IsHeldBy core worker segment one) where
@@ -151,7 +149,7 @@ module _ (core : Core) (worker segment : ℕ) (one : Kept PlainWords) (t : IsTid
     subst (λ p. Step (state_of parts) worker (event.Abandon segment) answer.Done (state_of p))
         (sym new_is) (step below),
     subst IsTidy (sym new_is)
-        (requeued gone_from new.queues
+        (requeued_tidy new.queues
         (let_go_tidy parts worker (map plain_from left) (plain_from one) t (go below) left_once)),
   )
 

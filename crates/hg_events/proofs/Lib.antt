@@ -14,6 +14,9 @@ mod SentParted
 pub mod Taking
 mod SweptHeaps
 pub mod Collects
+pub mod SegmentSeen
+pub mod ChangedAt
+pub mod OwnStepped
 pub mod OwnCall
 pub mod OwnSteps
 pub mod OwnLives

@@ -7,8 +7,7 @@ use Rattle.std.proofs.lemmas.List.{map-append}
 use Rattle.std.proofs.lemmas.List.Elements.{recursion_from_All}
 use Rattle.std.proofs.lemmas.List.Folds.{find-append}
 use Rattle.hg_lists.proofs.RepeatsLemmas.{Each-weaker, Each-left, Each-right}
-use Rattle.hg_pool.specs.Pooled.{is_of_arena}
-use Rattle.hg_pool.specs.Pooled.{next_in as next_pooled}
+use Rattle.hg_pool.specs.Pooled.{is_of_arena, next_in as next_pooled}
 use Rattle.hg_machine.specs.Holders.{is_number}
 use Rattle.hg_machine.specs.Policy.{Policy, arena_of}
 use Rattle.hg_machine.specs.State.{Holder, fresh, orphan}

@@ -1,19 +1,14 @@
 -- In a tidy core the worker's heap doesn't hold what the pool gives, and may adopt it.
-use Rattle.std.proofs.Common.{◌≡◌, ℕ, ◌<◌, ◌≤◌, false, nat_lt, List, ◌++◌, length, map}
-use Rattle.std.proofs.Common.{find, is_some, count_by, refl, sym, ap, ◌∙◌, arith}
-use Rattle.std.proofs.Common.{inl, inr, []}
+use Rattle.std.proofs.Common.{◌≡◌, ℕ, ◌<◌, ◌≤◌, false, nat_lt, List, ◌++◌, length, find, is_some}
+use Rattle.std.proofs.Common.{count_by, refl, sym, ap, ◌∙◌, arith, inl, inr}
 use Rattle.std.specs.Prelude.{Option, Some, None}
 use Rattle.std.specs.Option.{option_map}
 use Rattle.std.specs.List.{list_any}
 use Rattle.std.proofs.lemmas.Bool.{cases_Bool, eq-eqb, true≢false}
-use Rattle.std.proofs.lemmas.List.{get_or-map}
 use Rattle.std.proofs.lemmas.List.Elements.{recursion_from_All}
 use Rattle.std.proofs.lemmas.List.Folds.{find-append}
-use Rattle.hg_place.specs.declared.plain.PlainWords.{PlainWords}
 use Rattle.hg_segment.specs.Parted.{plain_number}
-use Rattle.hg_pool.specs.Pooled.{is_of_arena}
-use Rattle.hg_pool.specs.Pooled.{next_in as next_pooled}
-use Rattle.hg_heap.specs.Held.{Held}
+use Rattle.hg_pool.specs.Pooled.{is_of_arena, next_in as next_pooled}
 use Rattle.hg_heap.specs.Held.{is_of as is_held_as}
 use Rattle.hg_heap.proofs.Options.{is_some_map}
 use Rattle.hg_agreement.specs.Parts.{Plain, Parts, is_of, heap_at, plain_from}
@@ -23,17 +18,11 @@ use Rattle.hg_parts.specs.Tidy.{IsTidy}
 use Rattle.hg_parts.proofs.Flat.{any_is}
 use Rattle.hg_parts.proofs.Sorted.{counted_apart, some_in, tidy_pooled}
 use Rattle.hg_parts.proofs.Times.{bit_small}
-use Rattle.hg_events.specs.Core.{Core, parts_of, heap_of, nothing_held}
+use Rattle.hg_events.specs.Core.{Core, parts_of, heap_of}
 use Rattle.hg_events.specs.Refill.{NextMayBeAdopted}
 use Rattle.hg_events.proofs.PlainLists.{K, found_plain, each_such, found_such, got_such, found_any}
 use Rattle.hg_events.proofs.NextPlain.{IsOwn, pool_own, next_plain}
-
--- the worker's heap in the parts
-pub heap_plain : (core : Core) (worker : ℕ) → worker < length core.heaps
-    → heap_at (parts_of core) worker ≡ map plain_from (heap_of core worker).segments
-heap_plain core worker below =
-    get_or-map (λ (h : Held PlainWords). map plain_from h.segments) core.heaps worker nothing_held
-    [] below
+use Rattle.hg_events.proofs.Told.{heap_told}
 
 none_found : (o : Option Plain) → is_some o ≡ false → o ≡ None
 none_found None e = refl
@@ -45,8 +34,7 @@ unheld : (parts : Parts) → IsTidy parts → (n worker : ℕ)
     → find (is_of n) (heap_at parts worker) ≡ None
 unheld parts t n worker pooled =
     none_found (find (is_of n) (heap_at parts worker)) (sym (any_is n (heap_at parts worker))
-    ∙ elim (cases_Bool (list_any (is_of n) (heap_at parts worker)))
-    as (λ _. list_any (is_of n) (heap_at parts worker) ≡ false) [
+    ∙ elim (cases_Bool (list_any (is_of n) (heap_at parts worker))) [
       | inl some ↦ absurd (omega (
         arith,
         pooled,
@@ -96,7 +84,7 @@ next_may_be_adopted core worker arena one sound t below next =
           ∙ ap is_some (sym (found_plain (is_held_as plain_number n) (is_of n) held
           (each_such (λ x. is_of n (plain_from x) ≡ is_held_as plain_number n x) held
           (λ x. refl)))
-          ∙ sym (ap (find (is_of n)) (heap_plain core worker below))
+          ∙ sym (ap (find (is_of n)) (heap_told core worker))
           ∙ next_unheld core worker arena one t next),
       omega (
         arith,

@@ -1,52 +1,39 @@
 -- Lives that begin and end in a worker's own heap: an Alloc, and a Free of a block that it holds.
-use Rattle.std.proofs.Common.{◌≡◌, ℕ, ◌-◌, ◌<◌, true, length, map, slice_index_or, refl, sym}
-use Rattle.std.proofs.Common.{ap, ◌∙◌, arith, subst}
-use Rattle.std.specs.Prelude.{Option, Some, None, replicate}
-use Rattle.std.proofs.lemmas.List.{length-map}
+use Rattle.std.proofs.Common.{◌≡◌, ℕ, true, slice_index_or, refl, sym, ap, ◌∙◌, subst}
+use Rattle.std.specs.Prelude.{Some, None}
 use Rattle.std.proofs.lemmas.Option.{slice_get-get_or}
-use Rattle.std.proofs.lemmas.Simd.{map-map}
+use Rattle.hg_place.specs.declared.Place.{Place}
 use Rattle.hg_place.specs.declared.Actor.{Actor}
-use Rattle.hg_place.specs.declared.Handle.{Handle}
 use Rattle.hg_place.specs.declared.plain.PlainWords.{PlainWords}
 use Rattle.hg_place.specs.Lives.{live_word}
 use Rattle.hg_place.specs.Places.{number_of}
-use Rattle.hg_place.specs.Plain.{plain_records}
-use Rattle.hg_place.specs.Standings.{slot_of}
-use Rattle.hg_place.specs.Standings.{is_home as is_at_home}
-use Rattle.hg_segment.specs.Parted.{plain_number}
+use Rattle.hg_place.specs.Standings.{slot_of, is_home as is_at_home}
 use Rattle.hg_machine.specs.declared.Event.{Event}
-use Rattle.hg_machine.specs.declared.Event.TheVariants as event
 use Rattle.hg_machine.specs.declared.Answer.{Answer}
-use Rattle.hg_machine.specs.declared.Answer.TheVariants as answer
-use Rattle.hg_machine.specs.Life.{Record, home, live, is_home, is_live}
+use Rattle.hg_machine.specs.Life.{Record, home, is_home, is_live}
 use Rattle.hg_machine.specs.Request.{size_of}
 use Rattle.hg_machine.specs.SoundPolicy.{IsSoundPolicy}
 use Rattle.hg_machine.specs.State.{State, record_at}
 use Rattle.hg_machine.specs.Steps.{Step, successor}
 use Rattle.hg_heap.specs.declared.refused.Refused.{Refused}
-use Rattle.hg_heap.specs.declared.refused.Refused.TheVariants as refused
 use Rattle.hg_heap.specs.Answers.{refused_answer}
 use Rattle.hg_heap.specs.Held.{Held}
-use Rattle.hg_heap.specs.Ties.{holding, heap_view}
-use Rattle.hg_agreement.specs.Agreement.{Agrees}
-use Rattle.hg_agreement.specs.Holdings.{view_of}
-use Rattle.hg_agreement.specs.Parts.{Plain, Parts, plain_from, heap_at, holdings, record_by}
-use Rattle.hg_agreement.specs.Parts.{state_of}
-use Rattle.hg_agreement.proofs.Bridge.{heaps_agree}
-use Rattle.hg_parts.specs.Spots.{in_heap, with_segment, IsSpotPut}
+use Rattle.hg_agreement.specs.Parts.{Plain, plain_from, record_by, state_of}
+use Rattle.hg_parts.specs.Spots.{in_heap}
 use Rattle.hg_parts.specs.Tidy.{IsTidy}
 use Rattle.hg_parts.proofs.Links.{lives_told}
-use Rattle.hg_parts.proofs.Sorted.{tidy_sorted}
-use Rattle.hg_parts.proofs.Sound.{tidy_sound}
 use Rattle.hg_parts.proofs.SpotChanges.{gone_out, come_home}
 use Rattle.hg_events.specs.Core.{Core, parts_of, heap_of}
 use Rattle.hg_events.specs.Own.{IsOwnCall, IsServedBy, with_heap}
-use Rattle.hg_events.specs.OwnLives.{HeapIsOfPolicy, AllocIsServed, AllocIsRefused}
-use Rattle.hg_events.specs.OwnLives.{FreeIsServed}
-use Rattle.hg_events.proofs.CoreHeaps.{heap_is, one_right}
-use Rattle.hg_events.proofs.OwnCall.{IsChangedAt, life_changed, given_changed, own_follows}
-use Rattle.hg_events.proofs.OwnCall.{agrees_before, put, one_record, now_record, entry_is, served}
+use Rattle.hg_events.specs.OwnLives.{HeapIsOfPolicy, AllocIsServed, AllocIsRefused, FreeIsServed}
+use Rattle.hg_events.proofs.CoreHeaps.{one_right, is_worker, heap_agrees}
+use Rattle.hg_events.proofs.ChangedAt.{IsChangedAt, life_changed, given_changed}
+use Rattle.hg_events.proofs.OwnStepped.{agrees_before}
+use Rattle.hg_events.proofs.OwnCall.{put, one_record, now_record, served}
 use Rattle.hg_events.proofs.TakenHome.{live_read}
+use Rattle.hg_machine.specs.declared.Event.TheVariants as event
+use Rattle.hg_machine.specs.declared.Answer.TheVariants as answer
+use Rattle.hg_heap.specs.declared.refused.Refused.TheVariants as refused
 
 pub heap_is_of_policy : HeapIsOfPolicy
 heap_is_of_policy core worker t below =
@@ -59,22 +46,12 @@ heap_is_of_policy core worker t below =
     }
 
 -- a call that begins a life, or ends one
-module _ (core : Core) (worker : ℕ) (actor : Actor) (handle : Handle) (heap : Held PlainWords)
-    (word left : ℕ) (e : Event) (a : Answer) (entry : Record) (policy : IsSoundPolicy core.policy)
-    (t : IsTidy (parts_of core))
-    (own : IsOwnCall core worker handle.place word left e a heap)
+module _ {core : Core} {worker : ℕ} {place : Place} {word left : ℕ} {e : Event} {a : Answer}
+    {heap : Held PlainWords} {entry : Record} (policy : IsSoundPolicy core.policy)
+    (t : IsTidy (parts_of core)) (own : IsOwnCall core worker place word left e a heap)
     (changed :
     IsChangedAt (state_of (parts_of core)) (successor (state_of (parts_of core)) worker e a)
-    handle.place entry) where
-  abbrev parts : Parts
-  parts = parts_of core
-
-  abbrev m : State
-  m = state_of parts
-
-  abbrev next : State
-  next = successor m worker e a
-
+    place entry) where
   abbrev one : Plain
   one = plain_from own.stepped.before
 
@@ -82,52 +59,26 @@ module _ (core : Core) (worker : ℕ) (actor : Actor) (handle : Handle) (heap : 
   now = plain_from own.stepped.after
 
   abbrev at : ℕ
-  at = slot_of handle.place
-
-  -- what is told of the place before and after
-  was : record_by (Some one) at ≡ record_at m (number_of handle.place)
-  was =
-      one_record core worker handle.place word left heap policy t own.below own.stepped own.settled
-      next entry (own_follows core worker handle.place word left e a heap policy t own).agrees
-      changed
-
-  became : record_by (Some now) at ≡ entry
-  became =
-      let agrees =
-      (own_follows core worker handle.place word left e a heap policy t own).agrees in
-      now_record core worker handle.place word left heap policy t own.below own.stepped own.settled
-      next entry agrees changed
-      ∙ entry_is core worker handle.place word left heap policy t own.below own.stepped own.settled
-      next entry agrees changed
-
-  serves : IsTidy (with_segment parts (in_heap worker own.stepped.found) now parts.hands)
-      → IsServedBy core worker e a (with_heap core worker heap)
-  serves =
-      let follows = own_follows core worker handle.place word left e a heap policy t own in
-      served core worker handle.place word left heap policy t own.below own.stepped own.settled
-      next entry follows.agrees changed e a follows.step
-
-  changed_place : IsSpotPut parts (in_heap worker own.stepped.found) one now at
-  changed_place =
-      put core worker handle.place word left heap policy t own.below own.stepped own.settled next
-      entry (own_follows core worker handle.place word left e a heap policy t own).agrees changed
+  at = slot_of place
 
   -- the place was home, and lives
   begins : is_home (record_by (Some one) at).life ≡ true → is_live entry.life ≡ true
       → IsServedBy core worker e a (with_heap core worker heap)
   begins was_home lives =
-      serves
-      (gone_out parts (in_heap worker own.stepped.found) one now at t changed_place was_home
-      (ap (λ (r : Record). is_live r.life) became ∙ lives))
+      served policy t own changed
+      (gone_out (parts_of core) (in_heap worker own.stepped.found) one now at t
+      (put policy t own changed) was_home
+      (ap (λ (r : Record). is_live r.life) (now_record policy t own changed) ∙ lives))
 
   -- it lived, and is home
-  ends : is_live (record_at m (number_of handle.place)).life ≡ true → is_home entry.life ≡ true
-      → IsServedBy core worker e a (with_heap core worker heap)
+  ends : is_live (record_at (state_of (parts_of core)) (number_of place)).life ≡ true
+      → is_home entry.life ≡ true → IsServedBy core worker e a (with_heap core worker heap)
   ends lived goes_home =
-      serves
-      (come_home parts (in_heap worker own.stepped.found) one now at t changed_place
-      (ap (λ (r : Record). is_live r.life) was ∙ lived)
-      (ap (λ (r : Record). is_home r.life) became ∙ goes_home))
+      served policy t own changed
+      (come_home (parts_of core) (in_heap worker own.stepped.found) one now at t
+      (put policy t own changed)
+      (ap (λ (r : Record). is_live r.life) (one_record policy t own changed) ∙ lived)
+      (ap (λ (r : Record). is_home r.life) (now_record policy t own changed) ∙ goes_home))
 
 pub alloc_is_served : AllocIsServed
 alloc_is_served core worker actor arena bytes handle heap policy t done =
@@ -140,71 +91,28 @@ alloc_is_served core worker actor arena bytes handle heap policy t done =
       ties = done.ties;
       settled = done.settled;
     } in
-    begins core worker actor handle heap done.given.word left (event.Alloc actor arena bytes)
-    (answer.Block handle)
-    (record { generation = handle.generation; life = live actor.0 (replicate (size_of bytes) 0) })
-    policy t own
-    (given_changed (state_of (parts_of core)) actor.0 handle (size_of bytes))
+    begins policy t own (given_changed (state_of (parts_of core)) actor.0 handle (size_of bytes))
     ((lives_told (plain_from done.given.stepped.before) (slot_of handle.place)).home
     (ap is_at_home done.given.home))
     refl
 
 pub free_is_served : FreeIsServed
 free_is_served core worker actor handle word heap lives policy t own =
-    let m = state_of (parts_of core) in
-    let p = number_of handle.place in
-    let agrees =
-    agrees_before core worker handle.place word (word - 1) heap policy t own.below own.stepped
-    own.settled in
-    ends core worker actor handle heap word (word - 1) (event.Free actor handle) answer.Done
-    (record { generation = (record_at m p).generation; life = home })
-    policy t own (life_changed m handle.place home)
-    (sym agrees.word.live ∙ live_read word lives.0 lives.1) refl
+    ends policy t own (life_changed (state_of (parts_of core)) handle.place home)
+    (sym (agrees_before policy t own).word.live ∙ live_read word lives.0 lives.1) refl
 
 -- a refused one leaves the state as it is
 
 unchanged : (m : State) (worker : ℕ) (actor : Actor) (arena bytes : ℕ) (refused : Refused)
     → successor m worker (event.Alloc actor arena bytes) (refused_answer refused) ≡ m
 unchanged m worker actor arena bytes (refused.Denied rule) = refl
-unchanged m worker actor arena bytes refused.TooLarge = refl
-unchanged m worker actor arena bytes refused.NoRoom = refl
-unchanged m worker actor arena bytes refused.Elsewhere = refl
-unchanged m worker actor arena bytes refused.OutOfBlock = refl
-
--- the state agrees with the worker's heap, where no word is shown
-module _ (core : Core) (worker : ℕ) (policy : IsSoundPolicy core.policy)
-    (t : IsTidy (parts_of core)) (below : worker < length core.heaps) where
-  below_parts : worker < length (parts_of core).heaps
-  below_parts =
-      let many = length-map core.heaps (λ (held : Held PlainWords). map plain_from held.segments) in
-      omega (arith, below, many)
-
-  is_worker : worker < core.policy.workers
-  is_worker = let all = t.segments.heaps in omega (arith, below_parts, all)
-
-  kept : holdings (heap_at (parts_of core) worker)
-      ≡ map (holding plain_number plain_records) (heap_of core worker).segments
-  kept =
-      ap holdings (heap_is core worker below)
-      ∙ map-map (λ (one : Plain). one.holding) plain_from (heap_of core worker).segments
-
-  abbrev hand : Option ℕ
-  hand = slice_index_or core.hands worker None
-
-  agrees : Agrees (state_of (parts_of core))
-      (heap_view plain_number plain_records core.policy worker hand 0
-      (heap_of core worker).segments) None
-  agrees =
-      subst (λ hs. Agrees (state_of (parts_of core)) (view_of core.policy worker hand 0 hs) None)
-      kept
-      (heaps_agree (parts_of core) worker 0 None (tidy_sound (parts_of core) policy t).0
-      (tidy_sorted (parts_of core) t) below_parts tt)
+unchanged m worker actor arena bytes _ = refl
 
 pub alloc_is_refused : AllocIsRefused
 alloc_is_refused core worker actor arena bytes refused policy t below ties =
     let m = state_of (parts_of core) in
     let follows =
     ties None worker (slice_index_or core.hands worker None) 0
-    (is_worker core worker policy t below) m (agrees core worker policy t below) in
+    (is_worker core worker t below) m (heap_agrees core worker t below policy None tt) in
     subst (Step m worker (event.Alloc actor arena bytes) (refused_answer refused))
     (unchanged m worker actor arena bytes refused) follows.step

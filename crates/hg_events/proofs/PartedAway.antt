@@ -7,7 +7,6 @@ use Rattle.std.proofs.lemmas.List.{length-map}
 use Rattle.hg_place.specs.declared.Actor.{Actor}
 use Rattle.hg_place.specs.declared.Handle.{Handle}
 use Rattle.hg_place.specs.declared.Place.{Place}
-use Rattle.hg_place.specs.declared.Right.TheVariants as right
 use Rattle.hg_place.specs.declared.standing.Standing.{Standing}
 use Rattle.hg_place.specs.Places.{number_of}
 use Rattle.hg_place.specs.Plain.{plain_words, plain_records}
@@ -17,8 +16,6 @@ use Rattle.hg_segment.specs.Parted.{Parted, plain_number}
 use Rattle.hg_heap.specs.Reading.{use_denial}
 use Rattle.hg_heap.proofs.Looking.{slot_below}
 use Rattle.hg_machine.specs.declared.Answer.{Answer}
-use Rattle.hg_machine.specs.declared.Answer.TheVariants as answer
-use Rattle.hg_machine.specs.declared.Event.TheVariants as event
 use Rattle.hg_machine.specs.Changes.{part}
 use Rattle.hg_machine.specs.Denial.{denial}
 use Rattle.hg_machine.specs.Holders.{holds}
@@ -43,6 +40,9 @@ use Rattle.hg_events.proofs.PartedPlain.{parted_at, Fit, parted_right, parted_ot
 use Rattle.hg_events.proofs.PartedPlain.{now_parted, parted_record}
 use Rattle.hg_events.proofs.PlainLists.{K}
 use Rattle.hg_events.proofs.WordAt.{one_right, word_denies}
+use Rattle.hg_place.specs.declared.Right.TheVariants as right
+use Rattle.hg_machine.specs.declared.Answer.TheVariants as answer
+use Rattle.hg_machine.specs.declared.Event.TheVariants as event
 
 of_none : (o : Option Answer) (P : Type 0) (Q : Answer → Type 0) → o ≡ None → P
     → MatchOption o P Q

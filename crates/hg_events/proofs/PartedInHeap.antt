@@ -9,8 +9,6 @@ use Rattle.hg_place.specs.Standings.{slot_of}
 use Rattle.hg_heap.specs.Held.{Held}
 use Rattle.hg_heap.specs.Parting.{PartedIn}
 use Rattle.hg_heap.proofs.Founds.{get-map}
-use Rattle.hg_machine.specs.declared.Answer.TheVariants as answer
-use Rattle.hg_machine.specs.declared.Event.TheVariants as event
 use Rattle.hg_machine.specs.SoundPolicy.{IsSoundPolicy}
 use Rattle.hg_machine.specs.Steps.{Step}
 use Rattle.hg_agreement.specs.Parts.{Plain, Parts, plain_from, heap_at, state_of}
@@ -22,7 +20,10 @@ use Rattle.hg_events.specs.PartedAway.{MayPart, with_in_hand, FreeIsPartedInHeap
 use Rattle.hg_events.proofs.PartedAway.{now_is, away, away_step, away_tidy}
 use Rattle.hg_events.proofs.PartedPlain.{parted_at}
 use Rattle.hg_events.proofs.PlainLists.{K}
-use Rattle.hg_events.proofs.Told.{heap_told, requeued}
+use Rattle.hg_events.proofs.Told.{heap_told}
+use Rattle.hg_events.proofs.CoreHeaps.{requeued_tidy}
+use Rattle.hg_machine.specs.declared.Answer.TheVariants as answer
+use Rattle.hg_machine.specs.declared.Event.TheVariants as event
 
 module _ (core : Core) (worker : ℕ) (actor : Actor) (handle : Handle) (word other : ℕ)
     (heap : Held PlainWords) (policy : IsSoundPolicy core.policy) (t : IsTidy (parts_of core))
@@ -73,7 +74,7 @@ module _ (core : Core) (worker : ℕ) (actor : Actor) (handle : Handle) (word ot
         (away_step core worker actor handle word policy t may spot is.before is.after there
         is.segment is.parted),
     subst (λ (p : Parts). IsTidy p) (sym new_is)
-        (requeued after (parts_of new).queues
+        (requeued_tidy (parts_of new).queues
         (away_tidy core worker actor handle word policy t may spot is.before is.after there
         is.segment is.parted)),
   )

@@ -11,8 +11,6 @@ use Rattle.hg_segment.specs.Parted.{plain_number}
 use Rattle.hg_pool.specs.Parting.{PartedIn}
 use Rattle.hg_pool.specs.Pooled.{Pooled, replaced}
 use Rattle.hg_heap.proofs.Founds.{get-map}
-use Rattle.hg_machine.specs.declared.Answer.TheVariants as answer
-use Rattle.hg_machine.specs.declared.Event.TheVariants as event
 use Rattle.hg_machine.specs.SoundPolicy.{IsSoundPolicy}
 use Rattle.hg_machine.specs.Steps.{Step}
 use Rattle.hg_agreement.specs.Parts.{Plain, Parts, plain_from, state_of}
@@ -24,8 +22,10 @@ use Rattle.hg_events.specs.PartedAway.{MayPart, with_in_hand, with_pool, FreeIsP
 use Rattle.hg_events.proofs.PartedAway.{now_is, away, away_step, away_tidy}
 use Rattle.hg_events.proofs.PartedPlain.{parted_at}
 use Rattle.hg_events.proofs.PlainLists.{K}
-use Rattle.hg_events.proofs.PoolSpots.{count, own_number, stands_pooled}
-use Rattle.hg_events.proofs.PoolSpots.{replaced_none, replaced_one}
+use Rattle.hg_events.proofs.PoolSpots.{count, own_number, stands_pooled, replaced_none}
+use Rattle.hg_events.proofs.PoolSpots.{replaced_one}
+use Rattle.hg_machine.specs.declared.Answer.TheVariants as answer
+use Rattle.hg_machine.specs.declared.Event.TheVariants as event
 
 module _ (core : Core) (worker : ℕ) (actor : Actor) (handle : Handle) (word : ℕ)
     (pool : Pooled PlainWords) (policy : IsSoundPolicy core.policy) (t : IsTidy (parts_of core))
@@ -90,21 +90,20 @@ module _ (core : Core) (worker : ℕ) (actor : Actor) (handle : Handle) (word : 
   )
 
   served : IsServedBy core worker (event.Free actor handle) answer.Parted new
-  served = elim (stands_pooled core n is.before t is.there)
-      as (λ _. IsServedBy core worker (event.Free actor handle) answer.Parted new) [
-        | inl among ↦
-            served_at (in_orphans among.at) (get-map plain_from os among.at is.before among.there)
-            (new_by
-            ∙ ap (λ xs. pooled xs (map plain_from (replaced plain_number n is.after fs)))
-            (one_is os among.at among.there among.few)
-            ∙ ap (pooled (slice_set (map plain_from os) among.at now)) (other_is fs among.none))
-        | inr among ↦
-            served_at (in_fresh among.at) (get-map plain_from fs among.at is.before among.there)
-            (new_by
-            ∙ ap (λ xs. pooled xs (map plain_from (replaced plain_number n is.after fs)))
-            (other_is os among.none)
-            ∙ ap (pooled (map plain_from os)) (one_is fs among.at among.there among.few))
-      ]
+  served = elim (stands_pooled core n is.before t is.there) [
+    | inl among ↦
+        served_at (in_orphans among.at) (get-map plain_from os among.at is.before among.there)
+        (new_by
+        ∙ ap (λ xs. pooled xs (map plain_from (replaced plain_number n is.after fs)))
+        (one_is os among.at among.there among.few)
+        ∙ ap (pooled (slice_set (map plain_from os) among.at now)) (other_is fs among.none))
+    | inr among ↦
+        served_at (in_fresh among.at) (get-map plain_from fs among.at is.before among.there)
+        (new_by
+        ∙ ap (λ xs. pooled xs (map plain_from (replaced plain_number n is.after fs)))
+        (other_is os among.none)
+        ∙ ap (pooled (map plain_from os)) (one_is fs among.at among.there among.few))
+  ]
 
 pub free_is_parted_in_pool : FreeIsPartedInPool
 free_is_parted_in_pool core worker actor handle word pool policy t may is =

@@ -8,8 +8,7 @@ use Rattle.hg_place.specs.declared.standing.Standing.{Standing}
 use Rattle.hg_place.specs.declared.standing.Standing.TheVariants.{Home, Open}
 use Rattle.hg_place.specs.Lives.{IsSlotWord}
 use Rattle.hg_place.specs.Slots.{slot_in}
-use Rattle.hg_place.specs.Standings.{Fits, standing_at, standing_generation}
-use Rattle.hg_place.specs.Standings.{is_home as is_at_home}
+use Rattle.hg_place.specs.Standings.{Fits, standing_at, standing_generation, is_home as is_at_home}
 use Rattle.hg_machine.specs.Changes.{part}
 use Rattle.hg_machine.specs.Life.{Life, Record, is_live, is_parted}
 use Rattle.hg_machine.specs.Policy.{Policy}
@@ -73,7 +72,7 @@ module _ (policy : Policy) (one : Plain) (at : ℕ) (right : IsSegmentRight poli
 
   -- the place of a live word is open
   is_open : is_at_home st ≡ false
-  is_open = elim (cases_Bool (is_at_home st)) as (λ _. is_at_home st ≡ false) [
+  is_open = elim (cases_Bool (is_at_home st)) [
     | inl home ↦ absurd (true≢false
         (sym alive ∙ (fit_word st (slice_index_or one.slots at 0) (right.fits at low)).freed home))
     | inr away ↦ away

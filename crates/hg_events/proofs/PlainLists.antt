@@ -47,7 +47,7 @@ each_append P (x ∷ xs) ys a b = (a.0, each_append P xs ys a.1 b)
 pub found_such : (P : K → Type 0) (p : K → Bool) (xs : List K) (y : K) → AllByRecursion P xs
     → find p xs ≡ Some y → P y
 found_such P p [] y all e = absurd (none-some y e)
-found_such P p (x ∷ xs) y all e = elim (cases_Bool (p x)) as (λ _. P y) [
+found_such P p (x ∷ xs) y all e = elim (cases_Bool (p x)) [
   | inl t ↦
       let same : x ≡ y = same_Some x y (sym (ap (λ b. cond b (Some x) (find p xs)) t) ∙ e) in
       subst P same all.0
@@ -66,7 +66,7 @@ pub found_any : (p q : Plain → Bool) (xs : List Plain) (y : Plain) → find p 
     → q y ≡ true → list_any q xs ≡ true
 found_any p q [] y e passes = absurd (none-some y e)
 found_any p q (x ∷ xs) y e passes =
-    elim (cases_Bool (p x)) as (λ _. (q x || list_any q xs) ≡ true) [
+    elim (cases_Bool (p x)) [
       | inl t ↦
           let same : x ≡ y = same_Some x y (sym (ap (λ b. cond b (Some x) (find p xs)) t) ∙ e) in
           ap (λ b. b || list_any q xs) (ap q same ∙ passes)

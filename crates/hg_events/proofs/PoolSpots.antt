@@ -1,7 +1,7 @@
 -- Where the pool of a core has a segment, and another that comes in its place.
-use Rattle.std.proofs.Common.{◌≡◌, ◌⊎◌, ℕ, zero, suc, ◌+◌, ◌==◌, ◌≤◌, nat_lt, true, cond, List}
-use Rattle.std.proofs.Common.{[], ◌∷◌, ◌++◌, length, map, find, count_by, slice_get, slice_set}
-use Rattle.std.proofs.Common.{refl, sym, ap, ◌∙◌, arith, inl, inr}
+use Rattle.std.proofs.Common.{◌≡◌, ◌⊎◌, ℕ, zero, suc, ◌+◌, ◌==◌, ◌≤◌, nat_lt, true, cond, List, []}
+use Rattle.std.proofs.Common.{◌∷◌, ◌++◌, length, map, find, count_by, slice_get, slice_set, refl}
+use Rattle.std.proofs.Common.{sym, ap, ◌∙◌, arith, inl, inr}
 use Rattle.std.specs.Prelude.{Option, Some, None}
 use Rattle.std.specs.List.{position_or_len}
 use Rattle.std.specs.Option.{option_or}
@@ -48,8 +48,7 @@ pub replaced_none : (n : ℕ) (now : K) (xs : List K) → count n xs ≡ 0
     → replaced plain_number n now xs ≡ xs
 replaced_none n now [] none = refl
 replaced_none n now (x ∷ xs) none =
-    elim (cases_Bool (x.slots.segment == n))
-    as (λ _. replaced plain_number n now (x ∷ xs) ≡ x ∷ xs) [
+    elim (cases_Bool (x.slots.segment == n)) [
       | inl t ↦ absurd (omega (arith, none, counted n x xs, ap bit_of t))
       | inr f ↦ ap (λ b. cond b now x ∷ replaced plain_number n now xs) f
           ∙ ap (λ ys. x ∷ ys)
@@ -69,8 +68,7 @@ replaced_one n one now (x ∷ xs) zero there own few =
     (replaced_none n now xs (omega (arith, few, counted n x xs, ap bit_of passes)))
 replaced_one n one now (x ∷ xs) (suc at) there own few =
     let some = counts n one xs at there own in
-    elim (cases_Bool (x.slots.segment == n))
-    as (λ _. replaced plain_number n now (x ∷ xs) ≡ x ∷ slice_set xs at now) [
+    elim (cases_Bool (x.slots.segment == n)) [
       | inl t ↦ absurd (omega (arith, some, few, counted n x xs, ap bit_of t))
       | inr f ↦ ap (λ b. cond b now x ∷ replaced plain_number n now xs) f
           ∙ ap (λ ys. x ∷ ys)
@@ -138,7 +136,7 @@ module _ (core : Core) (n : ℕ) (one : K) (t : IsTidy (parts_of core))
 
   pub pool_segment : plain_of (parts_of core) n ≡ Some (plain_from one)
   pool_segment =
-      elim stands_pooled as (λ _. plain_of (parts_of core) n ≡ Some (plain_from one)) [
+      elim stands_pooled [
         | inl among ↦
             plain_at (in_orphans among.at) (get-map plain_from os among.at one among.there)
         | inr among ↦

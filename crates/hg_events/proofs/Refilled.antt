@@ -1,6 +1,6 @@
 -- A Refill of a core is a step of the machine, and leaves the core tidy.
-use Rattle.std.proofs.Common.{◌≡◌, ℕ, ◌<◌, List, [], ◌∷◌, ◌++◌, length, map, find, slice_set}
-use Rattle.std.proofs.Common.{sym, ap, ◌∙◌, arith, subst}
+use Rattle.std.proofs.Common.{◌≡◌, ℕ, ◌<◌, List, [], ◌∷◌, ◌++◌, length, map, find, slice_set, sym}
+use Rattle.std.proofs.Common.{ap, ◌∙◌, arith, subst}
 use Rattle.std.specs.Option.{option_map}
 use Rattle.std.proofs.lemmas.List.{map-append, map-set, length-map}
 use Rattle.hg_lists.specs.Repeats.{HasNoRepeats}
@@ -8,8 +8,6 @@ use Rattle.hg_place.specs.declared.plain.PlainWords.{PlainWords}
 use Rattle.hg_segment.specs.Parted.{plain_number}
 use Rattle.hg_pool.specs.Pooled.{Pooled, without_number, without_segment}
 use Rattle.hg_heap.specs.Held.{Held}
-use Rattle.hg_machine.specs.declared.Event.TheVariants as event
-use Rattle.hg_machine.specs.declared.Answer.TheVariants as answer
 use Rattle.hg_machine.specs.Steps.{Step}
 use Rattle.hg_agreement.specs.CoreSteps.{IsRefilled}
 use Rattle.hg_agreement.specs.Parts.{Plain, Parts, is_of, heap_at, plain_from, state_of}
@@ -25,26 +23,15 @@ use Rattle.hg_events.specs.Core.{Core, parts_of, heap_of}
 use Rattle.hg_events.specs.Refill.{with_refill, IsRefill, RefillIsServed, NoRefillIsRefused}
 use Rattle.hg_events.proofs.PlainLists.{K, without_plain, numbers_plain}
 use Rattle.hg_events.proofs.NextPlain.{next_plain}
-use Rattle.hg_events.proofs.NextUnheld.{heap_plain, next_unheld}
+use Rattle.hg_events.proofs.NextUnheld.{next_unheld}
+use Rattle.hg_events.proofs.CoreHeaps.{requeued_tidy}
+use Rattle.hg_events.proofs.Told.{heap_told}
+use Rattle.hg_machine.specs.declared.Event.TheVariants as event
+use Rattle.hg_machine.specs.declared.Answer.TheVariants as answer
 
 -- tidy parts have any queues
 abbrev with_queues : Parts → List (List (List ℕ)) → Parts
 with_queues parts queues = record parts { queues = queues }
-
-queues_apart : (parts : Parts) (queues : List (List (List ℕ))) → IsTidy parts
-    → IsTidy (with_queues parts queues)
-queues_apart parts queues t = record {
-  segments = record {
-    heaps = t.segments.heaps;
-    hands = t.segments.hands;
-    remotes = t.segments.remotes;
-    once = t.segments.once;
-    each = t.segments.each;
-  };
-  remotes = t.remotes;
-  out_once = t.out_once;
-  rising = t.rising;
-}
 
 abbrev queues_of : List (Held PlainWords) → List (List (List ℕ))
 queues_of heaps = map (λ held. held.queues) heaps
@@ -85,7 +72,7 @@ module _ (core : Core) (worker arena : ℕ) (one : K) (held : Held PlainWords)
   pushed =
       ap (map plain_from) is.came
       ∙ map-append plain_from (heap_of core worker).segments (one ∷ [])
-      ∙ ap (λ xs. xs ++ plain_from one ∷ []) (sym (heap_plain core worker below))
+      ∙ ap (λ xs. xs ++ plain_from one ∷ []) (sym (heap_told core worker))
 
   pub refilled : IsRefilled (parts_of core) worker arena (map plain_from held.segments)
       (plain_from one)
@@ -121,8 +108,7 @@ module _ (core : Core) (worker arena : ℕ) (one : K) (held : Held PlainWords)
   is_tidy =
       let heap : List Plain = map plain_from held.segments in
       subst (λ (p : Parts). IsTidy p) (sym after_is)
-      (queues_apart (with_adopted (parts_of core) worker heap one.slots.segment)
-      (queues_of (slice_set core.heaps worker held))
+      (requeued_tidy (queues_of (slice_set core.heaps worker held))
       (taken_up_tidy (parts_of core) worker heap (plain_from one) t
       (refilled_is_taken_up (parts_of core) worker arena heap (plain_from one) refilled)
       (subst (λ (ns : List ℕ). HasNoRepeats ns) (sym (numbers_plain held.segments)) is.once)))

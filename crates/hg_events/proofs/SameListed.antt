@@ -1,23 +1,20 @@
 -- Whether a number is on a list, by a test.
-use Rattle.std.proofs.Common.{◌≡◌, ℕ, ◌==◌, true, false}
-use Rattle.std.proofs.Common.{◌||◌, List, [], ◌∷◌}
-use Rattle.std.proofs.Common.{refl, sym, ap, ◌∙◌, inl, inr, ⊎_elim}
+use Rattle.std.proofs.Common.{◌≡◌, ℕ, ◌==◌, true, false, ◌||◌, List, [], ◌∷◌, refl, sym, ap, ◌∙◌}
+use Rattle.std.proofs.Common.{inl, inr, ⊎_elim}
 use Rattle.std.specs.Prelude.{Contains}
 use Rattle.std.specs.List.{list_any}
 use Rattle.std.proofs.lemmas.Bool.{cases_eq, eq-eqb, ne_eqb}
 use Rattle.hg_lists.specs.Repeats.{Lacks, IsIn}
-use Rattle.hg_lists.proofs.RepeatsLemmas.{Contains-in, in_contains, in_cases}
-use Rattle.hg_lists.proofs.RepeatsLemmas.{Lacks-not}
+use Rattle.hg_lists.proofs.RepeatsLemmas.{Contains-in, in_contains, in_cases, Lacks-not}
 
 -- a test finds the number that is on a list
 any_in : (at : ℕ) (xs : List ℕ) → IsIn at xs → list_any (λ n. n == at) xs ≡ true
 any_in at [] on = absurd on
-any_in at (x ∷ xs) on = elim (cases_eq x at) as (λ _. ((x == at) || list_any (λ n. n == at) xs)
-    ≡ true) [
-      | inl e ↦ ap (λ b. b || list_any (λ n. n == at) xs) (eq-eqb x at e)
-      | inr ne ↦ ap (λ b. b || list_any (λ n. n == at) xs) (ne_eqb x at ne)
-          ∙ any_in at xs (⊎_elim (λ e. absurd (ne (sym e))) (λ rest. rest) on)
-    ]
+any_in at (x ∷ xs) on = elim (cases_eq x at) [
+  | inl e ↦ ap (λ b. b || list_any (λ n. n == at) xs) (eq-eqb x at e)
+  | inr ne ↦ ap (λ b. b || list_any (λ n. n == at) xs) (ne_eqb x at ne)
+      ∙ any_in at xs (⊎_elim (λ e. absurd (ne (sym e))) (λ rest. rest) on)
+]
 
 any_lacks : (at : ℕ) (xs : List ℕ) → Lacks at xs → list_any (λ n. n == at) xs ≡ false
 any_lacks at [] off = refl

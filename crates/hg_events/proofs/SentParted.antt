@@ -1,7 +1,6 @@
 -- What was sent to a segment of a core is parted.
-use Rattle.std.proofs.Common.{◌≡◌, ℕ, ◌+◌, ◌*◌, ◌%◌, ◌==◌, ◌<◌, true}
-use Rattle.std.proofs.Common.{length, slice_get}
-use Rattle.std.proofs.Common.{sym, ap, ◌∙◌, arith, subst}
+use Rattle.std.proofs.Common.{◌≡◌, ℕ, ◌+◌, ◌*◌, ◌%◌, ◌==◌, ◌<◌, true, length, slice_get, sym, ap}
+use Rattle.std.proofs.Common.{◌∙◌, arith, subst}
 use Rattle.std.specs.Prelude.{Some, Contains}
 use Rattle.std.specs.List.{list_any}
 use Rattle.std.proofs.lemmas.List.{get_or-map, length-map}
@@ -18,8 +17,8 @@ use Rattle.hg_segment.specs.Parted.{plain_number}
 use Rattle.hg_machine.specs.Life.{is_parted}
 use Rattle.hg_machine.specs.Lists.{times, sent_in}
 use Rattle.hg_machine.proofs.Listed.{bit_true}
-use Rattle.hg_agreement.specs.Parts.{plain_from, plain_of, remote_at, no_remote}
-use Rattle.hg_agreement.specs.Parts.{record_by, lists_of}
+use Rattle.hg_agreement.specs.Parts.{plain_from, plain_of, remote_at, no_remote, record_by}
+use Rattle.hg_agreement.specs.Parts.{lists_of}
 use Rattle.hg_agreement.specs.TakenIn.{remote_places, is_listed}
 use Rattle.hg_agreement.proofs.Told.{record_is}
 use Rattle.hg_parts.specs.Rights.{list_of, remote_from}

@@ -1,12 +1,10 @@
 -- A segment of a heap that stands there alone of its number.
-use Rattle.std.proofs.Common.{◌≡◌, ◌≢◌, ℕ, ◌<◌, List}
-use Rattle.std.proofs.Common.{length, slice_get, slice_set, Some, refl, sym, ap, ◌∙◌}
-use Rattle.std.proofs.Common.{inl, inr, subst}
+use Rattle.std.proofs.Common.{◌≡◌, ◌≢◌, ℕ, ◌<◌, List, length, slice_get, slice_set, Some, refl, sym}
+use Rattle.std.proofs.Common.{ap, ◌∙◌, inl, inr, subst}
 use Rattle.std.proofs.lemmas.Bool.{cases_eq}
 use Rattle.std.proofs.lemmas.List.{length-set, get_or-set_other}
 use Rattle.std.proofs.lemmas.Grind.{get_or-set_at}
-use Rattle.std.proofs.lemmas.Option.{slice_get-get_or, slice_get_within}
-use Rattle.std.proofs.lemmas.Option.{get_or_from_slice_get}
+use Rattle.std.proofs.lemmas.Option.{slice_get-get_or, slice_get_within, get_or_from_slice_get}
 use Rattle.hg_place.specs.declared.plain.PlainWords.{PlainWords}
 use Rattle.hg_segment.specs.Kept.{Kept}
 use Rattle.hg_segment.specs.Parted.{plain_number}
@@ -38,7 +36,7 @@ still_alone xs found one now s number =
           slice_get-get_or (slice_set xs found now) found now
           (subst (λ n. found < n) (sym (length-set xs found now)) below)
           ∙ ap Some (get_or-set_at xs found found now now refl below);
-      alone = λ other k e is. elim (cases_eq other found) as (λ _. other ≡ found) [
+      alone = λ other k e is. elim (cases_eq other found) [
         | inl same ↦ same
         | inr ne ↦ s.alone other k (get_other xs found other now k ne e) (is ∙ number)
       ];

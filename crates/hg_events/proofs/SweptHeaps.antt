@@ -16,8 +16,7 @@ use Rattle.hg_place.specs.Plain.{plain_records, plain_words}
 use Rattle.hg_place.specs.Slots.{slot_in}
 use Rattle.hg_place.specs.Standings.{standing_at, standing_generation, is_home}
 use Rattle.hg_segment.specs.Blocks.{block_of_class}
-use Rattle.hg_segment.specs.Kept.{Kept, slot}
-use Rattle.hg_segment.specs.Kept.{class_at as class_in}
+use Rattle.hg_segment.specs.Kept.{Kept, slot, class_at as class_in}
 use Rattle.hg_segment.specs.Parted.{plain_number}
 use Rattle.hg_machine.specs.Life.{Record}
 use Rattle.hg_heap.specs.Held.{Held, segment_in, class_by, class_on}
@@ -172,8 +171,7 @@ module _ (old new : Held PlainWords) (gone : Collected plain_number plain_record
         let class = class_in x.classes page in
         let other = cond (is_idle_of (plain_from x) page) None class in
         ap (told_of x at) (classes page small)
-        ∙ elim (cases_Bool (is_idle_of (plain_from x) page))
-        as (λ _. told_of x at other ≡ told_of x at class) [
+        ∙ elim (cases_Bool (is_idle_of (plain_from x) page)) [
           | inl t ↦
               let within : at % 512 < 512 = omega arith in
               let same : page * 512 + at % 512 ≡ at = omega arith in

@@ -1,7 +1,7 @@
 -- A place of a segment over plain words that is parted comes home.
-use Rattle.std.proofs.Common.{◌≡◌, ℕ, ◌/◌, ◌%◌, ◌==◌, ◌<◌, Bool, true, false, not, ◌||◌}
-use Rattle.std.proofs.Common.{List, [], ◌∷◌, slice_index_or, refl, sym, ap, ◌∙◌, arith, inl, inr}
-use Rattle.std.proofs.Common.{⊎_elim, Some}
+use Rattle.std.proofs.Common.{◌≡◌, ℕ, ◌/◌, ◌%◌, ◌==◌, ◌<◌, Bool, true, false, not, ◌||◌, List, []}
+use Rattle.std.proofs.Common.{◌∷◌, slice_index_or, refl, sym, ap, ◌∙◌, arith, inl, inr, ⊎_elim}
+use Rattle.std.proofs.Common.{Some}
 use Rattle.std.specs.List.{list_any}
 use Rattle.std.proofs.lemmas.Bool.{cases_eq, eq-eqb, ne_eqb, true≢false}
 use Rattle.std.proofs.lemmas.List.{get_or-set_other, get_or-set_same}
@@ -11,8 +11,7 @@ use Rattle.hg_place.specs.declared.standing.Standing.TheVariants.{Home, Open}
 use Rattle.hg_place.specs.Plain.{plain_records, plain_words}
 use Rattle.hg_place.specs.Slots.{slot_in}
 use Rattle.hg_place.specs.Lives.{IsSlotWord, word_life}
-use Rattle.hg_place.specs.Standings.{standing_at, standing_generation}
-use Rattle.hg_place.specs.Standings.{is_home as is_at_home}
+use Rattle.hg_place.specs.Standings.{standing_at, standing_generation, is_home as is_at_home}
 use Rattle.hg_segment.specs.Kept.{Kept, IsFixed, slot}
 use Rattle.hg_segment.specs.Blocks.{block_at}
 use Rattle.hg_segment.specs.Parted.{plain_number}
@@ -114,17 +113,15 @@ module _ (one now : Kept PlainWords) (page index : ℕ) (low : slot page index <
   came_home number = record {
     number = number;
     fixed = went.fixed;
-    records = λ other below. elim (cases_eq at other)
-        as (λ _. record_by (Some (plain_from now)) other
-        ≡ taken_in ((at == other) || false) (record_by (Some (plain_from one)) other)) [
-          | inl e ↦
-              ap (record_by (Some (plain_from now))) (sym e) ∙ here
-              ∙ ap (λ k. taken_in true (record_by (Some (plain_from one)) k)) e
-              ∙ sym (ap (λ b. taken_in (b || false) (record_by (Some (plain_from one)) other))
-              (eq-eqb at other e))
-          | inr ne ↦
-              put_others one now at put other below (λ e. ne (sym e))
-              ∙ sym (ap (λ b. taken_in (b || false) (record_by (Some (plain_from one)) other))
-              (ne_eqb at other ne))
-        ];
+    records = λ other below. elim (cases_eq at other) [
+      | inl e ↦
+          ap (record_by (Some (plain_from now))) (sym e) ∙ here
+          ∙ ap (λ k. taken_in true (record_by (Some (plain_from one)) k)) e
+          ∙ sym (ap (λ b. taken_in (b || false) (record_by (Some (plain_from one)) other))
+          (eq-eqb at other e))
+      | inr ne ↦
+          put_others one now at put other below (λ e. ne (sym e))
+          ∙ sym (ap (λ b. taken_in (b || false) (record_by (Some (plain_from one)) other))
+          (ne_eqb at other ne))
+    ];
   }

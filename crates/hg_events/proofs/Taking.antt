@@ -1,7 +1,7 @@
 -- A Take of a core, as a step of the machine, and the parts that it leaves.
-use Rattle.std.proofs.Common.{◌≡◌, ℕ, ◌==◌, ◌<◌, Bool, true, false, not}
-use Rattle.std.proofs.Common.{cond, List, [], ◌∷◌, length, map, slice_get, slice_set}
-use Rattle.std.proofs.Common.{refl, sym, ap, ◌∙◌, subst, find, is_some}
+use Rattle.std.proofs.Common.{◌≡◌, ℕ, ◌==◌, ◌<◌, Bool, true, false, not, cond, List, [], ◌∷◌}
+use Rattle.std.proofs.Common.{length, map, slice_get, slice_set, refl, sym, ap, ◌∙◌, subst, find}
+use Rattle.std.proofs.Common.{is_some}
 use Rattle.std.specs.Prelude.{Option, Some, Contains}
 use Rattle.std.specs.List.{position_or_len}
 use Rattle.std.proofs.lemmas.List.{map-set, length-map}
@@ -18,8 +18,6 @@ use Rattle.hg_heap.specs.Held.{Held, is_of, is_held, segment_in}
 use Rattle.hg_heap.specs.Taking.{Takes}
 use Rattle.hg_heap.proofs.Founds.{Contains-get, passes}
 use Rattle.hg_heap.proofs.Options.{some_of}
-use Rattle.hg_machine.specs.declared.Event.TheVariants as event
-use Rattle.hg_machine.specs.declared.Answer.TheVariants as answer
 use Rattle.hg_machine.specs.First.{first_of}
 use Rattle.hg_machine.specs.Policy.{arena_of}
 use Rattle.hg_machine.specs.Refusal.{refusal}
@@ -27,8 +25,8 @@ use Rattle.hg_machine.specs.SoundPolicy.{IsSoundPolicy}
 use Rattle.hg_machine.specs.Steps.{Step}
 use Rattle.hg_machine.proofs.Answered.{of_some}
 use Rattle.hg_agreement.specs.Holdings.{Holding, has}
-use Rattle.hg_agreement.specs.Parts.{Parts, plain_from, heap_at, remote_at}
-use Rattle.hg_agreement.specs.Parts.{record_by, state_of, holdings}
+use Rattle.hg_agreement.specs.Parts.{Parts, plain_from, heap_at, remote_at, record_by, state_of}
+use Rattle.hg_agreement.specs.Parts.{holdings}
 use Rattle.hg_agreement.specs.PlainPut.{with_plain}
 use Rattle.hg_agreement.specs.TakenIn.{remote_places, taken_in, IsTakenIn}
 use Rattle.hg_agreement.proofs.Bridge.{holds_had}
@@ -42,12 +40,14 @@ use Rattle.hg_parts.proofs.SpotPuts.{spot_swap}
 use Rattle.hg_parts.proofs.Remotes.{taken_in_tidy}
 use Rattle.hg_parts.proofs.Links.{settled_right}
 use Rattle.hg_events.specs.Core.{Core, parts_of, heap_of}
-use Rattle.hg_events.specs.Take.{remote_of, with_taken, TakingIsTake, NoTakeIsTake}
-use Rattle.hg_events.specs.Take.{plain_shows, plain_steps}
+use Rattle.hg_events.specs.Take.{remote_of, with_taken, TakingIsTake, NoTakeIsTake, plain_shows}
+use Rattle.hg_events.specs.Take.{plain_steps}
 use Rattle.hg_events.proofs.TakesHome.{HaveCome, all_come}
 use Rattle.hg_events.proofs.StandsAlone.{still_alone}
 use Rattle.hg_events.proofs.CoreHeaps.{requeued_tidy, heap_is, spot, one_right, alone}
 use Rattle.hg_events.proofs.SentParted.{order, sent_parted, as_many, listed_is}
+use Rattle.hg_machine.specs.declared.Event.TheVariants as event
+use Rattle.hg_machine.specs.declared.Answer.TheVariants as answer
 
 -- a segment of a worker's heap
 module _ (core : Core) (worker : ℕ) (t : IsTidy (parts_of core))
@@ -120,7 +120,7 @@ module _ (core : Core) (worker : ℕ) (t : IsTidy (parts_of core))
         (map-set remote_from core.remotes n nothing_sent)
 
     new_tidy : IsTidy (parts_of (with_taken core worker heap n))
-    new_tidy = subst IsTidy (sym new_is) (requeued_tidy after queues after_tidy)
+    new_tidy = subst IsTidy (sym new_is) (requeued_tidy queues after_tidy)
 
     step : IsSoundPolicy core.policy
         → Step (state_of (parts_of core)) worker (event.Take n)

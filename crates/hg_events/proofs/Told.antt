@@ -1,7 +1,6 @@
 -- What the parts of a core tell of its heaps and remote lists.
 use Rattle.std.proofs.Common.{◌≡◌, ℕ, zero, suc, ◌==◌, ◌≤◌, true, false, cond, List, [], ◌∷◌, map}
-use Rattle.std.proofs.Common.{find, count_by, slice_index_or, refl, ap, arith, subst}
-use Rattle.std.proofs.Common.{Some, ⊎_elim}
+use Rattle.std.proofs.Common.{find, count_by, slice_index_or, refl, ap, arith, subst, Some, ⊎_elim}
 use Rattle.std.specs.Option.{option_map}
 use Rattle.hg_lists.specs.Repeats.{HasNoRepeats}
 use Rattle.hg_lists.proofs.RepeatsLemmas.{nat_eq-same, in_cases, count_by-in}
@@ -13,7 +12,7 @@ use Rattle.hg_remote.specs.Remote.{Remote}
 use Rattle.hg_heap.specs.Held.{Held, segment_in}
 use Rattle.hg_heap.proofs.Founds.{numbers as numbers_in}
 use Rattle.hg_agreement.specs.LeftPut.{numbers}
-use Rattle.hg_agreement.specs.Parts.{Parts, plain_from, is_of, heap_at, remote_at, no_remote}
+use Rattle.hg_agreement.specs.Parts.{plain_from, is_of, heap_at, remote_at, no_remote}
 use Rattle.hg_agreement.proofs.Firsts.{count_cons}
 use Rattle.hg_agreement.proofs.Openings.{count_numbers}
 use Rattle.hg_parts.specs.Rights.{list_of, remote_from}
@@ -91,19 +90,3 @@ held_once core t worker =
       ap (count_by (is_of n)) (heap_told core worker),
       heap_once (parts_of core) t n worker,
     )))
-
--- queues are no part of what is tidy
-pub requeued : (parts : Parts) (queues : List (List (List ℕ))) → IsTidy parts
-    → IsTidy (record parts { queues = queues })
-requeued parts queues t = record {
-  segments = record {
-    heaps = t.segments.heaps;
-    hands = t.segments.hands;
-    remotes = t.segments.remotes;
-    once = t.segments.once;
-    each = t.segments.each;
-  };
-  remotes = t.remotes;
-  out_once = t.out_once;
-  rising = t.rising;
-}

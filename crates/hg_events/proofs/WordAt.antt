@@ -1,7 +1,7 @@
 -- The slot word of a place, wherever its segment stands, shows what the state records there.
-use Rattle.std.proofs.Common.{◌≡◌, ℕ, ◌*◌, ◌%◌, ◌<◌, ◌++◌, true, false, nat_lt, List}
-use Rattle.std.proofs.Common.{length, find, is_some, slice_get, slice_index_or, refl, sym, ap}
-use Rattle.std.proofs.Common.{◌∙◌, arith, subst, inl, inr, option_map}
+use Rattle.std.proofs.Common.{◌≡◌, ℕ, ◌*◌, ◌%◌, ◌<◌, ◌++◌, true, false, nat_lt, List, length, find}
+use Rattle.std.proofs.Common.{is_some, slice_get, slice_index_or, refl, sym, ap, ◌∙◌, arith, subst}
+use Rattle.std.proofs.Common.{inl, inr, option_map}
 use Rattle.std.specs.Prelude.{Option, Some, None, slice_index}
 use Rattle.std.specs.List.{position_or_len}
 use Rattle.std.proofs.lemmas.Bool.{cases_lt, true≢false}
@@ -18,8 +18,7 @@ use Rattle.hg_place.specs.Slots.{slot_in}
 use Rattle.hg_place.specs.Standings.{slot_of, standing_at}
 use Rattle.hg_segment.specs.Parted.{plain_number}
 use Rattle.hg_pool.specs.Pooled.{segment_of as segment_of_pool}
-use Rattle.hg_heap.specs.Held.{segment_in, is_held}
-use Rattle.hg_heap.specs.Held.{is_of as is_number}
+use Rattle.hg_heap.specs.Held.{segment_in, is_held, is_of as is_number}
 use Rattle.hg_heap.proofs.Founds.{at_is, get-map, passes}
 use Rattle.hg_heap.proofs.Looking.{slot_below}
 use Rattle.hg_heap.proofs.Options.{is_some_map}
@@ -113,8 +112,7 @@ module _ (core : Core) (place : Place) (policy : IsSoundPolicy core.policy)
       → IsShownBy (record_at (state_of parts) q) 0
   shown_none none =
       let unused : record_at (state_of parts) q ≡ never_used =
-      elim (cases_lt q (length parts.policy.segments * 8192))
-      as (λ _. record_at (state_of parts) q ≡ never_used) [
+      elim (cases_lt q (length parts.policy.segments * 8192)) [
         | inl lt ↦ record_is parts q lt
             ∙ ap (λ (o : Option Plain). record_by o (q % 8192))
             (ap (plain_of parts) (segment_is place) ∙ none)
@@ -195,8 +193,7 @@ module _ (core : Core) (n : ℕ) (none : IsInNoHeap core n) where
   none_has : (worker : ℕ) → has (holdings (heap_at (parts_of core) worker)) n ≡ false
   none_has worker =
       had_held core worker n
-      ∙ elim (cases_lt worker (length core.heaps))
-      as (λ _. is_held plain_number (heap_of core worker).segments n ≡ false) [
+      ∙ elim (cases_lt worker (length core.heaps)) [
         | inl lt ↦ none worker lt
         | inr ge ↦ ap (λ h. is_held plain_number h.segments n)
             (get_or_past core.heaps worker nothing_held ge)

@@ -1,7 +1,6 @@
 -- A segment over plain words in a core.
-use Rattle.std.proofs.Common.{◌≡◌, ℕ, ◌+◌, ◌*◌, ◌/◌, ◌%◌, ◌≤◌, Bool, true, false, not}
-use Rattle.std.proofs.Common.{List, slice_index_or, refl, sym, ap, ◌∙◌, arith, subst, inl}
-use Rattle.std.proofs.Common.{inr}
+use Rattle.std.proofs.Common.{◌≡◌, ℕ, ◌+◌, ◌*◌, ◌/◌, ◌%◌, ◌≤◌, Bool, true, false, not, List}
+use Rattle.std.proofs.Common.{slice_index_or, refl, sym, ap, ◌∙◌, arith, subst, inl, inr}
 use Rattle.std.proofs.lemmas.Bool.{cases_lt}
 use Rattle.std.proofs.lemmas.List.{get_or_past, get_or-set_other}
 use Rattle.std.proofs.lemmas.Option.{slice_get_within}
@@ -9,8 +8,7 @@ use Rattle.hg_place.specs.declared.standing.Standing.{Standing}
 use Rattle.hg_place.specs.declared.standing.Standing.TheVariants.{Home, Open}
 use Rattle.hg_place.specs.Plain.{plain_records, plain_words}
 use Rattle.hg_place.specs.Slots.{slot_in}
-use Rattle.hg_place.specs.Standings.{standing_at, standing_generation}
-use Rattle.hg_place.specs.Standings.{is_home as is_at_home}
+use Rattle.hg_place.specs.Standings.{standing_at, standing_generation, is_home as is_at_home}
 use Rattle.hg_segment.specs.Blocks.{block_at}
 use Rattle.hg_machine.specs.Life.{Record, is_home, is_live, is_parted}
 use Rattle.hg_agreement.specs.Witness.{held_life}
@@ -32,8 +30,7 @@ settled_right policy s arena greatest h = record {
         λ at. subst (λ k. standing_generation (standing_at (plain_records s.slots) at) ≤ k) greatest
         (h.bounded at);
     given_out =
-        λ at out. elim (cases_lt at 8192) as (λ _. 1 ≤ standing_generation
-        (standing_at (plain_records s.slots) at)) [
+        λ at out. elim (cases_lt at 8192) [
           | inl lt ↦ (s.slots.fit at lt).1.given_out out
           | inr ge ↦ absurd (let past : is_at_home (standing_at (plain_records s.slots) at)
               ≡ is_at_home (Home 0) =

@@ -98,13 +98,12 @@ moved_tidy parts heaps orphans unused t long counts same rising = record {
 
 found_bit : (n : ℕ) (xs : List Plain) → count_by (is_of n) xs ≤ 1 → count_by (is_of n) xs
     ≡ bit_of (is_some (find (is_of n) xs))
-found_bit n xs small = elim (cases_Bool (list_any (is_of n) xs)) as (λ _. count_by (is_of n) xs
-    ≡ bit_of (is_some (find (is_of n) xs))) [
-      | inl some ↦
-          let one : bit_of (is_some (find (is_of n) xs)) ≡ 1 = ap bit_of (sym (any_is n xs) ∙ some) in
-          omega (arith, small, one, some_counted (is_of n) xs some)
-      | inr none ↦ none_counted (is_of n) xs none ∙ sym (ap bit_of (sym (any_is n xs) ∙ none))
-    ]
+found_bit n xs small = elim (cases_Bool (list_any (is_of n) xs)) [
+  | inl some ↦
+      let one : bit_of (is_some (find (is_of n) xs)) ≡ 1 = ap bit_of (sym (any_is n xs) ∙ some) in
+      omega (arith, small, one, some_counted (is_of n) xs some)
+  | inr none ↦ none_counted (is_of n) xs none ∙ sym (ap bit_of (sym (any_is n xs) ∙ none))
+]
 
 pub no_twice : (n : ℕ) (xs : List Plain) → HasNoRepeats (numbers xs) → count_by (is_of n) xs ≤ 1
 no_twice n xs once = subst (λ k. k ≤ 1) (sym (count_numbers n xs)) (⊎_elim
@@ -148,27 +147,26 @@ let_go_tidy parts worker heap one t go once =
 
     moves : (n : ℕ) → count_by (is_of n) (heap_at parts worker) ≡ count_by (is_of n) heap + bit_of
         (nat_eq one.holding.number n)
-    moves n = elim (cases_eq n one.holding.number) as (λ _. count_by (is_of n)
-        (heap_at parts worker) ≡ count_by (is_of n) heap + bit_of (nat_eq one.holding.number n)) [
-          | inl e ↦
-              let a : bit_of (is_some (find (is_of n) (heap_at parts worker))) ≡ 1 =
-              ap (λ m. bit_of (is_some (find (is_of m) (heap_at parts worker)))) e
-              ∙ ap (λ o. bit_of (is_some o)) go.there in
-              let b : bit_of (is_some (find (is_of n) heap)) ≡ 0 =
-              ap (λ m. bit_of (is_some (find (is_of m) heap))) e ∙ ap (λ o. bit_of (is_some o))
-              go.gone in
-              let c : bit_of (nat_eq one.holding.number n) ≡ 1 =
-              ap (λ m. bit_of (nat_eq one.holding.number m)) e
-              ∙ ap bit_of (nat_eq-same one.holding.number) in
-              omega (arith, had n, has_now n, a, b, c)
-          | inr ne ↦
-              let a : bit_of (is_some (find (is_of n) heap))
-              ≡ bit_of (is_some (find (is_of n) (heap_at parts worker))) = ap (λ o. bit_of (is_some o))
-              (go.others n ne) in
-              let c : bit_of (nat_eq one.holding.number n) ≡ 0 =
-              ap bit_of (nat_eq-other one.holding.number n (λ e. ne (sym e))) in
-              omega (arith, had n, has_now n, a, c)
-        ]
+    moves n = elim (cases_eq n one.holding.number) [
+      | inl e ↦
+          let a : bit_of (is_some (find (is_of n) (heap_at parts worker))) ≡ 1 =
+          ap (λ m. bit_of (is_some (find (is_of m) (heap_at parts worker)))) e
+          ∙ ap (λ o. bit_of (is_some o)) go.there in
+          let b : bit_of (is_some (find (is_of n) heap)) ≡ 0 =
+          ap (λ m. bit_of (is_some (find (is_of m) heap))) e ∙ ap (λ o. bit_of (is_some o))
+          go.gone in
+          let c : bit_of (nat_eq one.holding.number n) ≡ 1 =
+          ap (λ m. bit_of (nat_eq one.holding.number m)) e
+          ∙ ap bit_of (nat_eq-same one.holding.number) in
+          omega (arith, had n, has_now n, a, b, c)
+      | inr ne ↦
+          let a : bit_of (is_some (find (is_of n) heap))
+          ≡ bit_of (is_some (find (is_of n) (heap_at parts worker))) = ap (λ o. bit_of (is_some o))
+          (go.others n ne) in
+          let c : bit_of (nat_eq one.holding.number n) ≡ 0 =
+          ap bit_of (nat_eq-other one.holding.number n (λ e. ne (sym e))) in
+          omega (arith, had n, has_now n, a, c)
+    ]
 
     counts : (n : ℕ) → count_by (is_numbered n) (segments_in (with_orphan parts worker heap one))
         ≡ count_by (is_numbered n) (segments_in parts)
@@ -204,9 +202,7 @@ taken_up_tidy parts worker heap one t up once =
         let pooled = count_append (is_of n) parts.orphans parts.fresh in
         let heap-is = found_bit n heap (no_twice n heap once) in
         let had = found_bit n (heap_at parts worker) (heap_once parts t n worker) in
-        elim (cases_eq n m) as (λ _. count_by (is_numbered n)
-        (segments_in (with_adopted parts worker heap m))
-        ≡ count_by (is_numbered n) (segments_in parts)) [
+        elim (cases_eq n m) [
           | inl e ↦
               let a : count_by (is_of n) (without m parts.orphans) ≡ 0 =
               ap (λ k. count_by (is_of k) (without m parts.orphans)) e

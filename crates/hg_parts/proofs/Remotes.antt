@@ -8,8 +8,7 @@ use Rattle.std.proofs.lemmas.List.{length-set, get_or_past}
 use Rattle.hg_lists.proofs.RepeatsLemmas.{nat_eq-same, nat_eq-other}
 use Rattle.hg_place.specs.Words.{bit_of}
 use Rattle.hg_place.specs.Places.{segment_of}
-use Rattle.hg_remote.specs.Remote.{contents}
-use Rattle.hg_remote.specs.Remote.{Remote as RemoteList}
+use Rattle.hg_remote.specs.Remote.{contents, Remote as RemoteList}
 use Rattle.hg_machine.specs.Life.{Record, is_parted}
 use Rattle.hg_machine.specs.Holders.{is_number}
 use Rattle.hg_machine.specs.Lists.{times, sent_in}
@@ -18,15 +17,15 @@ use Rattle.hg_agreement.specs.Parts.{Remote, Parts, remote_at, record_by, lists_
 use Rattle.hg_agreement.specs.PlainPut.{with_plain}
 use Rattle.hg_agreement.specs.TakenIn.{remote_places, is_listed, taken_in}
 use Rattle.hg_parts.specs.Rights.{AreSegmentsRight, list_of, remote_from}
-use Rattle.hg_parts.specs.Accounted.{is_out, IsOutOnce}
+use Rattle.hg_parts.specs.Accounted.{is_out}
 use Rattle.hg_parts.specs.Spots.{in_heap, with_segment, IsSpotSwap}
 use Rattle.hg_parts.specs.Remotes.{with_remote, DeliveredIsTidy, TakenBackIsTidy, TakenInIsTidy}
 use Rattle.hg_parts.proofs.Times.{times_inserted, hand_counts, count_set, any_counts, AnyCounts}
 use Rattle.hg_parts.proofs.Times.{bit_small}
 use Rattle.hg_parts.proofs.Records.{record_past}
 use Rattle.hg_parts.proofs.Sent.{places_are, sent_is, remotes_right, sent_here, sent_other}
-use Rattle.hg_parts.proofs.SpotChanges.{segments, inside, still_rising, record_was, record_now}
-use Rattle.hg_parts.proofs.SpotChanges.{out_away, out_other, out_before, out_after, home_in}
+use Rattle.hg_parts.proofs.SpotSwapped.{segments, inside, still_rising, record_was, record_now, out_away}
+use Rattle.hg_parts.proofs.SpotChanges.{out_other, out_before, out_after, home_in}
 
 -- other remote lists for as many segments
 remotes_long : (parts : Parts) (n : ℕ) (remote : RemoteList) → AreSegmentsRight parts
@@ -54,8 +53,7 @@ out_inside parts h place out = elim (cases_lt place (length parts.policy.segment
 turned : (n at place : ℕ) → at < 8192 → segment_of place ≡ n → bit_of (nat_eq at (place % 8192))
     ≡ bit_of (nat_eq (n * 8192 + at) place)
 turned n at place low e =
-    elim (cases_eq at (place % 8192)) as (λ _. bit_of (nat_eq at (place % 8192))
-    ≡ bit_of (nat_eq (n * 8192 + at) place)) [
+    elim (cases_eq at (place % 8192)) [
       | inl f ↦ ap (λ (k : ℕ). bit_of (nat_eq at k)) (sym f) ∙ ap bit_of (nat_eq-same at)
           ∙ sym (ap (λ (k : ℕ). bit_of (nat_eq (n * 8192 + at) k))
           (let s : place ≡ n * 8192 + at = omega (arith, e, f) in s)
@@ -97,7 +95,7 @@ delivered parts worker n at remote t below-at hand right more =
           let count : count_by (is_number place) hands + bit_of
           (is_number place (slice_index_or parts.hands worker None)) ≡ count_by (is_number place)
           parts.hands + 0 = count_set parts.hands worker place None working in
-          elim (cases_eq (segment_of place) n) as (λ _. IsOutOnce after place) [
+          elim (cases_eq (segment_of place) n) [
             | inl e ↦
                 let new : times place (sent_in (lists_of after) (segment_of place))
                 ≡ times (place % 8192) (contents remote) = sent_here mid n remote below t.remotes
@@ -128,18 +126,18 @@ taken_back parts spot one now at remote t put b a right more =
     let n = one.holding.number in
     let q = n * 8192 + at in
     let mid : Parts = with_segment parts spot now parts.hands in
-    let inside-n : n < length parts.policy.segments = inside parts spot one now parts.hands t
+    let inside-n : n < length parts.policy.segments = inside parts.hands t
     put.swap refl in
     let below : n < length parts.remotes = omega (arith, inside-n, t.segments.remotes) in
     let small = put.below in
     let after : Parts = with_remote mid n remote in
     record {
       segments =
-          remotes_long mid n remote (segments parts spot one now parts.hands t put.swap refl);
+          remotes_long mid n remote (segments parts.hands t put.swap refl);
       remotes = remotes_right mid n remote below t.remotes right;
       out_once = λ place.
           let was = t.out_once place in
-          elim (cases_eq (segment_of place) n) as (λ _. IsOutOnce after place) [
+          elim (cases_eq (segment_of place) n) [
             | inl e ↦
                 let new : times place (sent_in (lists_of after) (segment_of place))
                 ≡ times (place % 8192) (contents remote) = sent_here mid n remote below t.remotes
@@ -151,20 +149,18 @@ taken_back parts spot one now at remote t put b a right more =
                 let step = times_inserted (place % 8192) at (contents remote)
                 (contents (list_of (remote_at parts n))) more in
                 let turn = turned n at place small e in
-                elim (cases_eq q place) as (λ _. IsOutOnce after place) [
+                elim (cases_eq q place) [
                   | inl f ↦
                       let out : bit_of (is_out parts place) ≡ 1 =
-                      ap bit_of (ap (is_out parts) (sym f) ∙ out_before parts spot one now at
-                      parts.hands t put refl ∙ b) in
+                      ap bit_of (ap (is_out parts) (sym f) ∙ out_before parts.hands t put refl ∙ b) in
                       let no : bit_of (is_out after place) ≡ 0 =
-                      ap bit_of (ap (is_out after) (sym f) ∙ out_after parts spot one now at
-                      parts.hands t put refl ∙ home_in (record_by (Some now) at).life a) in
+                      ap bit_of (ap (is_out after) (sym f) ∙ out_after parts.hands t put refl ∙ home_in (record_by (Some now) at).life a) in
                       let bit : bit_of (nat_eq q place) ≡ 1 =
                       ap bit_of (ap (nat_eq q) (sym f) ∙ nat_eq-same q) in
                       omega (arith, was, out, no, new, old, step, turn, bit)
                   | inr ne ↦
                       let out : bit_of (is_out after place) ≡ bit_of (is_out parts place) =
-                      ap bit_of (out_other parts spot one now at parts.hands t put refl place
+                      ap bit_of (out_other parts.hands t put refl place
                       (λ f. ne (sym f))) in
                       let bit : bit_of (nat_eq q place) ≡ 0 = ap bit_of (nat_eq-other q place ne) in
                       omega (arith, was, out, new, old, step, turn, bit)
@@ -174,10 +170,10 @@ taken_back parts spot one now at remote t put b a right more =
                 ≡ times place (sent_in (lists_of parts) (segment_of place)) =
                 sent_other mid n remote below t.remotes right place away in
                 let out : bit_of (is_out after place) ≡ bit_of (is_out parts place) =
-                ap bit_of (out_away parts spot one now parts.hands t put.swap refl place away) in
+                ap bit_of (out_away parts.hands t put.swap refl place away) in
                 omega (arith, was, out, new)
           ];
-      rising = still_rising parts spot one now t put.swap;
+      rising = still_rising t put.swap;
     }
 
 -- all of the list home
@@ -195,18 +191,18 @@ taken_in_tidy parts worker found one now remote t taken is right none =
     let put : IsSpotSwap parts spot one now =
     record { there = taken.swap.there; number = taken.swap.number; right = is } in
     let mid : Parts = with_plain parts worker found now in
-    let inside-n : n < length parts.policy.segments = inside parts spot one now parts.hands t put
+    let inside-n : n < length parts.policy.segments = inside parts.hands t put
     refl in
     let below : n < length parts.remotes = omega (arith, inside-n, t.segments.remotes) in
     let after : Parts = with_remote mid n remote in
     let old_list : Remote = remote_at parts n in
     record {
-      segments = remotes_long mid n remote (segments parts spot one now parts.hands t put refl);
+      segments = remotes_long mid n remote (segments parts.hands t put refl);
       remotes = remotes_right mid n remote below t.remotes right;
       out_once = λ place.
           let was = t.out_once place in
           let at = place % 8192 in
-          elim (cases_eq (segment_of place) n) as (λ _. IsOutOnce after place) [
+          elim (cases_eq (segment_of place) n) [
             | inl e ↦
                 let new : times place (sent_in (lists_of after) (segment_of place)) ≡ 0 =
                 sent_here mid n remote below t.remotes right place inside-n e
@@ -219,12 +215,12 @@ taken_in_tidy parts worker found one now remote t taken is right none =
                 let before : bit_of (is_out parts place)
                 ≡ bit_of (is_parted (record_by (Some one) at).life) =
                 ap (λ r. bit_of (is_parted r.life))
-                (record_was parts spot one now parts.hands t put refl place e) in
+                (record_was parts.hands t put refl place e) in
                 let later : bit_of (is_out after place)
                 ≡ bit_of (is_parted (taken_in (is_listed old_list at)
                 (record_by (Some one) at)).life) =
                 ap (λ r. bit_of (is_parted r.life))
-                (record_now parts spot one now parts.hands t put refl place e
+                (record_now parts.hands t put refl place e
                 ∙ taken.records at (omega arith)) in
                 let step = taken_bit (is_listed old_list at) (record_by (Some one) at)
                 (count_by (is_number place) parts.hands) (times at (remote_places old_list))
@@ -236,7 +232,7 @@ taken_in_tidy parts worker found one now remote t taken is right none =
                 ≡ times place (sent_in (lists_of parts) (segment_of place)) =
                 sent_other mid n remote below t.remotes right place away in
                 let out : bit_of (is_out after place) ≡ bit_of (is_out parts place) =
-                ap bit_of (out_away parts spot one now parts.hands t put refl place away) in
+                ap bit_of (out_away parts.hands t put refl place away) in
                 omega (arith, was, out, new)
           ];
       rising = t.rising;

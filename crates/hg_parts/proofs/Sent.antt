@@ -10,8 +10,7 @@ use Rattle.std.proofs.lemmas.List.{ext_get_or, get_or_past, get_or-set_other}
 use Rattle.std.proofs.lemmas.List.FromFn.{length-map-range_with_len, get_or-map-range_with_len}
 use Rattle.hg_lists.proofs.RepeatsLemmas.{Contains-cons}
 use Rattle.hg_place.specs.Places.{segment_of}
-use Rattle.hg_remote.specs.Remote.{contents}
-use Rattle.hg_remote.specs.Remote.{Remote as RemoteList}
+use Rattle.hg_remote.specs.Remote.{contents, Remote as RemoteList}
 use Rattle.hg_machine.specs.Lists.{times, list_at, sent_in}
 use Rattle.hg_agreement.specs.Parts.{Remote, Parts, no_remote, remote_at, thread_at, thread_of}
 use Rattle.hg_agreement.specs.Parts.{delayed_of, places_from, lists_of}
@@ -26,7 +25,7 @@ pub any_contains : (p : ℕ → Bool) (xs : List ℕ) → list_any p xs ≡ true
     × (p x ≡ true)
 any_contains p [] e = absurd (cc)
 any_contains p (x ∷ xs) e =
-    elim (cases_Bool (p x)) as (λ _. (y : ℕ) × Contains (x ∷ xs) y × (p y ≡ true)) [
+    elim (cases_Bool (p x)) [
       | inl t ↦ (x, (0, omega arith, refl), t)
       | inr f ↦
           let rest = any_contains p xs (sym (ap (λ b. b || list_any p xs) f) ∙ e) in
@@ -120,7 +119,7 @@ module _ (parts : Parts) (n : ℕ) (remote : RemoteList) (below : n < length par
   pub remotes_right : AreRemotesRight parts → IsRemoteRight (remote_from remote)
       → AreRemotesRight (with_remote parts n remote)
   remotes_right all right m lt =
-      elim (cases_eq m n) as (λ _. IsRemoteRight (remote_at (with_remote parts n remote) m)) [
+      elim (cases_eq m n) [
         | inl e ↦ subst IsRemoteRight
             (sym (ap (remote_at (with_remote parts n remote)) e ∙ remote_here)) right
         | inr ne ↦ subst IsRemoteRight (sym (remote_other m ne)) (all m lt)
@@ -139,9 +138,7 @@ module _ (parts : Parts) (n : ℕ) (remote : RemoteList) (below : n < length par
         → times place (sent_in (lists_of (with_remote parts n remote)) (segment_of place))
         ≡ times place (sent_in (lists_of parts) (segment_of place))
     sent_other place ne =
-        elim (cases_lt (segment_of place) (length parts.policy.segments))
-        as (λ _. times place (sent_in (lists_of (with_remote parts n remote)) (segment_of place))
-        ≡ times place (sent_in (lists_of parts) (segment_of place))) [
+        elim (cases_lt (segment_of place) (length parts.policy.segments)) [
           | inl lt ↦ sent_is (with_remote parts n remote) (remotes_right all right) (segment_of place)
               place lt refl
               ∙ ap (λ r. times (place % 8192) (contents (list_of r)))

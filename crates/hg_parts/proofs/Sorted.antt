@@ -183,7 +183,7 @@ module _ (parts : Parts) (t : IsTidy parts) (n : ℕ) where
   pooled = omega (arith, t.segments.once n, counted_apart parts n)
 
   has_none : worker_of parts n ≡ None → (w : ℕ) → has (holdings (heap_at parts w)) n ≡ false
-  has_none e w = false_from_ne_true _ (λ t. elim (cases_lt w (length parts.heaps)) as (λ _. ⊥) [
+  has_none e w = false_from_ne_true _ (λ t. elim (cases_lt w (length parts.heaps)) [
     | inl below ↦
         let some = some_passes (λ v. has (holdings (heap_at parts v)) n) 0 (length parts.heaps) w
         (omega arith) (omega (arith, below)) t in

@@ -9,7 +9,7 @@ use Rattle.std.proofs.lemmas.Bool.Decides.{nat_tests}
 use Rattle.std.proofs.lemmas.List.{get_or_past}
 use Rattle.std.proofs.lemmas.List.FromFn.{length-map-range_with_len}
 use Rattle.std.proofs.lemmas.Option.{none-some}
-use Rattle.hg_size.specs.Runs.{AreRuns, IsRunAt}
+use Rattle.hg_size.specs.Runs.{AreRuns}
 use Rattle.hg_size.proofs.Covers.{run_small}
 use Rattle.hg_size.proofs.Within.{run_within}
 use Rattle.hg_size.specs.Sizes.{sizes}
@@ -19,8 +19,8 @@ use Rattle.hg_machine.specs.State.{Holder, fresh, orphan, held, class_at, holder
 use Rattle.hg_machine.specs.Holders.{is_orphan}
 use Rattle.hg_machine.specs.Soundness.{IsWhole}
 use Rattle.hg_agreement.specs.Parts.{Plain, Parts, is_of, record_of, class_by, page_class}
-use Rattle.hg_agreement.specs.Holdings.{class_of}
 use Rattle.hg_agreement.specs.Parts.{holder_of, state_of}
+use Rattle.hg_agreement.specs.Holdings.{class_of}
 use Rattle.hg_agreement.proofs.Firsts.{count_cons, count_append}
 use Rattle.hg_agreement.proofs.Openings.{count_numbers}
 use Rattle.hg_agreement.proofs.Told.{class_is, holder_is as told}
@@ -63,17 +63,16 @@ module _ (parts : Parts) (h : AreSegmentsRight parts) where
 
   -- blocks lie apart over pages
   pub runs : AreRuns (class_at (state_of parts))
-  runs page = elim (cases_lt page (length parts.policy.segments * 16))
-      as (λ _. IsRunAt (class_at (state_of parts)) page) [
-        | inl lt ↦ (let f = found parts h (segment_of_page page) (omega (arith, lt)) in
-            run_within (class_of f.0.1.holding) (class_at (state_of parts)) page
-            (λ q same. class_here parts h q f.0 (omega (arith, lt, same))
-            (ap (found_in parts) same ∙ f.1))
-            ((right parts h (segment_of_page page) f.0 f.1).holding.runs (page % 16)))
-        | inr ge ↦ run_small (class_at (state_of parts)) page
-            (λ q size same is. absurd (none-some size
-            (sym (class_past parts h q (omega (arith, ge, same))) ∙ is)))
-      ]
+  runs page = elim (cases_lt page (length parts.policy.segments * 16)) [
+    | inl lt ↦ (let f = found parts h (segment_of_page page) (omega (arith, lt)) in
+        run_within (class_of f.0.1.holding) (class_at (state_of parts)) page
+        (λ q same. class_here parts h q f.0 (omega (arith, lt, same))
+        (ap (found_in parts) same ∙ f.1))
+        ((right parts h (segment_of_page page) f.0 f.1).holding.runs (page % 16)))
+    | inr ge ↦ run_small (class_at (state_of parts)) page
+        (λ q size same is. absurd (none-some size
+        (sym (class_past parts h q (omega (arith, ge, same))) ∙ is)))
+  ]
 
   -- holders are workers
 

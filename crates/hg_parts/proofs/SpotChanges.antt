@@ -1,33 +1,22 @@
 -- A segment that changes where it stands keeps parts tidy.
-use Rattle.std.proofs.Common.{◌≡◌, ◌≢◌, ℕ, zero, suc, ◌+◌, ◌*◌, ◌%◌, ◌<◌, true, false, nat_eq}
-use Rattle.std.proofs.Common.{nat_lt, List, [], ◌∷◌, length, count_by, slice_get, slice_set}
-use Rattle.std.proofs.Common.{slice_index_or, refl, sym, ap, ◌∙◌, arith, subst, inl, inr}
+use Rattle.std.proofs.Common.{◌≡◌, ◌≢◌, ℕ, ◌+◌, ◌*◌, ◌%◌, true, false, nat_eq, List, length}
+use Rattle.std.proofs.Common.{slice_set, slice_index_or, refl, sym, ap, ◌∙◌, arith, subst, inl, inr}
 use Rattle.std.specs.Prelude.{Option, Some, None}
-use Rattle.std.proofs.lemmas.Bool.{cases_lt, cases_eq}
-use Rattle.std.proofs.lemmas.Bool.Decides.{nat_tests}
+use Rattle.std.proofs.lemmas.Bool.{cases_eq}
 use Rattle.std.proofs.lemmas.List.{length-set}
-use Rattle.std.proofs.lemmas.List.Elements.{recursion_from_All, All-from_recursion}
 use Rattle.hg_lists.proofs.RepeatsLemmas.{nat_eq-same, nat_eq-other}
 use Rattle.hg_place.specs.Words.{bit_of}
 use Rattle.hg_place.specs.Places.{segment_of}
 use Rattle.hg_machine.specs.Life.{Life, home, live, parted, is_home, is_live, is_parted}
-use Rattle.hg_machine.specs.State.{Holder, record_at}
+use Rattle.hg_machine.specs.State.{record_at}
 use Rattle.hg_machine.specs.Holders.{is_number}
-use Rattle.hg_machine.proofs.Listed.{bit_true}
-use Rattle.hg_agreement.specs.LeftPut.{numbers}
 use Rattle.hg_agreement.specs.Parts.{Plain, Parts, record_by, state_of}
-use Rattle.hg_agreement.specs.Pool.{IsRising}
-use Rattle.hg_parts.specs.Rights.{segments_in, found_in, is_numbered, IsSegmentRight}
-use Rattle.hg_parts.specs.Rights.{AreSegmentsRight}
 use Rattle.hg_parts.specs.Accounted.{is_out, IsOutOnce}
 use Rattle.hg_parts.specs.Tidy.{IsTidy}
-use Rattle.hg_parts.specs.Spots.{Spot, in_heap, in_orphans, in_fresh, segment_at, heaps_with}
-use Rattle.hg_parts.specs.Spots.{orphans_with, fresh_with, with_segment, IsSpotSwap, IsSpotPut}
+use Rattle.hg_parts.specs.Spots.{Spot, with_segment, IsSpotPut}
 use Rattle.hg_parts.specs.SpotChanges.{SameOutIsTidy, GoneOutIsTidy, ComeHomeIsTidy, PartedIsTidy}
-use Rattle.hg_parts.proofs.Records.{found, record_here, record_past}
-use Rattle.hg_parts.proofs.Swaps.{Swaps, kept_swaps, swaps_count, swaps_counts, swaps_each}
-use Rattle.hg_parts.proofs.Swaps.{swaps_find, swaps_old, swaps_new}
 use Rattle.hg_parts.proofs.Times.{count_set}
+use Rattle.hg_parts.proofs.SpotSwapped.{segments, still_rising, record_was, record_now, record_away, out_away}
 
 -- a life at home, or live, is not parted
 pub home_in : (l : Life) → is_home l ≡ true → is_parted l ≡ false
@@ -40,147 +29,7 @@ live_in home e = refl
 live_in (live o ws) e = refl
 live_in (parted o ws) e = absurd (cc)
 
--- the same numbers stand in the pool, in the same order
-
-numbers_set : (one now : Plain) (xs : List Plain) (i : ℕ) → slice_get xs i ≡ Some one
-    → now.holding.number ≡ one.holding.number → numbers (slice_set xs i now) ≡ numbers xs
-numbers_set one now [] i e same = refl
-numbers_set one now (x ∷ xs) zero e same =
-    let is : x ≡ one = grind (arith, e) in
-    ap (λ k. k ∷ numbers xs) (same ∙ sym (ap (λ (y : Plain). y.holding.number) is))
-numbers_set one now (x ∷ xs) (suc i) e same =
-    ap (λ ks. x.holding.number ∷ ks) (numbers_set one now xs i e same)
-
-pub orphans_same : (parts : Parts) (spot : Spot) (one now : Plain) → segment_at parts spot ≡ Some one
-    → now.holding.number ≡ one.holding.number → numbers (orphans_with parts spot now)
-    ≡ numbers parts.orphans
-orphans_same parts (in_heap w i) one now e same = refl
-orphans_same parts (in_orphans i) one now e same = numbers_set one now parts.orphans i e same
-orphans_same parts (in_fresh i) one now e same = refl
-
-fresh_same : (parts : Parts) (spot : Spot) (one now : Plain) → segment_at parts spot ≡ Some one
-    → now.holding.number ≡ one.holding.number → numbers (fresh_with parts spot now)
-    ≡ numbers parts.fresh
-fresh_same parts (in_heap w i) one now e same = refl
-fresh_same parts (in_orphans i) one now e same = refl
-fresh_same parts (in_fresh i) one now e same = numbers_set one now parts.fresh i e same
-
-pub still_rising : (parts : Parts) (spot : Spot) (one now : Plain) → IsTidy parts
-    → IsSpotSwap parts spot one now → IsRising 0 (numbers (fresh_with parts spot now))
-still_rising parts spot one now t put =
-    subst (IsRising 0) (sym (fresh_same parts spot one now put.there put.number)) t.rising
-
-module _ (parts : Parts) (spot : Spot) (one now : Plain) (hands : List (Option ℕ))
-    (t : IsTidy parts) (put : IsSpotSwap parts spot one now)
-    (long : length hands ≡ length parts.hands) where
-  abbrev n : ℕ
-  n = one.holding.number
-
-  abbrev after : Parts
-  after = with_segment parts spot now hands
-
-  pub h : Holder
-  h = (kept_swaps parts spot one now hands put.there).0
-
-  swap : Swaps (h, one) (h, now) (segments_in parts) (segments_in after)
-  unfolding h
-  swap = (kept_swaps parts spot one now hands put.there).1
-
-  same_number : (m : ℕ) → is_numbered m (h, one) ≡ is_numbered m (h, now)
-  same_number m = ap (λ (k : ℕ). nat_eq k m) (sym put.number)
-
-  is_one : is_numbered n (h, one) ≡ true
-  is_one = nat_eq-same n
-
-  counted : (m : ℕ) → count_by (is_numbered m) (segments_in parts)
-      ≡ count_by (is_numbered m) (segments_in after)
-  counted m =
-      swaps_count (is_numbered m) (h, one) (h, now) (segments_in parts) (segments_in after)
-      (same_number m) swap
-
-  pub inside : n < length parts.policy.segments
-  inside =
-      let some = swaps_counts (is_numbered n) (h, one) (h, now) (segments_in parts)
-      (segments_in after) is_one swap in
-      let lt : nat_lt n (length parts.policy.segments) ≡ true =
-      bit_true (nat_lt n (length parts.policy.segments)) (omega (arith, some, t.segments.once n)) in
-      grind (arith, nat_tests)
-
-  once_n : count_by (is_numbered n) (segments_in parts) ≡ 1
-  once_n =
-      t.segments.once n ∙ ap bit_of
-      (let i = inside in let lt : nat_lt n (length parts.policy.segments) ≡ true =
-      grind (arith, nat_tests) in lt)
-
-  heaps_long : (s : Spot) → length (heaps_with parts s now) ≡ length parts.heaps
-  heaps_long (in_heap w i) =
-      length-set parts.heaps w (slice_set (slice_index_or parts.heaps w []) i now)
-  heaps_long (in_orphans i) = refl
-  heaps_long (in_fresh i) = refl
-
-  pub segments : AreSegmentsRight after
-  segments = record {
-    heaps = heaps_long spot ∙ t.segments.heaps;
-    hands = long ∙ t.segments.hands;
-    remotes = t.segments.remotes;
-    once = λ m. sym (counted m) ∙ t.segments.once m;
-    each =
-        All-from_recursion (λ e. IsSegmentRight parts.policy e.1) (segments_in after)
-        (swaps_each (λ e. IsSegmentRight parts.policy e.1) (h, one) (h, now) (segments_in parts)
-        (segments_in after) put.right swap
-        (recursion_from_All (λ e. IsSegmentRight parts.policy e.1) (segments_in parts)
-        t.segments.each));
-  }
-
-  pub found_before : found_in parts n ≡ Some (h, one)
-  found_before =
-      swaps_old (is_numbered n) (h, one) (h, now) (segments_in parts) (segments_in after) is_one
-      once_n swap
-
-  pub found_after : found_in after n ≡ Some (h, now)
-  found_after =
-      swaps_new (is_numbered n) (h, one) (h, now) (segments_in parts) (segments_in after) is_one
-      (sym (same_number n) ∙ is_one) once_n swap
-
-  pub found_other : (m : ℕ) → m ≢ n → found_in parts m ≡ found_in after m
-  found_other m ne =
-      let no : is_numbered m (h, one) ≡ false = nat_eq-other n m (λ e. ne (sym e)) in
-      swaps_find (is_numbered m) (h, one) (h, now) (segments_in parts) (segments_in after) no
-      (sym (same_number m) ∙ no) swap
-
-  -- what is recorded of its places, and of all others
-
-  within : (place : ℕ) → segment_of place ≡ n → place < length parts.policy.segments * 8192
-  within place e = let i = inside in omega (arith, e, i)
-
-  pub record_was : (place : ℕ) → segment_of place ≡ n → record_at (state_of parts) place
-      ≡ record_by (Some one) (place % 8192)
-  record_was place e =
-      record_here parts t.segments place (h, one) (within place e)
-      (ap (found_in parts) e ∙ found_before)
-
-  pub record_now : (place : ℕ) → segment_of place ≡ n → record_at (state_of after) place
-      ≡ record_by (Some now) (place % 8192)
-  record_now place e =
-      record_here after segments place (h, now) (within place e)
-      (ap (found_in after) e ∙ found_after)
-
-  pub record_away : (place : ℕ) → segment_of place ≢ n → record_at (state_of after) place
-      ≡ record_at (state_of parts) place
-  record_away place away =
-      elim (cases_lt place (length parts.policy.segments * 8192))
-      as (λ _. record_at (state_of after) place ≡ record_at (state_of parts) place) [
-        | inl lt ↦
-            let f = found parts t.segments (segment_of place) (omega (arith, lt)) in
-            record_here after segments place f.0 lt (sym (found_other (segment_of place) away) ∙ f.1)
-            ∙ sym (record_here parts t.segments place f.0 lt f.1)
-        | inr ge ↦ record_past after segments place ge ∙ sym (record_past parts t.segments place ge)
-      ]
-
-  pub out_away : (place : ℕ) → segment_of place ≢ n → is_out after place ≡ is_out parts place
-  out_away place away = ap (λ r. is_parted r.life) (record_away place away)
-
-module _ (parts : Parts) (spot : Spot) (one now : Plain) (at : ℕ) (hands : List (Option ℕ))
+module _ {parts : Parts} {spot : Spot} {one now : Plain} {at : ℕ} (hands : List (Option ℕ))
     (t : IsTidy parts) (put : IsSpotPut parts spot one now at)
     (long : length hands ≡ length parts.hands) where
   abbrev changed : ℕ
@@ -197,24 +46,23 @@ module _ (parts : Parts) (spot : Spot) (one now : Plain) (at : ℕ) (hands : Lis
 
   record_before : record_at (state_of parts) changed ≡ record_by (Some one) at
   record_before =
-      record_was parts spot one now hands t put.swap long changed own ∙ ap (record_by (Some one))
+      record_was hands t put.swap long changed own ∙ ap (record_by (Some one))
       own_at
 
   record_after : record_at (state_of later) changed ≡ record_by (Some now) at
   record_after =
-      record_now parts spot one now hands t put.swap long changed own ∙ ap (record_by (Some now))
+      record_now hands t put.swap long changed own ∙ ap (record_by (Some now))
       own_at
 
   record_other : (place : ℕ) → place ≢ changed → record_at (state_of later) place
       ≡ record_at (state_of parts) place
   record_other place ne =
-      elim (cases_eq (segment_of place) one.holding.number) as (λ _. record_at (state_of later)
-      place ≡ record_at (state_of parts) place) [
+      elim (cases_eq (segment_of place) one.holding.number) [
         | inl e ↦
-            record_now parts spot one now hands t put.swap long place e
+            record_now hands t put.swap long place e
             ∙ put.others (place % 8192) (omega arith) (λ f. ne (omega (arith, e, f)))
-            ∙ sym (record_was parts spot one now hands t put.swap long place e)
-        | inr away ↦ record_away parts spot one now hands t put.swap long place away
+            ∙ sym (record_was hands t put.swap long place e)
+        | inr away ↦ record_away hands t put.swap long place away
       ]
 
   pub out_other : (place : ℕ) → place ≢ changed → is_out later place ≡ is_out parts place
@@ -232,19 +80,18 @@ kept_out : (parts : Parts) (spot : Spot) (one now : Plain) (at : ℕ) → IsTidy
     → is_parted (record_by (Some one) at).life ≡ false → is_parted (record_by (Some now) at).life
     ≡ false → IsTidy (with_segment parts spot now parts.hands)
 kept_out parts spot one now at t put b a = record {
-  segments = segments parts spot one now parts.hands t put.swap refl;
+  segments = segments parts.hands t put.swap refl;
   remotes = t.remotes;
   out_once =
-      λ place. elim (cases_eq place (one.holding.number * 8192 + at))
-      as (λ _. IsOutOnce (with_segment parts spot now parts.hands) place) [
+      λ place. elim (cases_eq place (one.holding.number * 8192 + at)) [
         | inl e ↦ subst (IsOutOnce (with_segment parts spot now parts.hands)) (sym e)
             (t.out_once (one.holding.number * 8192 + at)
-            ∙ ap bit_of (out_before parts spot one now at parts.hands t put refl ∙ b ∙ sym a
-            ∙ sym (out_after parts spot one now at parts.hands t put refl)))
+            ∙ ap bit_of (out_before parts.hands t put refl ∙ b ∙ sym a
+            ∙ sym (out_after parts.hands t put refl)))
         | inr ne ↦ t.out_once place
-            ∙ ap bit_of (sym (out_other parts spot one now at parts.hands t put refl place ne))
+            ∙ ap bit_of (sym (out_other parts.hands t put refl place ne))
       ];
-  rising = still_rising parts spot one now t put.swap;
+  rising = still_rising t put.swap;
 }
 
 pub gone_out : GoneOutIsTidy
@@ -264,20 +111,20 @@ parted_out parts spot one now at worker t put lt empty b a =
     let long : length hands ≡ length parts.hands = length-set parts.hands worker (Some q) in
     let after = with_segment parts spot now hands in
     record {
-      segments = segments parts spot one now hands t put.swap long;
+      segments = segments hands t put.swap long;
       remotes = t.remotes;
       out_once = λ place.
           let none : bit_of (is_number place (slice_index_or parts.hands worker None)) ≡ 0 =
           ap (λ (o : Option ℕ). bit_of (is_number place o)) empty in
           let count = count_set parts.hands worker place (Some q) lt in
           let was = t.out_once place in
-          elim (cases_eq place q) as (λ _. IsOutOnce after place) [
+          elim (cases_eq place q) [
             | inl e ↦
                 let out : bit_of (is_out parts place) ≡ 0 =
-                ap bit_of (ap (is_out parts) e ∙ out_before parts spot one now at hands t put long
+                ap bit_of (ap (is_out parts) e ∙ out_before hands t put long
                 ∙ live_in (record_by (Some one) at).life b) in
                 let now_out : bit_of (is_out after place) ≡ 1 =
-                ap bit_of (ap (is_out after) e ∙ out_after parts spot one now at hands t put long
+                ap bit_of (ap (is_out after) e ∙ out_after hands t put long
                 ∙ a) in
                 let one_more : bit_of (is_number place (Some q)) ≡ 1 =
                 ap bit_of (let same : nat_eq q place ≡ true = ap (nat_eq q) e ∙ nat_eq-same q in
@@ -285,32 +132,31 @@ parted_out parts spot one now at worker t put lt empty b a =
                 omega (arith, none, count, was, out, now_out, one_more)
             | inr ne ↦
                 let out : bit_of (is_out after place) ≡ bit_of (is_out parts place) =
-                ap bit_of (out_other parts spot one now at hands t put long place ne) in
+                ap bit_of (out_other hands t put long place ne) in
                 let no_more : bit_of (is_number place (Some q)) ≡ 0 =
                 ap bit_of (nat_eq-other q place (λ f. ne (sym f))) in
                 omega (arith, none, count, was, out, no_more)
           ];
-      rising = still_rising parts spot one now t put.swap;
+      rising = still_rising t put.swap;
     }
 
 -- a segment that changes with the same places out
 
 pub same_out : SameOutIsTidy
 same_out parts spot one now t put same = record {
-  segments = segments parts spot one now parts.hands t put refl;
+  segments = segments parts.hands t put refl;
   remotes = t.remotes;
   out_once = λ place. t.out_once place ∙ ap bit_of (sym (out_same place));
-  rising = still_rising parts spot one now t put;
+  rising = still_rising t put;
 }
   where
     out_same : (place : ℕ) → is_out (with_segment parts spot now parts.hands) place
         ≡ is_out parts place
-    out_same place = elim (cases_eq (segment_of place) one.holding.number)
-        as (λ _. is_out (with_segment parts spot now parts.hands) place ≡ is_out parts place) [
-          | inl e ↦
-              ap (λ r. is_parted r.life) (record_now parts spot one now parts.hands t put refl place e)
-              ∙ same (place % 8192) (omega arith)
-              ∙ sym (ap (λ r. is_parted r.life)
-              (record_was parts spot one now parts.hands t put refl place e))
-          | inr away ↦ out_away parts spot one now parts.hands t put refl place away
-        ]
+    out_same place = elim (cases_eq (segment_of place) one.holding.number) [
+      | inl e ↦
+          ap (λ r. is_parted r.life) (record_now parts.hands t put refl place e)
+          ∙ same (place % 8192) (omega arith)
+          ∙ sym (ap (λ r. is_parted r.life)
+          (record_was parts.hands t put refl place e))
+      | inr away ↦ out_away parts.hands t put refl place away
+    ]

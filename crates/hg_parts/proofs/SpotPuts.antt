@@ -1,7 +1,7 @@
 -- A change of one place, wherever its segment stands, in the state.
-use Rattle.std.proofs.Common.{◌≡◌, ◌≢◌, ℕ, ◌+◌, ◌*◌, ◌%◌, ◌<◌, [], length, map, set, slice_get}
-use Rattle.std.proofs.Common.{◌≤◌, true, nat_lt, count_by, slice_index_or, subst}
-use Rattle.std.proofs.Common.{refl, sym, ap, ◌∙◌, arith, inl, inr}
+use Rattle.std.proofs.Common.{◌≡◌, ◌≢◌, ℕ, ◌+◌, ◌*◌, ◌%◌, ◌<◌, [], length, map, set, slice_get, ◌≤◌}
+use Rattle.std.proofs.Common.{true, nat_lt, count_by, slice_index_or, subst, refl, sym, ap, ◌∙◌}
+use Rattle.std.proofs.Common.{arith, inl, inr}
 use Rattle.std.specs.Prelude.{Some, None}
 use Rattle.std.specs.List.{range_with_len}
 use Rattle.std.proofs.lemmas.Bool.{cases_eq, cases_lt, eq-eqb}
@@ -9,17 +9,15 @@ use Rattle.std.proofs.lemmas.List.{get_or_past}
 use Rattle.hg_place.specs.Places.{segment_of, segment_of_page}
 use Rattle.hg_machine.specs.Life.{never_used}
 use Rattle.hg_agreement.specs.Holdings.{class_of}
-use Rattle.hg_agreement.specs.LeftPut.{numbers}
 use Rattle.hg_agreement.specs.Parts.{Plain, Parts, is_of, heap_at, plain_of, record_by, class_by}
 use Rattle.hg_agreement.specs.Parts.{record_of, page_class, holder_of, state_of}
 use Rattle.hg_agreement.proofs.Lookups.{maps, map_set}
 use Rattle.hg_agreement.proofs.Putting.{put_is_put}
 use Rattle.hg_parts.specs.Tidy.{IsTidy}
-use Rattle.hg_parts.specs.Spots.{Spot, orphans_with, with_segment, IsSpotPut, SpotIsSwap}
-use Rattle.hg_parts.specs.Spots.{SpotPutIsRecord, HeapPutIsPut}
+use Rattle.hg_parts.specs.Spots.{Spot, with_segment, IsSpotPut, SpotIsSwap, SpotPutIsRecord}
+use Rattle.hg_parts.specs.Spots.{HeapPutIsPut, segment_at, SpotIsFound, SpotShowsItsWord}
 use Rattle.hg_parts.proofs.Flat.{plain_in, holder_in, plain_is, holder_is}
-use Rattle.hg_parts.proofs.SpotChanges.{inside, found_before, found_after, found_other}
-use Rattle.hg_parts.proofs.SpotChanges.{orphans_same}
+use Rattle.hg_parts.proofs.SpotSwapped.{inside, found_before, found_after, found_other, orphans_same}
 use Rattle.hg_parts.proofs.Sorted.{tidy_sorted, heap_once}
 use Rattle.hg_parts.proofs.Founds.{stands_first}
 use Rattle.std.proofs.lemmas.Bool.Decides.{nat_tests}
@@ -29,12 +27,11 @@ use Rattle.hg_machine.specs.State.{Holder, State, with_record}
 use Rattle.hg_machine.proofs.Listed.{bit_true}
 use Rattle.hg_agreement.specs.Views.{IsWordOf}
 use Rattle.hg_parts.specs.Rights.{segments_in, found_in, is_numbered, IsSegmentRight}
-use Rattle.hg_parts.specs.Spots.{segment_at, SpotIsFound, SpotShowsItsWord}
 use Rattle.hg_parts.proofs.Records.{right}
 use Rattle.hg_parts.proofs.Swaps.{Swaps, kept_swaps, swaps_counts, swaps_old}
 use Rattle.hg_parts.proofs.Times.{bit_small}
 
-module _ (parts : Parts) (spot : Spot) (one now : Plain) (at : ℕ) (t : IsTidy parts)
+module _ {parts : Parts} {spot : Spot} {one now : Plain} {at : ℕ} (t : IsTidy parts)
     (put : IsSpotPut parts spot one now at) where
   abbrev n : ℕ
   n = one.holding.number
@@ -44,41 +41,36 @@ module _ (parts : Parts) (spot : Spot) (one now : Plain) (at : ℕ) (t : IsTidy 
 
   before_here : plain_of parts n ≡ Some one
   before_here =
-      plain_is parts n ∙ ap plain_in (found_before parts spot one now parts.hands t put.swap refl)
+      plain_is parts n ∙ ap plain_in (found_before parts.hands t put.swap refl)
 
   after_here : plain_of after n ≡ Some now
   after_here =
-      plain_is after n ∙ ap plain_in (found_after parts spot one now parts.hands t put.swap refl)
+      plain_is after n ∙ ap plain_in (found_after parts.hands t put.swap refl)
 
   plain_other : (m : ℕ) → m ≢ n → plain_of after m ≡ plain_of parts m
   plain_other m ne =
       plain_is after m ∙ sym
-      (ap plain_in (found_other parts spot one now parts.hands t put.swap refl m ne))
+      (ap plain_in (found_other parts.hands t put.swap refl m ne))
       ∙ sym (plain_is parts m)
 
   holder_same : (m : ℕ) → holder_of after m ≡ holder_of parts m
-  holder_same m = elim (cases_eq m n) as (λ _. holder_of after m ≡ holder_of parts m) [
-    | inl e ↦ ap (holder_of after) e
-        ∙ holder_is after n ∙ ap holder_in
-        (found_after parts spot one now parts.hands t put.swap refl)
-        ∙ sym (ap (holder_of parts) e ∙ holder_is parts n
-        ∙ ap holder_in (found_before parts spot one now parts.hands t put.swap refl))
+  holder_same m = elim (cases_eq m n) [
+    | inl e ↦ rw e (holder_is after n ∙ ap holder_in
+        (found_after parts.hands t put.swap refl)
+        ∙ sym (holder_is parts n ∙ ap holder_in (found_before parts.hands t put.swap refl)))
     | inr ne ↦ holder_is after m
-        ∙ sym (ap holder_in (found_other parts spot one now parts.hands t put.swap refl m ne))
+        ∙ sym (ap holder_in (found_other parts.hands t put.swap refl m ne))
         ∙ sym (holder_is parts m)
   ]
 
   record_other : (q : ℕ) → q ≢ n * 8192 + at → record_of after q ≡ record_of parts q
-  record_other q ne = elim (cases_eq (segment_of q) n) as (λ _. record_of after q
-      ≡ record_of parts q) [
-        | inl e ↦
-            ap (λ s. record_by (plain_of after s) (q % 8192)) e
-            ∙ ap (λ o. record_by o (q % 8192)) after_here
-            ∙ put.others (q % 8192) (omega arith) (λ f. ne (omega (arith, e, f)))
-            ∙ sym (ap (λ o. record_by o (q % 8192)) before_here)
-            ∙ sym (ap (λ s. record_by (plain_of parts s) (q % 8192)) e)
-        | inr away ↦ ap (λ o. record_by o (q % 8192)) (plain_other (segment_of q) away)
-      ]
+  record_other q ne = elim (cases_eq (segment_of q) n) [
+    | inl e ↦
+        rw e (ap (λ o. record_by o (q % 8192)) after_here
+        ∙ put.others (q % 8192) (omega arith) (λ f. ne (omega (arith, e, f)))
+        ∙ sym (ap (λ o. record_by o (q % 8192)) before_here))
+    | inr away ↦ ap (λ o. record_by o (q % 8192)) (plain_other (segment_of q) away)
+  ]
 
   record_here : record_of after (n * 8192 + at) ≡ record_by (Some now) at
   record_here =
@@ -92,13 +84,11 @@ module _ (parts : Parts) (spot : Spot) (one now : Plain) (at : ℕ) (t : IsTidy 
   class_same : ((page : ℕ) → page < 16 → class_of now.holding page ≡ class_of one.holding page)
       → (q : ℕ) → page_class after q ≡ page_class parts q
   class_same classes q =
-      elim (cases_eq (segment_of_page q) n) as (λ _. page_class after q ≡ page_class parts q) [
+      elim (cases_eq (segment_of_page q) n) [
         | inl e ↦
-            ap (λ s. class_by (plain_of after s) (q % 16)) e
-            ∙ ap (λ o. class_by o (q % 16)) after_here
+            rw e (ap (λ o. class_by o (q % 16)) after_here
             ∙ classes (q % 16) (omega arith)
-            ∙ sym (ap (λ o. class_by o (q % 16)) before_here)
-            ∙ sym (ap (λ s. class_by (plain_of parts s) (q % 16)) e)
+            ∙ sym (ap (λ o. class_by o (q % 16)) before_here))
         | inr away ↦ ap (λ o. class_by o (q % 16)) (plain_other (segment_of_page q) away)
       ]
 
@@ -108,44 +98,19 @@ same_hands : (parts : Parts) (spot : Spot) (one now : Plain) (at : ℕ) (t : IsT
     → state_of (with_segment parts spot now parts.hands)
     ≡ with_record (state_of parts) (one.holding.number * 8192 + at) (record_by (Some now) at)
 same_hands parts spot one now at t put classes =
-    let s = state_of parts in
     let a = with_segment parts spot now parts.hands in
     let q = one.holding.number * 8192 + at in
     let segments = length parts.policy.segments in
     let below = put.below in
-    let low = inside parts spot one now parts.hands t put.swap refl in
+    let low = inside parts.hands t put.swap refl in
     let records = map_set (record_of parts) (record_of a) (segments * 8192) q never_used
-    (omega (arith, below, low)) (record_other parts spot one now at t put)
-    ∙ ap (set (map (record_of parts) (range_with_len 0 (segments * 8192))) q)
-    (record_here parts spot one now at t put) in
-    ap (λ rs. record s {
-      records = rs;
-      classes =
-          map (page_class a) (range_with_len 0 (segments * 16));
-      holders =
-          map (holder_of a) (range_with_len 0 segments);
-      orphans = numbers (orphans_with parts spot now);
-    }) records
-    ∙ ap (λ cs. record s {
-      records = set s.records q (record_by (Some now) at);
-      classes =
-          cs;
-      holders = map (holder_of a) (range_with_len 0 segments);
-      orphans =
-          numbers (orphans_with parts spot now);
-    })
-    (maps (page_class a) (page_class parts) (range_with_len 0 (segments * 16))
-    (class_same parts spot one now at t put classes))
-    ∙ ap (λ hs. record s {
-      records = set s.records q (record_by (Some now) at);
-      holders =
-          hs;
-      orphans = numbers (orphans_with parts spot now);
-    })
-    (maps (holder_of a) (holder_of parts) (range_with_len 0 segments)
-    (holder_same parts spot one now at t put))
-    ∙ ap (λ os. record s { records = set s.records q (record_by (Some now) at); orphans = os })
-    (orphans_same parts spot one now put.swap.there put.swap.number)
+    (omega (arith, below, low)) (record_other t put)
+    ∙ ap (set (map (record_of parts) (range_with_len 0 (segments * 8192))) q) (record_here t put) in
+    let c = maps (page_class a) (page_class parts) (range_with_len 0 (segments * 16))
+    (class_same t put classes) in
+    let h = maps (holder_of a) (holder_of parts) (range_with_len 0 segments) (holder_same t put) in
+    let o = orphans_same parts spot one now put.swap.there put.swap.number in
+    cc
 
 pub spot_put : SpotPutIsRecord
 spot_put parts spot one now at hands t put classes =

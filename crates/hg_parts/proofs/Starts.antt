@@ -99,12 +99,11 @@ module _ (parts : Parts) (u : IsUnused parts) (long : length parts.heaps ≡ par
       ∙ ap (λ r. is_parted r.life) (none_used (length parts.policy.segments * 8192) place)
 
   none_sent : (place : ℕ) → times place (sent_in (lists_of parts) (segment_of place)) ≡ 0
-  none_sent place = elim (cases_lt (segment_of place) (length parts.policy.segments))
-      as (λ _. times place (sent_in (lists_of parts) (segment_of place)) ≡ 0) [
-        | inl lt ↦ sent_is parts remotes (segment_of place) place lt refl
-            ∙ ap (λ r. times (place % 8192) (contents (list_of r))) (remote_is (segment_of place) lt)
-        | inr ge ↦ sent_past parts (segment_of place) place ge
-      ]
+  none_sent place = elim (cases_lt (segment_of place) (length parts.policy.segments)) [
+    | inl lt ↦ sent_is parts remotes (segment_of place) place lt refl
+        ∙ ap (λ r. times (place % 8192) (contents (list_of r))) (remote_is (segment_of place) lt)
+    | inr ge ↦ sent_past parts (segment_of place) place ge
+  ]
 
   pub tidy : IsTidy parts
   tidy = record {

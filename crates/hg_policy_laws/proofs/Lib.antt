@@ -3,4 +3,6 @@ mod Versions
 mod Said
 mod SaidLines
 mod SaidLaws
+mod WholeTables
+mod KnownNames
 mod SaidWhole

@@ -8,7 +8,7 @@ use Rattle.std.proofs.lemmas.Bool.{cases_Bool, true≢false}
 use Rattle.std.proofs.lemmas.List.Folds.{list_any_at}
 use Rattle.std.proofs.lemmas.List.FromFn.{get_or-map-range_with_len}
 use Rattle.std.proofs.lemmas.List.Quantifiers.{position-Some}
-use Rattle.toml.specs.Data.{Data, Members, string, integer, float, boolean, datetime, array, table}
+use Rattle.toml.specs.Data.{Data, Members, string, integer}
 use Rattle.hg_machine.specs.Policy.{Tenant, nobody}
 use Rattle.hg_policy.specs.declared.key.Key.{Key}
 use Rattle.hg_policy.specs.declared.key.Key.TheVariants as key
@@ -96,11 +96,7 @@ module _ (tenants : List Tenant) (name : List ℕ) (k : ℕ) (at : position (λ 
   number_in-says : (which : Key) (d : Data) (n : ℕ) → number_in which tenants d ≡ Ok n → (n == k) ≡ is_text name d
   number_in-says which (string text) n e = number_in-by (no_such_name text) text n e
   number_in-says which (integer z) n e = cc
-  number_in-says which (float x) n e = cc
-  number_in-says which (boolean b) n e = cc
-  number_in-says which (datetime t) n e = cc
-  number_in-says which (array a) n e = cc
-  number_in-says which (table m) n e = cc
+  number_in-says which _ n e = cc
 
   -- the members of a group
   members-says : (value : Data) (members : List Bool) → group_members_in tenants value ≡ Ok members → get_or members k false ≡ has_some (is_text name) value
@@ -202,11 +198,7 @@ module _ (tenants : List Tenant) (name : List ℕ) (k : ℕ) (at : position (λ 
     pub named_in-says : (which : Key) (d : Data) (flags : List Bool) → named_in which tenants groups d ≡ Ok flags → get_or flags k false ≡ stands_for document name d
     named_in-says which (string text) flags e = stands-by text (position (λ (tenant : Tenant). bytes_eq text tenant.name) tenants) flags refl e
     named_in-says which (integer z) flags e = cc
-    named_in-says which (float x) flags e = cc
-    named_in-says which (boolean b) flags e = cc
-    named_in-says which (datetime t) flags e = cc
-    named_in-says which (array a) flags e = cc
-    named_in-says which (table m) flags e = cc
+    named_in-says which _ flags e = cc
 
     pub named_at-says : (which : Key) (entry : Members) (flags : List Bool) → named_at which tenants groups entry ≡ Ok flags → get_or flags k false ≡ says which (stands_for document name) entry
     unfolding named_at

@@ -2,7 +2,7 @@
 use Rattle.std.proofs.Common.{◌≡◌, ◌≢◌, ℕ, ◌||◌, codes, Bool, true, false, List, [], ◌∷◌, Option, Some, None, Ok, Err, ℤ, pos, negsuc, if◌then◌else◌, inl, inr, refl, sym, ap, ◌∙◌}
 use Rattle.std.specs.Str.{bytes_eq}
 use Rattle.std.proofs.lemmas.Bool.{cases_Bool}
-use Rattle.toml.specs.Data.{Data, Members, no_members, member, string, integer, float, boolean, datetime, array, table}
+use Rattle.toml.specs.Data.{Data, Members, no_members, member, string, integer}
 use Rattle.hg_policy.specs.declared.key.Key.{Key}
 use Rattle.hg_policy.specs.declared.key.Key.TheVariants as key
 use Rattle.hg_policy.specs.declared.key.Counted.{Counted}
@@ -15,11 +15,6 @@ use Rattle.hg_policy.specs.Document.{top_in, top_at, tables_of, policy_at}
 use Rattle.hg_policy.specs.VersionLaws.{keys_in, IsSameButVersion, VersionsAgree, VersionTwoIsVersionOne, VersionsAreTwo}
 use Rattle.hg_policy.proofs.Chains.{bind_at}
 use Rattle.hg_policy.proofs.GrantTable.{ne-eqb}
-
-or_skips : (a b c : Bool) → (a || b) ≡ true → (a || (b || c)) ≡ true
-or_skips true b c e = refl
-or_skips false true c e = refl
-or_skips false false c e = absurd (cc)
 
 -- the first of these keys that isn't known
 abbrev unknown_among : Level → List (List ℕ) → Option (List ℕ)
@@ -53,7 +48,7 @@ known_more (k ∷ ks) e = elim (cases_Bool (knows level.Top k)) [
   | inr strange ↦ let f : Some k ≡ None = rw strange at e in absurd (cc)
 ]
 
-none-Ok : (o : Option (List ℕ)) (known : Bool) → none_unknown o ≡ Ok known → o ≡ None
+pub none-Ok : (o : Option (List ℕ)) (known : Bool) → none_unknown o ≡ Ok known → o ≡ None
 none-Ok None known e = refl
 none-Ok (Some k) known e = absurd (cc)
 
@@ -122,11 +117,7 @@ module _ (document : Members) where
   no_number : (value : Data) → ((n : ℤ) → value ≢ integer n) → top_in value ≡ Err (kind key.Version)
   no_number (integer n) none = absurd (none n refl)
   no_number (string s) none = refl
-  no_number (float x) none = refl
-  no_number (boolean b) none = refl
-  no_number (datetime t) none = refl
-  no_number (array a) none = refl
-  no_number (table m) none = refl
+  no_number _ none = refl
 
 pub versions_are_two : VersionsAreTwo
 versions_are_two document = record {

@@ -7,7 +7,7 @@ use Rattle.hg_replay.specs.Text.{reply_text}
 use Rattle.hg_replay.specs.Replays.{Progress, Answered, Replays, handles_after, meaning_at, starting}
 use Rattle.hg_replay.specs.ReplayLaws.{Told, LeadsTo, StandsWhereLed, all_text, FirstLinesBeginRuns, StopsAreInRuns}
 use Rattle.hg_replay.specs.Writes.{StopsSoon}
-use Rattle.hg_replay.proofs.Answering.{answered_keeps_policy}
+use Rattle.hg_replay.proofs.GoingOn.{answered_keeps_policy}
 use Rattle.hg_replay.proofs.ReplayRuns.{first, leads, leads_then, stands_then, replays_are_runs}
 
 -- a line is answered in one way

@@ -4,6 +4,8 @@ pub mod RowLines
 pub mod Looking
 pub mod Meanings
 pub mod Answering
+pub mod GoingOn
+pub mod LinesSaid
 pub mod Listed
 pub mod ReplayRuns
 pub mod FirstLines

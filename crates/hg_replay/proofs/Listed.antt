@@ -95,7 +95,7 @@ module _ (s : State) (worker : ℕ) (actor : Actor) (sound : IsSound s) where
   shown_here a n (x ∷ answers) end below further run =
       let kept = look_keeps s run.0 worker actor (place_at a) x run.1 in
       let rest = further answers (subst (λ m. Run m (looks_at worker actor (held_among s worker (range_with_len (a + 1) n))) answers end) kept run.2) in
-      elim (look_shows a x run.0 below run.1) as (λ _. Shown a (suc n) (x ∷ answers) end) [
+      elim (look_shows a x run.0 below run.1) [
         | inl (listed, shows) ↦ record {
           same = rest.same;
           rows =
@@ -115,7 +115,7 @@ module _ (s : State) (worker : ℕ) (actor : Actor) (sound : IsSound s) where
   shown a zero [] end within run = record { same = run; rows = refl; printed = refl }
   shown a zero (x ∷ answers) end within run = absurd run
   shown a (suc n) answers end within run =
-      elim (cases_Bool (holds s worker (segment_of a))) as (λ _. Shown a (suc n) answers end) [
+      elim (cases_Bool (holds s worker (segment_of a))) [
         | inl held ↦ shown_here a n answers end (omega arith) (λ rest then. shown (a + 1) n rest end (omega arith) then) (rw held at run)
         | inr other ↦
             let rest = shown (a + 1) n answers end (omega arith) (rw other at run) in

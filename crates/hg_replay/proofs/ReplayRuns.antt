@@ -16,7 +16,7 @@ use Rattle.hg_replay.specs.Listings.{held_places}
 use Rattle.hg_replay.specs.Text.{reply_text}
 use Rattle.hg_replay.specs.Replays.{Progress, Answered, meaning_at}
 use Rattle.hg_replay.specs.ReplayLaws.{Told, LeadsTo, StandsWhereLed, workers_of, all_events, all_answers, all_text, all_handles, ReplaysAreRuns, ReplaysKeepPolicy, ReplaysKeepSound}
-use Rattle.hg_replay.proofs.Answering.{answered_keeps_policy, runs_keep_policy, workers_below}
+use Rattle.hg_replay.proofs.GoingOn.{answered_keeps_policy, runs_keep_policy, workers_below}
 use Rattle.hg_replay.proofs.Looking.{chosen_then}
 
 -- the events of a line are its worker's

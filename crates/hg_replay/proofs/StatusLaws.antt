@@ -146,10 +146,7 @@ status_at (suc (suc (suc (suc n)))) = status.BadLine
 status_at_number : (one : Status) → status_at (number_of one) ≡ one
 unfolding status_at
 status_at_number status.Done = refl
-status_at_number status.BadPolicy = refl
-status_at_number status.BadTrace = refl
-status_at_number status.Failed = refl
-status_at_number status.BadLine = refl
+status_at_number _ = refl
 
 pub numbers_differ : NumbersDiffer
 numbers_differ one other same = sym (status_at_number one) ∙ ap status_at same ∙ status_at_number other

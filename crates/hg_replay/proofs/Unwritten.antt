@@ -47,9 +47,7 @@ meaning_unwritten policy handles command.Collect = refl
 meaning_unwritten policy handles (command.Read actor block index) = block_unwritten (handle_named handles block) _ _ (λ h. refl)
 meaning_unwritten policy handles (command.Write actor block index value) = block_unwritten (handle_named handles block) _ _ (λ h. refl)
 meaning_unwritten policy handles (command.Look actor place) = refl
-meaning_unwritten policy handles (command.List actor) = refl
-meaning_unwritten policy handles (command.Abandon segment) = refl
-meaning_unwritten policy handles (command.Refill arena) = refl
+meaning_unwritten policy handles _ = refl
 
 looks_unwritten : (worker : ℕ) (actor : Actor) (places : List ℕ) → without_values (looks_at worker actor places) ≡ looks_at worker actor places
 looks_unwritten worker actor [] = refl
@@ -93,29 +91,18 @@ value_or_same answer.Done = inl refl
 value_or_same answer.Parted = inl refl
 value_or_same (answer.Value n) = inr (n, refl)
 value_or_same (answer.Taken n) = inl refl
-value_or_same (answer.Pages n) = inl refl
-value_or_same (answer.Refilled segment) = inl refl
-value_or_same (answer.Listed row) = inl refl
-value_or_same (answer.Denied rule) = inl refl
-value_or_same answer.TooLarge = inl refl
-value_or_same answer.NoRoom = inl refl
-value_or_same answer.Elsewhere = inl refl
-value_or_same answer.OutOfBlock = inl refl
-value_or_same answer.Busy = inl refl
-value_or_same answer.NothingInHand = inl refl
-value_or_same answer.NotHeld = inl refl
-value_or_same answer.NoSegment = inl refl
+value_or_same _ = inl refl
 
 -- answers that are the same but for values are the same, or both are values
 pub answers_differ : (a b : Answer) → without_answer b ≡ without_answer a
     → (b ≡ a) ⊎ ((m : ℕ) × (n : ℕ) × (a ≡ answer.Value m) × (b ≡ answer.Value n))
 answers_differ a b same =
-    elim (value_or_same a) as (λ _. (b ≡ a) ⊎ ((m : ℕ) × (n : ℕ) × (a ≡ answer.Value m) × (b ≡ answer.Value n))) [
-      | inl plain ↦ elim (value_or_same b) as (λ _. (b ≡ a) ⊎ ((m : ℕ) × (n : ℕ) × (a ≡ answer.Value m) × (b ≡ answer.Value n))) [
+    elim (value_or_same a) [
+      | inl plain ↦ elim (value_or_same b) [
         | inl also ↦ inl (sym also ∙ same ∙ plain)
         | inr (n, is) ↦ inr (0, n, sym plain ∙ sym same ∙ ap without_answer is, is)
       ]
-      | inr (m, is) ↦ elim (value_or_same b) as (λ _. (b ≡ a) ⊎ ((m : ℕ) × (n : ℕ) × (a ≡ answer.Value m) × (b ≡ answer.Value n))) [
+      | inr (m, is) ↦ elim (value_or_same b) [
         | inl also ↦ inr (m, 0, is, sym also ∙ same ∙ ap without_answer is)
         | inr (n, are) ↦ inr (m, n, is, are)
       ]
@@ -124,7 +111,7 @@ answers_differ a b same =
 -- values are neither rows nor handles
 row_or_not : (a : Answer) (l m : List Answer) → filter is_row l ≡ filter is_row m → filter is_row (without_answer a ∷ l) ≡ filter is_row (a ∷ m)
 row_or_not a l m same =
-    elim (value_or_same a) as (λ _. filter is_row (without_answer a ∷ l) ≡ filter is_row (a ∷ m)) [
+    elim (value_or_same a) [
       | inl plain ↦ rw plain (ap (λ r. cond (is_row a) (a ∷ r) r) same)
       | inr (n, is) ↦ rw is same
     ]
@@ -136,7 +123,7 @@ rows_unwritten (a ∷ answers) = row_or_not a (without_answers answers) answers 
 pub handle_unwritten : (answers : List Answer) → handle_in (without_answers answers) ≡ handle_in answers
 handle_unwritten [] = refl
 handle_unwritten (a ∷ []) =
-    elim (value_or_same a) as (λ _. handle_in (without_answer a ∷ []) ≡ handle_in (a ∷ [])) [
+    elim (value_or_same a) [
       | inl plain ↦ ap (λ b. handle_in (b ∷ [])) plain
       | inr (n, is) ↦ rw is refl
     ]
@@ -144,37 +131,14 @@ handle_unwritten (a ∷ b ∷ answers) = several (without_answer a) (without_ans
   where
     several : (a b : Answer) (answers : List Answer) → handle_in (a ∷ b ∷ answers) ≡ None
     several (answer.Block handle) b answers = refl
-    several answer.Done b answers = refl
-    several answer.Parted b answers = refl
-    several (answer.Value n) b answers = refl
-    several (answer.Taken n) b answers = refl
-    several (answer.Pages n) b answers = refl
-    several (answer.Refilled segment) b answers = refl
-    several (answer.Listed row) b answers = refl
-    several (answer.Denied rule) b answers = refl
-    several answer.TooLarge b answers = refl
-    several answer.NoRoom b answers = refl
-    several answer.Elsewhere b answers = refl
-    several answer.OutOfBlock b answers = refl
-    several answer.Busy b answers = refl
-    several answer.NothingInHand b answers = refl
-    several answer.NotHeld b answers = refl
-    several answer.NoSegment b answers = refl
+    several _ b answers = refl
 
 handles_unwritten : (handles : List (Option Handle)) (c : Command) (answers : List Answer)
     → handles_after handles (unwritten c) (without_answers answers) ≡ handles_after handles c answers
 handles_unwritten handles (command.Alloc actor arena bytes None) answers = refl
 handles_unwritten handles (command.Alloc actor arena bytes (Some label)) answers = ap (λ h. handles ++ h ∷ []) (handle_unwritten answers)
 handles_unwritten handles (command.Free actor block) answers = refl
-handles_unwritten handles command.Deliver answers = refl
-handles_unwritten handles (command.Take segment) answers = refl
-handles_unwritten handles command.Collect answers = refl
-handles_unwritten handles (command.Read actor block index) answers = refl
-handles_unwritten handles (command.Write actor block index value) answers = refl
-handles_unwritten handles (command.Look actor place) answers = refl
-handles_unwritten handles (command.List actor) answers = refl
-handles_unwritten handles (command.Abandon segment) answers = refl
-handles_unwritten handles (command.Refill arena) answers = refl
+handles_unwritten handles _ answers = refl
 
 -- labels stand for the same
 pub handles_agree : (handles : List (Option Handle)) (c d : Command) (answers given : List Answer)

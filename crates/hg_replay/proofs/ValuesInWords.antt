@@ -52,7 +52,7 @@ value_served s worker n (event.Refill arena) g = let e = g.1 in absurd (cc)
 
 value_read : (s new : State) (worker n : ℕ) (e : Event) → Step s worker e (answer.Value n) new → IsRead e
 value_read s new worker n e step =
-    elim (step_cases s worker e (answer.Value n) new step) as (λ _. IsRead e) [
+    elim (step_cases s worker e (answer.Value n) new step) [
       | inl served ↦ value_served s worker n e served.serves
       | inr refused ↦ absurd (true≢false (sym (refused_is s worker e (answer.Value n) refused.some)))
     ]
@@ -70,10 +70,7 @@ same_printed (command.Take segment) one other same = same
 same_printed command.Collect one other same = same
 same_printed (command.Read actor block index) one other same = inl same
 same_printed (command.Write actor block index value) one other same = same
-same_printed (command.Look actor place) one other same = same
-same_printed (command.List actor) one other same = same
-same_printed (command.Abandon segment) one other same = same
-same_printed (command.Refill arena) one other same = same
+same_printed _ one other same = same
 
 module _ (policy : Policy) (handles : List (Option Handle)) (reader : Actor) (handle : Handle) (index m n : ℕ) where
   word_printed : (c : Command) → meaning_of policy handles c ≡ meaning.One (event.Read reader handle index) → IsSameButWord c (word_line m) (word_line n)
@@ -85,16 +82,14 @@ module _ (policy : Policy) (handles : List (Option Handle)) (reader : Actor) (ha
   word_printed (command.Read actor block at) is = inr (m, n, refl, refl)
   word_printed (command.Write actor block at value) is = let asked = (block_asks (handle_named handles block) _ _ is).1 in absurd (cc)
   word_printed (command.Look actor place) is = absurd (cc)
-  word_printed (command.List actor) is = absurd (cc)
-  word_printed (command.Abandon segment) is = absurd (cc)
-  word_printed (command.Refill arena) is = absurd (cc)
+  word_printed _ is = absurd (cc)
 
 -- what is printed for a line that means one event
 module _ (policy : Policy) (handles : List (Option Handle)) (c : Command) (k new : Kept) (worker : ℕ) (e f : Event) (means : meaning_of policy handles c ≡ meaning.One e) where
   one_printed : (a b : Answer) → Step k.state worker e a new.state → without_answer b ≡ without_answer a
       → IsSameButWord c (reply_text policy (meaning.One e) (a ∷ [])) (reply_text policy (meaning.One f) (b ∷ []))
   one_printed a b step same =
-      elim (answers_differ a b same) as (λ _. IsSameButWord c (reply_text policy (meaning.One e) (a ∷ [])) (reply_text policy (meaning.One f) (b ∷ []))) [
+      elim (answers_differ a b same) [
         | inl plain ↦ same_printed c _ _ (ap (λ x. reply_text policy (meaning.One f) (x ∷ [])) plain)
         | inr (m, n, is, are) ↦
             let (reader, handle, index, read) = value_read k.state new.state worker m e (subst (λ x. Step k.state worker e x new.state) is step) in

@@ -1,7 +1,7 @@
 use Rattle.std.proofs.Common.{◌≡◌, ◌<◌, None, get_or, ap, sym, subst, ◌∙◌}
 use Rattle.hg_trace.specs.Stored.{lines_in}
 use Rattle.hg_replay.specs.Events.{unknown_worker}
-use Rattle.hg_replay.proofs.Answering.{workers_below}
+use Rattle.hg_replay.proofs.GoingOn.{workers_below}
 use Rattle.hg_replay.proofs.replaying.replay.Goals as goal
 
 pub replay_on-requires-clause-workers : goal.replay_on-requires-clause-workers

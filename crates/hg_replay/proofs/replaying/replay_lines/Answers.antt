@@ -4,7 +4,8 @@ use Rattle.hg_trace.specs.Labels.{label_count}
 use Rattle.hg_trace.specs.Stored.{line_in, lines_in}
 use Rattle.hg_replay.specs.KnownNames.{meanings}
 use Rattle.hg_replay.specs.StoredLabels.{binds}
-use Rattle.hg_replay.proofs.Answering.{replays_next, replays_stop, answered_keeps_policy, label_count_more, label_within, binds_said, said_within, said_here, numbered_here}
+use Rattle.hg_replay.proofs.GoingOn.{replays_next, replays_stop, answered_keeps_policy}
+use Rattle.hg_replay.proofs.LinesSaid.{label_count_more, label_within, binds_said, said_within, said_here, numbered_here}
 use Rattle.hg_replay.proofs.Writes.{stops_in_line}
 use Rattle.hg_replay.proofs.replaying.replay_lines.Goals as goal
 

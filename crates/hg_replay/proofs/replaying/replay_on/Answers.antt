@@ -2,7 +2,7 @@ use Rattle.std.proofs.Common.{refl}
 use Rattle.std.proofs.lemmas.Result.{on_err_weaker}
 use Rattle.hg_trace.specs.Stored.{lines_in}
 use Rattle.hg_replay.specs.Replays.{Progress}
-use Rattle.hg_replay.proofs.Answering.{replays_stop_last}
+use Rattle.hg_replay.proofs.GoingOn.{replays_stop_last}
 use Rattle.hg_replay.proofs.replaying.replay_on.Goals as goal
 
 pub returns-in-Ok-clause-stopped : goal.returns-in-Ok-clause-stopped

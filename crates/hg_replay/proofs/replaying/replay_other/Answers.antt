@@ -4,7 +4,8 @@ use Rattle.hg_replay.specs.declared.replaying.events.Meaning.TheVariants as mean
 use Rattle.hg_replay.specs.Events.{meaning_of}
 use Rattle.hg_replay.specs.Rows.{is_row}
 use Rattle.hg_replay.specs.Text.{answer_line, listing_text}
-use Rattle.hg_replay.proofs.Answering.{one_answered, listing_answered, unbound_answered, none_counted}
+use Rattle.hg_replay.proofs.Answering.{one_answered, listing_answered, unbound_answered}
+use Rattle.hg_replay.proofs.LinesSaid.{none_counted}
 use Rattle.hg_replay.proofs.replaying.replay_other.Goals as goal
 
 pub returns-in-One-clause-answered : goal.returns-in-One-clause-answered

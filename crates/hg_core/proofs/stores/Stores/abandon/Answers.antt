@@ -1,9 +1,9 @@
 use Rattle.std.proofs.Common.{None, sym, slice_set}
 use Rattle.std.specs.Box.{boxed_slice_with_item}
-use Rattle.hg_machine.specs.declared.Event.TheVariants as event
-use Rattle.hg_machine.specs.declared.Answer.TheVariants as answer
 use Rattle.hg_core.proofs.After.{IsAfter}
 use Rattle.hg_core.proofs.Abandoned.{nothing_abandoned, unpooled, after_abandon}
+use Rattle.hg_machine.specs.declared.Event.TheVariants as event
+use Rattle.hg_machine.specs.declared.Answer.TheVariants as answer
 use Rattle.hg_core.proofs.stores.Stores.abandon.Goals as goal
 
 refused : (c : goal.In_default) → IsAfter c.args.self.now

@@ -1,16 +1,16 @@
 use Rattle.std.specs.Box.{boxed_slice_with_item}
-use Rattle.hg_machine.specs.declared.Event.TheVariants as event
 use Rattle.hg_machine.specs.Request.{size_of}
 use Rattle.hg_chosen.specs.Given.{IsGiven as IsInOrder}
 use Rattle.hg_heap.specs.Answers.{alloc_answer}
 use Rattle.hg_core.proofs.After.{IsAfter}
-use Rattle.hg_core.proofs.OwnCalls.{of_policy, after_alloc, if_ok}
+use Rattle.hg_core.proofs.HeapCall.{of_policy, heap_call}
+use Rattle.hg_core.proofs.AllocCalls.{after_alloc, if_ok}
+use Rattle.hg_machine.specs.declared.Event.TheVariants as event
 use Rattle.hg_core.proofs.stores.Stores.alloc.Goals as goal
 
 pub alloc-given-requires : goal.alloc-given-requires
 alloc-given-requires c =
-    of_policy c.self.inside c.args.self.now c.from.result c.args.worker
-    c.index_mut-heap.result.now c.self.view_is c.self.invariant c.requires c.from.ensures
+    of_policy c.self.invariant c.self.view_is c.requires c.from.ensures
     c.index_mut-heap.ensures.value
 
 after : (c : goal.After-self-1) → IsAfter c.args.self.now
@@ -20,9 +20,8 @@ after : (c : goal.After-self-1) → IsAfter c.args.self.now
     c.args.worker (event.Alloc c.args.actor c.args.arena c.args.bytes)
     (alloc_answer c.alloc-given.result)
 after c =
-    after_alloc c.self.inside c.args.self.now c.from.result c.args.worker
-    c.index_mut-heap.result.now c.self.view_is c.self.invariant c.requires c.from.ensures
-    c.index_mut-heap.ensures.value c.alloc-given.new.self c.settled-2.ensures.each c.args.actor
+    after_alloc (heap_call c.self.invariant c.self.view_is c.requires c.from.ensures
+    c.index_mut-heap.ensures.value c.alloc-given.new.self c.settled-2.ensures.each) c.args.actor
     c.args.arena c.args.bytes c.alloc-given.result c.alloc-given.ensures.given
     c.alloc-given.ensures.refused
     (record { each = c.settled.ensures.each; queued = c.settled.ensures.queued })

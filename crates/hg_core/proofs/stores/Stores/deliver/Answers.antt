@@ -1,9 +1,9 @@
 use Rattle.std.proofs.Common.{None, refl, arith}
 use Rattle.std.specs.Box.{boxed_slice_with_item}
-use Rattle.hg_machine.specs.declared.Event.TheVariants as event
-use Rattle.hg_machine.specs.declared.Answer.TheVariants as answer
 use Rattle.hg_core.proofs.After.{IsAfter}
 use Rattle.hg_core.proofs.Delivered.{nothing_goes, unsent, takes_it, after_deliver}
+use Rattle.hg_machine.specs.declared.Event.TheVariants as event
+use Rattle.hg_machine.specs.declared.Answer.TheVariants as answer
 use Rattle.hg_core.proofs.stores.Stores.deliver.Goals as goal
 
 pub returns-in_default-clause-chosen : goal.returns-in_default-clause-chosen

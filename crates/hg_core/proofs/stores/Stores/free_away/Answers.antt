@@ -1,13 +1,12 @@
 use Rattle.std.proofs.Common.{Some, refl, sym, arith}
 use Rattle.std.specs.Box.{boxed_slice_with_item}
-use Rattle.hg_machine.specs.declared.Answer.TheVariants as answer
-use Rattle.hg_machine.specs.declared.Event.TheVariants as event
 use Rattle.hg_chosen.proofs.Refusals.{refused_is_chosen}
 use Rattle.hg_core.proofs.After.{IsAfter}
 use Rattle.hg_core.proofs.FreedAway.{denied_some, allowed_none, denied, alive, busy, may_part}
-use Rattle.hg_core.proofs.FreedAway.{heap_parts, parted_in_heap, pooled, pool_parts}
-use Rattle.hg_core.proofs.FreedAway.{parted_in_pool}
+use Rattle.hg_core.proofs.FreedAway.{heap_parts, parted_in_heap, pooled, pool_parts, parted_in_pool}
 use Rattle.hg_core.proofs.Words.{holder_inside, has_word}
+use Rattle.hg_machine.specs.declared.Answer.TheVariants as answer
+use Rattle.hg_machine.specs.declared.Event.TheVariants as event
 use Rattle.hg_core.proofs.stores.Stores.free_away.Goals as goal
 
 pub returns-in-Denied-clause-step : goal.returns-in-Denied-clause-step

@@ -1,12 +1,13 @@
 use Rattle.std.proofs.Common.{Some, sym, ap, ◌∙◌}
 use Rattle.std.specs.Box.{boxed_slice_with_item}
 use Rattle.hg_heap.specs.Answers.{refused_answer, away_answer, list_denial}
-use Rattle.hg_machine.specs.declared.Event.TheVariants as event
-use Rattle.hg_machine.specs.declared.Answer.TheVariants as answer
 use Rattle.hg_events.specs.Elsewhere.{word_at}
 use Rattle.hg_core.proofs.After.{IsAfter}
 use Rattle.hg_core.proofs.Away.{look_away, refused_by_heap}
-use Rattle.hg_core.proofs.OwnCalls.{here, after_look, after_unlisted}
+use Rattle.hg_core.proofs.HeapCall.{here, heap_call}
+use Rattle.hg_core.proofs.OwnCalls.{after_look, after_unlisted}
+use Rattle.hg_machine.specs.declared.Event.TheVariants as event
+use Rattle.hg_machine.specs.declared.Answer.TheVariants as answer
 use Rattle.hg_core.proofs.stores.Stores.look.Goals as goal
 
 pub returns-then-not-holds-clause-step : goal.returns-then-not-holds-clause-step
@@ -27,8 +28,7 @@ returns-then-not-holds-clause-chosen c =
 
 pub look-row-requires : goal.look-row-requires
 look-row-requires c = record {
-  held = here c.self.inside c.args.self.now c.from.result c.args.worker c.index_mut-heap.result.now
-      c.self.view_is c.self.invariant c.requires c.from.ensures c.index_mut-heap.ensures.value
+  held = here c.self.invariant c.self.view_is c.requires c.from.ensures c.index_mut-heap.ensures.value
       c.args.place.segment (sym c.holds.ensures.value ∙ c.if-not-holds.false);
 }
 
@@ -40,11 +40,10 @@ unlisted : (c : goal.After-unlisted-in_default) → IsAfter c.args.self.now
     c.args.worker (event.Look c.args.actor c.args.place)
     (refused_answer c.unlisted-in_default.result)
 unlisted c =
-    after_unlisted c.self.inside c.args.self.now c.from.result c.args.worker
-    c.index_mut-heap.result.now c.self.view_is c.self.invariant c.requires c.from.ensures
-    c.index_mut-heap.ensures.value c.look-row.new.self c.settled.ensures.each c.args.actor
+    after_unlisted (heap_call c.self.invariant c.self.view_is c.requires c.from.ensures
+    c.index_mut-heap.ensures.value c.look-row.new.self c.settled.ensures.each) c.args.actor
     c.args.place c.look-row.new.shown c.unlisted-in_default.result c.unlisted-in_default.ensures
-    c.in_default.ensures.step c.in_default.ensures.ties
+    (c.in_default.ensures.step, c.in_default.ensures.ties)
     (record { lists = c.look-row.ensures.lists; queues = c.look-row.ensures.queues })
 
 pub invariant_of-self : goal.invariant_of-self
@@ -65,11 +64,12 @@ listed : (c : goal.In-Some) → IsAfter c.args.self.now
     })
     c.args.worker (event.Look c.args.actor c.args.place) (answer.Listed c.in-Some.row)
 listed c =
-    after_look c.self.inside c.args.self.now c.from.result c.args.worker
-    c.index_mut-heap.result.now c.self.view_is c.self.invariant c.requires c.from.ensures
-    c.index_mut-heap.ensures.value c.look-row.new.self c.settled.ensures.each c.args.actor
-    c.args.place c.look-row.new.shown (Some c.in-Some.row) c.in-Some.ensures.step
-    c.in-Some.ensures.ties
+    after_look (heap_call c.self.invariant c.self.view_is c.requires c.from.ensures
+    c.index_mut-heap.ensures.value c.look-row.new.self c.settled.ensures.each) c.args.actor
+    c.args.place c.look-row.new.shown (Some c.in-Some.row) (
+      c.in-Some.ensures.step,
+      c.in-Some.ensures.ties,
+    )
     (record { lists = c.look-row.ensures.lists; queues = c.look-row.ensures.queues })
 
 pub invariant_of-self-2 : goal.invariant_of-self-2

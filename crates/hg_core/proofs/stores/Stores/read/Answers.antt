@@ -1,10 +1,11 @@
 use Rattle.std.proofs.Common.{sym, ◌∙◌}
 use Rattle.std.specs.Box.{boxed_slice_with_item}
 use Rattle.hg_heap.specs.Answers.{refused_answer, read_answer}
-use Rattle.hg_machine.specs.declared.Event.TheVariants as event
 use Rattle.hg_core.proofs.After.{IsAfter}
 use Rattle.hg_core.proofs.Away.{read_away, refused_by_heap}
-use Rattle.hg_core.proofs.OwnCalls.{here, after_read}
+use Rattle.hg_core.proofs.HeapCall.{here, heap_call}
+use Rattle.hg_core.proofs.OwnCalls.{after_read}
+use Rattle.hg_machine.specs.declared.Event.TheVariants as event
 use Rattle.hg_core.proofs.stores.Stores.read.Goals as goal
 
 pub returns-then-not-holds-clause-step : goal.returns-then-not-holds-clause-step
@@ -27,13 +28,11 @@ after : (c : goal.After-self-1) → IsAfter c.args.self.now
     (read_answer c.read-value.result)
 after c =
     let held = c.read-value.ensures.held
-    (here c.self.inside c.args.self.now c.from.result c.args.worker c.index_mut-heap.result.now
-    c.self.view_is c.self.invariant c.requires c.from.ensures c.index_mut-heap.ensures.value
+    (here c.self.invariant c.self.view_is c.requires c.from.ensures c.index_mut-heap.ensures.value
     c.args.handle.place.segment (sym c.holds.ensures.value ∙ c.if-not-holds.false)) in
-    after_read c.self.inside c.args.self.now c.from.result c.args.worker
-    c.index_mut-heap.result.now c.self.view_is c.self.invariant c.requires c.from.ensures
-    c.index_mut-heap.ensures.value c.read-value.new.self c.settled.ensures.each c.args.actor
-    c.args.handle c.args.index held.0 c.read-value.result held.1 held.2
+    after_read (heap_call c.self.invariant c.self.view_is c.requires c.from.ensures
+    c.index_mut-heap.ensures.value c.read-value.new.self c.settled.ensures.each) c.args.actor
+    c.args.handle c.args.index held.0 c.read-value.result (held.1, held.2)
     (record { lists = c.read-value.ensures.lists; queues = c.read-value.ensures.queues })
 
 pub invariant_of-self : goal.invariant_of-self

@@ -1,10 +1,10 @@
 use Rattle.std.proofs.Common.{Some, sym, slice_set, ◌∙◌}
 use Rattle.std.specs.Box.{boxed_slice_with_item}
-use Rattle.hg_machine.specs.declared.Event.TheVariants as event
-use Rattle.hg_machine.specs.declared.Answer.TheVariants as answer
 use Rattle.hg_segment.specs.Parted.{plain_number}
 use Rattle.hg_core.proofs.After.{IsAfter}
 use Rattle.hg_core.proofs.Refilled.{nothing_refilled, adoptable, after_refill}
+use Rattle.hg_machine.specs.declared.Event.TheVariants as event
+use Rattle.hg_machine.specs.declared.Answer.TheVariants as answer
 use Rattle.hg_core.proofs.stores.Stores.refill.Goals as goal
 
 refused : (c : goal.In_default) → IsAfter c.args.self.now

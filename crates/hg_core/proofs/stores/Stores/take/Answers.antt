@@ -1,9 +1,9 @@
 use Rattle.std.proofs.Common.{sym, arith, ◌∙◌}
 use Rattle.std.specs.Box.{boxed_slice_with_item}
-use Rattle.hg_machine.specs.declared.Event.TheVariants as event
-use Rattle.hg_machine.specs.declared.Answer.TheVariants as answer
 use Rattle.hg_core.proofs.After.{IsAfter}
 use Rattle.hg_core.proofs.TakenIn.{nothing_taken, has_remote, after_take}
+use Rattle.hg_machine.specs.declared.Event.TheVariants as event
+use Rattle.hg_machine.specs.declared.Answer.TheVariants as answer
 use Rattle.hg_core.proofs.stores.Stores.take.Goals as goal
 
 refused : (c : goal.After-self-1) → IsAfter c.args.self.now
