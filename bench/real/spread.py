@@ -8,18 +8,25 @@ blocks that were asked for, those of their classes, the pages in which a block l
 have a class (an idle one keeps it until it is collected), each as bytes; and of all segments that
 ever had a block how many.
 """
+import importlib.machinery
+import os
 import re
 import sys
+import types
 
+sys.dont_write_bytecode = True
 PAGE = 4096
+TOOLS = f"{os.path.dirname(os.path.realpath(__file__))}/../../tools"
 
 
-def class_bytes(size):
-    words = max(1, -(-size // 8))
-    if words > 512:
-        return 8 * max(1024, 1 << (words - 1).bit_length())
-    step = max(1, 1 << (words - 1).bit_length() >> 3)
-    return 8 * step * -(-words // step)
+def loaded(name):
+    """A tool, whose file has no ending."""
+    module = types.ModuleType(name)
+    importlib.machinery.SourceFileLoader(name, f"{TOOLS}/{name}").exec_module(module)
+    return module
+
+
+class_bytes = loaded("from_mtrace").class_bytes
 
 
 class Heap:
