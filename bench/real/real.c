@@ -1,6 +1,6 @@
 // The allocs and frees of a trace by tools/from_mtrace on one allocator: with -DHEAPGUARD a core of
-// heapguard's library, with -DMIMALLOC mimalloc, else glibc. With -DZEROED blocks come from calloc,
-// which a core's always do.
+// heapguard's library, of as many segments as the trace has refills; with -DMIMALLOC mimalloc, else
+// glibc. With -DZEROED blocks come from calloc; those of a core always read as zeros.
 //     real FOLDER CASE THREADS MS [OPS]
 // runs FOLDER/CASE.trace again and again, and prints the line that bench/core prints: an operation is
 // an alloc or a free, and what lives at the end of the trace is freed too. No block is written.
@@ -62,14 +62,15 @@ static void fill(hg_handle block, size_t size) {
     }
 }
 
-static void open_it(void) {
-    static const char policy[] = "version = 1\nworkers = 1\n"
-                                 "tenant = [ {name = \"program\", limit = 4294967295} ]\n"
-                                 "arena = [ {name = \"main\", segments = 64} ]\n";
-    char line[200];
-    hg_reply reply = hg_open(&core, policy, sizeof policy - 1, line, sizeof line);
+static void open_it(unsigned segments) {
+    char policy[200], line[200];
+    int length = snprintf(policy, sizeof policy,
+                          "version = 1\nworkers = 1\n"
+                          "tenant = [ {name = \"program\", limit = 4294967295} ]\n"
+                          "arena = [ {name = \"main\", segments = %u} ]\n", segments);
+    hg_reply reply = hg_open(&core, policy, (size_t)length, line, sizeof line);
     if (reply.status != HG_DONE) stop("no core");
-    for (int segment = 0; segment < 64; segment++) hg_refill(&core, 0, 0);
+    while (segments--) hg_refill(&core, 0, 0);
 }
 
 #else
@@ -85,7 +86,7 @@ static void fill(uint64_t *block, size_t size) {
     for (size_t word = 0; word < size / 8; word++) ((volatile uint64_t *)block)[word] = word;
 }
 
-static void open_it(void) {}
+static void open_it(unsigned segments) { (void)segments; }
 #endif
 
 // ---- the trace
@@ -98,6 +99,7 @@ struct step {
 
 static struct step *steps;
 static size_t count, allocs;
+static unsigned segments;
 static block_of *live;
 
 // A room of this program's own, all pages of which are written now.
@@ -122,7 +124,9 @@ static void read_trace(const char *folder, const char *name) {
     while (fgets(line, sizeof line, file)) {
         bool is_alloc = sscanf(line, "w0 alloc %*s %*s %u as %16s", &size, label) == 2;
         if (!is_alloc && sscanf(line, "w0 free %*s %16s", label) != 1) {
-            if (strncmp(line, "w0 refill ", 10) && strcmp(line, "w0 collect\n")) stop("no such line");
+            bool is_refill = !strncmp(line, "w0 refill ", 10);
+            if (!is_refill && strcmp(line, "w0 collect\n")) stop("no such line");
+            segments += is_refill;
             continue;
         }
         if (!front) front = strlen(label) - 1;
@@ -203,7 +207,7 @@ static void tell_memory(const char *name) {
     size_t *size = room_of((allocs + 1) * sizeof *size);
     written();
     size_t before = written();
-    open_it();
+    open_it(segments);
     for (size_t at = 0; at < count; at++) {
         const struct step *step = &steps[at];
         serve(step);
@@ -230,7 +234,7 @@ int main(int words, char **word) {
     read_trace(word[1], word[2]);
     if (!strcmp(word[3], "memory")) return tell_memory(word[2]), 0;
     if (words < 5) return 2;
-    open_it();
+    open_it(segments);
     run(word[2], strtoull(word[4], NULL, 10) * 1000000u, words > 5 ? strtoull(word[5], NULL, 10) : 0);
     return 0;
 }
