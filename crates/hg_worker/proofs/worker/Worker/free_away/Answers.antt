@@ -28,6 +28,17 @@ use Rattle.hg_worker.proofs.Workers.{held_by, whole_of}
 use Rattle.hg_worker.proofs.worker.Worker.free_away.Given.{Over}
 use Rattle.hg_worker.proofs.worker.Worker.free_away.Goals as goal
 use Rattle.hg_worker.proofs.worker.Worker.free_away.Goals.{After-self-in-Err-2-1, After-self-3-1}
+use Rattle.hg_worker.proofs.worker.Worker.free_away.Goals.{After-look-word}
+
+-- a look at the place's word
+looked : (g : Over) (c : After-look-word g)
+    → Looked number_in part_of_seat c.args.handle.place
+    (shown_at c.args.handle.place c.look-word.result) (had_in c.deref_mut-inner.result.now)
+    (record (had_in c.deref_mut-inner.result.now) { own = part_on c.look-word.new.self.badge })
+looked g c = own_looked number_in part_of_seat c.args.handle.place c.look-word.result _ _
+    (ap is_some (sym c.arena_of.ensures) ∙ (c.is_none.ensures ∙ ap not c.if-is_none.false))
+    (held_by _ c.deref_mut-inner.ensures.value c.requires) refl c.look-word.ensures.shown
+    c.look-word.ensures.step
 
 -- where its exchange failed, it has found a word twice
 looked_twice : (g : Over) (c : After-self-in-Err-2-1 g)
@@ -106,11 +117,7 @@ returns-in-Denied-clause-refused g c =
     let s = c.deref_mut-inner.result.now in
     let old = had_in s in
     let shown = shown_at c.args.handle.place c.look-word.result in
-    let looked = own_looked number_in part_of_seat c.args.handle.place c.look-word.result old
-    (record old { own = part_on c.look-word.new.self.badge })
-    (ap is_some (sym c.arena_of.ensures) ∙ (c.is_none.ensures ∙ ap not c.if-is_none.false))
-    (held_by _ c.deref_mut-inner.ensures.value c.requires) refl c.look-word.ensures.shown
-    c.look-word.ensures.step in
+    let looked = looked g (goal.at.returns-in-Denied-clause-refused g c).After-look-word in
     let ties = free_denied number_in records_in old shown s.below c.args.actor c.args.handle
     refl c.in-Denied.rule (denied_by _ c.in-Denied.rule c.in-Denied.ensures) in (
       shown,
@@ -127,11 +134,7 @@ returns-then-is_some-clause-refused g c =
     let s = c.deref_mut-inner.result.now in
     let old = had_in s in
     let shown = shown_at c.args.handle.place c.look-word.result in
-    let looked = own_looked number_in part_of_seat c.args.handle.place c.look-word.result old
-    (record old { own = part_on c.look-word.new.self.badge })
-    (ap is_some (sym c.arena_of.ensures) ∙ (c.is_none.ensures ∙ ap not c.if-is_none.false))
-    (held_by _ c.deref_mut-inner.ensures.value c.requires) refl c.look-word.ensures.shown
-    c.look-word.ensures.step in
+    let looked = looked g (goal.at.returns-then-is_some-clause-refused g c).After-look-word in
     let ties = free_busy number_in records_in old shown s.below c.args.actor c.args.handle
     refl (held_by _ c.deref_mut-inner.ensures.value c.requires) (allowed_by _ c.in_default.ensures)
     (hand_full s.hand (sym c.if-is_some.ensures)) in (
@@ -290,11 +293,7 @@ returns-in-Denied-clause-judged g c =
     (λ _.
     let old = had_in c.deref_mut-inner.result.now in
     let shown = shown_at c.args.handle.place c.look-word.result in
-    let looked = own_looked number_in part_of_seat c.args.handle.place c.look-word.result old
-    (record old { own = part_on c.look-word.new.self.badge })
-    (ap is_some (sym c.arena_of.ensures) ∙ (c.is_none.ensures ∙ ap not c.if-is_none.false))
-    (held_by _ c.deref_mut-inner.ensures.value c.requires) refl c.look-word.ensures.shown
-    c.look-word.ensures.step in (
+    let looked = looked g (goal.at.returns-in-Denied-clause-judged g c).After-look-word in (
       shown,
       looked,
       judged_by number_in part_of_seat c.deref_mut-inner.result.now.policy c.args.actor.0
@@ -308,11 +307,7 @@ returns-then-is_some-clause-judged g c =
     (λ _.
     let old = had_in c.deref_mut-inner.result.now in
     let shown = shown_at c.args.handle.place c.look-word.result in
-    let looked = own_looked number_in part_of_seat c.args.handle.place c.look-word.result old
-    (record old { own = part_on c.look-word.new.self.badge })
-    (ap is_some (sym c.arena_of.ensures) ∙ (c.is_none.ensures ∙ ap not c.if-is_none.false))
-    (held_by _ c.deref_mut-inner.ensures.value c.requires) refl c.look-word.ensures.shown
-    c.look-word.ensures.step in (
+    let looked = looked g (goal.at.returns-then-is_some-clause-judged g c).After-look-word in (
       shown,
       looked,
       judged_by number_in part_of_seat c.deref_mut-inner.result.now.policy c.args.actor.0
