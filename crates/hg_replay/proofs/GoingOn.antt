@@ -16,10 +16,6 @@ use Rattle.hg_replay.specs.declared.replaying.output.Output.{Output}
 use Rattle.hg_replay.specs.Writes.{StopsIn, StopsSoon, IsGiven}
 use Rattle.hg_replay.specs.Replays.{Progress, starting, meaning_at, Answered, Replays, StopsAt}
 use Rattle.hg_replay.proofs.Writes.{stops_in_last}
-use Rattle.hg_heap.specs.declared.refused.Refused.TheVariants as refused
-use Rattle.hg_trace.specs.declared.line.Command.TheVariants as command
-use Rattle.hg_trace.specs.declared.stored.StoredCommand.TheVariants as stored
-use Rattle.hg_replay.specs.declared.replaying.events.Meaning.TheVariants as meaning
 
 -- a replay goes on by a line
 pub replays_more : (lines : List Line) (line : Line) (from mid end : Progress) (text here : List ℕ)

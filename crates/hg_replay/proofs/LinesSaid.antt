@@ -10,10 +10,7 @@ use Rattle.hg_trace.specs.declared.stored.StoredLine.{StoredLine}
 use Rattle.hg_trace.specs.Stored.{Store, command_in, line_in, lines_in, IsNumbered, AreNumbered}
 use Rattle.hg_trace.specs.Labels.{gives_label, label_count}
 use Rattle.hg_replay.specs.StoredLabels.{binds}
-use Rattle.hg_heap.specs.declared.refused.Refused.TheVariants as refused
-use Rattle.hg_trace.specs.declared.line.Command.TheVariants as command
 use Rattle.hg_trace.specs.declared.stored.StoredCommand.TheVariants as stored
-use Rattle.hg_replay.specs.declared.replaying.events.Meaning.TheVariants as meaning
 
 -- a line adds the label that it gives
 pub label_count_more : (lines : List Line) (i : ℕ) (line : Line) → i < length lines → line ≡ get_or lines i line
