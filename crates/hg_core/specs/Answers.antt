@@ -1,4 +1,5 @@
 -- What a worker is answered, by what a call of the core answers.
+pub use Rattle.hg_heap.specs.Answers.{alloc_answer, look_answer}
 use Rattle.std.specs.Prelude.{ℕ, Result, Ok, Err}
 use Rattle.hg_machine.specs.declared.Answer.{Answer}
 use Rattle.hg_machine.specs.declared.Answer.TheVariants as answer
