@@ -1,17 +1,17 @@
 -- A change of one place, wherever its segment stands, in the state.
-use Rattle.std.proofs.Common.{◌≡◌, ◌≢◌, ℕ, ◌+◌, ◌*◌, ◌%◌, ◌<◌, [], length, map, set, slice_get, ◌≤◌}
-use Rattle.std.proofs.Common.{true, nat_lt, count_by, slice_index_or, subst, refl, sym, ap, ◌∙◌}
-use Rattle.std.proofs.Common.{arith, inl, inr}
+use Rattle.std.proofs.Common.{◌≡◌, ◌≢◌, ℕ, ◌+◌, ◌*◌, ◌%◌, ◌<◌, [], length, slice_get, ◌≤◌, true}
+use Rattle.std.proofs.Common.{nat_lt, count_by, slice_index_or, subst, refl, sym, ap, ◌∙◌, arith}
+use Rattle.std.proofs.Common.{inl, inr}
 use Rattle.std.specs.Prelude.{Some, None}
 use Rattle.std.specs.List.{range_with_len}
 use Rattle.std.proofs.lemmas.Bool.{cases_eq, cases_lt, eq-eqb}
 use Rattle.std.proofs.lemmas.List.{get_or_past}
 use Rattle.hg_place.specs.Places.{segment_of, segment_of_page}
-use Rattle.hg_machine.specs.Life.{never_used}
 use Rattle.hg_agreement.specs.Holdings.{class_of}
 use Rattle.hg_agreement.specs.Parts.{Plain, Parts, is_of, heap_at, plain_of, record_by, class_by}
-use Rattle.hg_agreement.specs.Parts.{record_of, page_class, holder_of, state_of}
-use Rattle.hg_agreement.proofs.Lookups.{maps, map_set}
+use Rattle.hg_agreement.specs.Parts.{page_class, holder_of, state_of}
+use Rattle.hg_agreement.proofs.ChangedOne.{ChangesOne, records_changed}
+use Rattle.hg_agreement.proofs.Lookups.{maps}
 use Rattle.hg_agreement.proofs.Putting.{put_is_put}
 use Rattle.hg_parts.specs.Tidy.{IsTidy}
 use Rattle.hg_parts.specs.Spots.{Spot, with_segment, IsSpotPut, SpotIsSwap, SpotPutIsRecord}
@@ -63,23 +63,14 @@ module _ {parts : Parts} {spot : Spot} {one now : Plain} {at : ℕ} (t : IsTidy 
         ∙ sym (holder_is parts m)
   ]
 
-  record_other : (q : ℕ) → q ≢ n * 8192 + at → record_of after q ≡ record_of parts q
-  record_other q ne = elim (cases_eq (segment_of q) n) [
-    | inl e ↦
-        rw e (ap (λ o. record_by o (q % 8192)) after_here
-        ∙ put.others (q % 8192) (omega arith) (λ f. ne (omega (arith, e, f)))
-        ∙ sym (ap (λ o. record_by o (q % 8192)) before_here))
-    | inr away ↦ ap (λ o. record_by o (q % 8192)) (plain_other (segment_of q) away)
-  ]
-
-  record_here : record_of after (n * 8192 + at) ≡ record_by (Some now) at
-  record_here =
-      let b = put.below in
-      let s : segment_of (n * 8192 + at) ≡ n = omega (arith, b) in
-      let m : (n * 8192 + at) % 8192 ≡ at = omega (arith, b) in
-      ap (λ x. record_by (plain_of after x) ((n * 8192 + at) % 8192)) s
-      ∙ ap (λ o. record_by o ((n * 8192 + at) % 8192)) after_here
-      ∙ ap (record_by (Some now)) m
+  change : ChangesOne parts after one now at
+  change = record {
+    was = before_here;
+    is = after_here;
+    same = plain_other;
+    below = put.below;
+    others = put.others;
+  }
 
   class_same : ((page : ℕ) → page < 16 → class_of now.holding page ≡ class_of one.holding page)
       → (q : ℕ) → page_class after q ≡ page_class parts q
@@ -99,13 +90,8 @@ same_hands : (parts : Parts) (spot : Spot) (one now : Plain) (at : ℕ) (t : IsT
     ≡ with_record (state_of parts) (one.holding.number * 8192 + at) (record_by (Some now) at)
 same_hands parts spot one now at t put classes =
     let a = with_segment parts spot now parts.hands in
-    let q = one.holding.number * 8192 + at in
     let segments = length parts.policy.segments in
-    let below = put.below in
-    let low = inside parts.hands t put.swap refl in
-    let records = map_set (record_of parts) (record_of a) (segments * 8192) q never_used
-    (omega (arith, below, low)) (record_other t put)
-    ∙ ap (set (map (record_of parts) (range_with_len 0 (segments * 8192))) q) (record_here t put) in
+    let r = records_changed (change t put) segments (inside parts.hands t put.swap refl) in
     let c = maps (page_class a) (page_class parts) (range_with_len 0 (segments * 16))
     (class_same t put classes) in
     let h = maps (holder_of a) (holder_of parts) (range_with_len 0 segments) (holder_same t put) in
