@@ -11,7 +11,7 @@ ghost use Rattle.hg_heap.specs.Reading.{use_denial};
 use crate::Refused;
 use hg_decision::{Verdict, judge};
 use hg_machine::{Answer, Row};
-use hg_place::{Actor, Handle, Place, Right, unpack};
+use hg_place::{Actor, Handle, Place, Right, word_generation};
 use hg_policy::Policy;
 
 /// The answer to a call that is refused.
@@ -101,10 +101,11 @@ pub fn unlisted(policy: &Policy, actor: Actor, place: Place, word: u64) -> Refus
 pub(crate) fn listed_generation(word: u64) -> u32
     ensures { result ≡ max 1 (slot_in word).generation }
 {
-    match unpack(word) {
-        Some(slot) => slot.generation.max(1),
-        None => 1,
+    // what is no slot word shows a place that was never given out
+    if word % 0x1_0000_0000 >= 128 {
+        return 1;
     }
+    word_generation(word).max(1)
 }
 
 /// By the rule that denies it, or else because the block is elsewhere.
