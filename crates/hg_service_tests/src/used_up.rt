@@ -1,5 +1,6 @@
 //! Closing where the process has no memory left, as under a limit of its address space, which
-//! tools/refusals sets. With ample memory it is told why it goes on.
+//! tools/refusals sets and then looks for the line below. With ample memory it is told what else is
+//! wrong.
 
 ghost use Rattle.std.specs.Prelude.{◌≡◌, length};
 ghost use Rattle.hg_table.specs.Named.{table_of};
@@ -70,13 +71,19 @@ fn is_used_up<R: Abort>(rt: &R, alloc: Global, pieces: &mut Vec<Vec<u8>>) -> boo
 }
 
 /// Memory is asked for before anything that is wrong is told.
-fn asks_first<C: Closing, R: Wait + Abort>(rt: &R, alloc: Global, closing: C, wrong: CloseFault) {
+fn asks_first<C: Closing, R: Wait + Abort + Print>(
+    rt: &R,
+    alloc: Global,
+    closing: C,
+    wrong: CloseFault,
+) {
     let mut pieces = Vec::with_capacity(alloc, SIZES * PIECES).expect(rt, "memory");
     let is_used_up = is_used_up(rt, alloc, &mut pieces);
     let (closing, why) = closing.kept(rt, alloc);
     drop(pieces);
     if is_used_up {
         assert_eq!(rt; why, CloseFault::Memory);
+        println!(rt; "memory was used up").expect(rt, "output");
     } else {
         assert_eq!(rt; why, wrong);
     }
@@ -86,7 +93,7 @@ fn asks_first<C: Closing, R: Wait + Abort>(rt: &R, alloc: Global, closing: C, wr
 }
 
 /// A service one of whose workers is out, with a segment or without.
-fn of_a_service<N: ServiceName, R: Wait + Abort>(
+fn of_a_service<N: ServiceName, R: Wait + Abort + Print>(
     rt: &R,
     alloc: Global,
     made: (Policy, LifeTable),
@@ -109,7 +116,7 @@ fn of_a_service<N: ServiceName, R: Wait + Abort>(
 }
 
 /// The parts of a service without the last worker, of which the first holds a segment or doesn't.
-fn of_parts<N: ServiceName, R: Wait + Abort>(
+fn of_parts<N: ServiceName, R: Wait + Abort + Print>(
     rt: &R,
     alloc: Global,
     made: (Policy, LifeTable),
@@ -126,13 +133,16 @@ fn of_parts<N: ServiceName, R: Wait + Abort>(
     if holds {
         assert!(rt; parts.workers.len() > 0);
         let pool = &mut parts.pool;
-        assert_eq!(rt; parts.workers[0].refill_from(MAIN, pool), Answer::Refilled(0));
+        assert_eq!(rt;
+            parts.workers[0].refill_from(MAIN, pool),
+            Answer::Refilled(0)
+        );
         wrong = CloseFault::StillHeld(0);
     }
     asks_first(rt, alloc, parts, wrong);
 }
 
-fn tried<R: Wait + Abort>(rt: &R, alloc: Global, holds: bool) {
+fn tried<R: Wait + Abort + Print>(rt: &R, alloc: Global, holds: bool) {
     let service = made(alloc, DOCUMENT).expect(rt, "memory");
     of_a_service::<Brand, R>(rt, alloc, service, holds);
     let parts = made(alloc, DOCUMENT).expect(rt, "memory");
