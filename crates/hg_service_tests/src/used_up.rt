@@ -115,6 +115,13 @@ fn of_a_service<N: ServiceName, R: Wait + Abort + Print>(
     drop(worker);
 }
 
+/// Worker 0 takes the first segment of the main arena.
+fn takes_a_segment<N: ServiceName, R: Abort>(rt: &R, parts: &mut CallerLocked<N>) {
+    assert!(rt; parts.workers.len() > 0);
+    let one = &mut parts.workers[0];
+    assert_eq!(rt; one.refill_from(MAIN, &mut parts.pool), Answer::Refilled(0));
+}
+
 /// The parts of a service without the last worker, of which the first holds a segment or doesn't.
 fn of_parts<N: ServiceName, R: Wait + Abort + Print>(
     rt: &R,
@@ -131,12 +138,7 @@ fn of_parts<N: ServiceName, R: Wait + Abort + Print>(
     drop(parts.workers.pop());
     let mut wrong = CloseFault::StillOut(1);
     if holds {
-        assert!(rt; parts.workers.len() > 0);
-        let pool = &mut parts.pool;
-        assert_eq!(rt;
-            parts.workers[0].refill_from(MAIN, pool),
-            Answer::Refilled(0)
-        );
+        takes_a_segment(rt, &mut parts);
         wrong = CloseFault::StillHeld(0);
     }
     asks_first(rt, alloc, parts, wrong);
