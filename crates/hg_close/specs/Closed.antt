@@ -9,6 +9,7 @@ use Rattle.hg_machine.specs.Policy.{Policy}
 use Rattle.hg_machine.specs.Soundness.{IsSound}
 use Rattle.hg_machine.specs.State.{hand_of}
 use Rattle.hg_pool.specs.Pooled.{Pooled}
+use Rattle.hg_remote.specs.Remote.{Remote}
 use Rattle.hg_agreement.specs.Parts.{kept_of}
 use Rattle.hg_events.specs.Core.{Core, parts_of}
 use Rattle.hg_parts.specs.Audit.{IsFirstPlace}
@@ -40,8 +41,9 @@ pub record AreLost (policy : Policy) (place : Place) (parts : Parts) : Type 0 wh
   pub first : IsFirstPlace (parts_in parts) (number_of place)
 
 module _ {S : Type 0} (number : S → ℕ) (records : S → List Standing) where
-  -- the core's segments are those of this pool, over plain words
-  pub record IsMadeOf (pool : Pooled S) (core : Kept) : Type 0 where
+  -- the core's segments are those of this pool, over plain words, and its remote lists are these
+  pub record IsMadeOf (pool : Pooled S) (remotes : List Remote) (core : Kept) : Type 0 where
     pub parts : Core
     pub over : AreOver number records pool parts.pool
+    pub lists : parts.remotes ≡ remotes
     pub is : core ≡ kept_of (parts_of parts)

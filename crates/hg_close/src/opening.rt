@@ -1,8 +1,9 @@
 //! What room for closing is made of.
 
-ghost use Rattle.std.specs.Prelude.{◌≡◌, ◌<◌, ◌≤◌, ℕ, [], IfOk, length};
+ghost use Rattle.std.specs.Prelude.{◌≡◌, ◌<◌, ◌≤◌, ℕ, [], IfOk, length, replicate};
 ghost use Rattle.std.specs.List.{AllByRecursion};
 ghost use Rattle.hg_place.specs.declared.geometry.TheConstants.{MAX_SEGMENTS};
+ghost use Rattle.hg_remote.specs.Remote.{nothing_sent};
 ghost use Rattle.hg_close.specs.Rooms.{HasWords};
 
 use hg_heap::Heap;
@@ -25,7 +26,7 @@ pub(crate) fn no_heaps(alloc: Global, workers: u8) -> Result<Vec<Heap<PlainWords
 
 /// A remote list to which nothing was sent for each segment.
 pub(crate) fn unsent_lists(alloc: Global, segments: u8) -> Result<Vec<RemoteList>, AllocError>
-    ensures { IfOk result (λ lists. length lists.items ≡ segments) }
+    ensures { IfOk result (λ lists. lists.items ≡ replicate segments nothing_sent) }
 {
     let mut lists = Vec::with_capacity(alloc, usize::from(segments))?;
     for _ in 0..segments {

@@ -1,4 +1,5 @@
-ghost use Rattle.std.specs.Prelude.{◌≡◌, IfOk, IfErr};
+ghost use Rattle.std.specs.Prelude.{◌≡◌, IfOk, IfErr, length, replicate};
+ghost use Rattle.hg_remote.specs.Remote.{nothing_sent};
 ghost use Rattle.hg_agreement.specs.Parts.{kept_of};
 ghost use Rattle.hg_audit.specs.Handed.{parts_in};
 ghost use Rattle.hg_close.specs.Rooms.{IsUnfilled, IsFilled};
@@ -29,6 +30,8 @@ impl CloseRoom {
     pub fn new(alloc: Global, policy: &Policy) -> Result<CloseRoom, AllocError>
         ensures policy { IfOk result (λ room. room.parts.policy ≡ policy.now) }
         ensures room { IfOk result IsUnfilled }
+        ensures lists { IfOk result (λ room. room.parts.remotes.items
+            ≡ replicate (length policy.now.segments) nothing_sent) }
     {
         let workers = policy.workers();
         let segments = policy.segments();

@@ -2,3 +2,4 @@ pub mod Opened
 pub mod Places
 pub mod Behind
 pub mod Leaving
+pub mod ListsBack

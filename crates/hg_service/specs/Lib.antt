@@ -5,4 +5,5 @@ pub mod Behind
 pub mod Leaving
 pub mod Ready
 pub mod Back
+pub mod GivenBack
 pub mod Unclosed

@@ -1,12 +1,14 @@
 //! The parts of a service, of which a host has the locks, become a core.
 
-ghost use Rattle.std.specs.Prelude.{◌≡◌, length, IfOk, IfErr, IfSome, IfNone};
+ghost use Rattle.std.specs.Prelude.{◌≡◌, length, replicate, IfOk, IfErr, IfSome, IfNone};
 ghost use Rattle.std.specs.List.{list_any};
-ghost use Rattle.hg_close.specs.Closed.{IsMadeOf, IsQuiet};
+ghost use Rattle.hg_close.specs.Closed.{IsQuiet};
 ghost use Rattle.hg_close.specs.Rooms.{IsUnfilled};
+ghost use Rattle.hg_remote.specs.Remote.{nothing_sent};
 ghost use Rattle.hg_worker.specs.Missing.{HasAll};
-ghost use Rattle.hg_worker.specs.Seats.{number_in, records_in};
+ghost use Rattle.hg_worker.specs.Seats.{number_in};
 ghost use Rattle.hg_service.specs.Back.{AreBack, IsFirstOut, is_back};
+ghost use Rattle.hg_service.specs.GivenBack.{AreListsOf, IsMadeOfParts};
 ghost use Rattle.hg_service.specs.Unclosed.{IsFault, AreUnclosed};
 
 use crate::caller_locked::CallerLocked;
@@ -43,7 +45,7 @@ impl<N: ServiceName> CallerLocked<N> {
     /// before is given up.
     pub fn close(self, alloc: Global) -> Result<Core, UnclosedParts<N>>
         ensures quiet { IfOk result (IsQuiet N.policy) }
-        ensures segments { IfOk result (IsMadeOf number_in records_in self.pool.pool) }
+        ensures made { IfOk result (IsMadeOfParts N.policy self) }
         ensures pooled { IfOk result (λ core.
             HasAll number_in self.pool.pool (length N.policy.segments)) }
         ensures back { IfOk result (λ core. AreBack self.workers.items N.policy.workers) }
@@ -98,11 +100,15 @@ impl<N: ServiceName> CallerLocked<N> {
     fn give_lists(&mut self, room: &mut CloseRoom)
         requires policy { room.old.parts.policy ≡ N.policy }
         requires unfilled { IsUnfilled room.old }
+        requires unsent { room.old.parts.remotes.items
+            ≡ replicate (length N.policy.segments) nothing_sent }
+        ensures lists { AreListsOf self.old.lists.items (length N.policy.segments)
+            room.new.parts.remotes.items }
         ensures policy { room.new.parts.policy ≡ N.policy }
         ensures unfilled { IsUnfilled room.new }
         ensures pool { self.new.pool ≡ self.old.pool }
     {
-        for kept in &mut self.lists {
+        for kept in self.lists.iter_mut() {
             if kept.segment < self.policy.segments() {
                 room.take_list(kept.segment, &mut kept.list);
             }

@@ -19,3 +19,5 @@ mod services;
 mod stress;
 #[cfg(test)]
 mod threads;
+#[cfg(test)]
+mod used_up;

@@ -1,4 +1,6 @@
 use Rattle.std.proofs.Common.{length, sym, ap, ◌∙◌, None, slice_index_or, arith}
+use Rattle.std.proofs.lemmas.List.{length-replicate}
+use Rattle.hg_remote.specs.Remote.{nothing_sent}
 use Rattle.hg_close.proofs.room.CloseRoom.new.Goals as goal
 
 pub returns-clause-room : goal.returns-clause-room
@@ -12,7 +14,9 @@ returns-clause-room c =
           hands = ap length c.into_vec.ensures.items ∙ c.in_ok-filled.ensures.all
               ∙ c.from.ensures ∙ c.workers-workers.ensures.workers
               ∙ sym (ap (λ policy. policy.workers) same);
-          remotes = c.in_ok-unsent_lists.ensures ∙ c.segments-segments.ensures.segments
+          remotes = ap length c.in_ok-unsent_lists.ensures
+              ∙ length-replicate c.segments-segments.result nothing_sent
+              ∙ c.segments-segments.ensures.segments
               ∙ sym (ap (λ policy. length policy.segments) same);
         };
         heaps = c.in_ok-no_heaps.ensures.none;
