@@ -1,6 +1,10 @@
 //! Services that close, and that go on.
 
-use crate::services::{ALICE, MAIN, Trial, block, both, closed, refilled, told, tried, unclosed};
+use crate::closed::{answers_so, closed, unclosed};
+use crate::services::{
+    ALICE, MAIN, Trial, answers, block, both, free, is_gone, leaves, read, refill, take, tried,
+    worker, write,
+};
 use hg_close::CloseFault;
 use hg_machine::{Answer, Event};
 use hg_service::Service;
@@ -9,30 +13,19 @@ use std::alloc::Global;
 use std::process::Abort;
 use std::sync::Wait;
 
-fn holds<R: Wait + Abort, T: Trial>(rt: &R, alloc: Global, trial: &T) {
-    assert!(rt; tried(rt, alloc, trial).is_some());
-}
-
 struct GoesOn;
 
 impl Trial for GoesOn {
     fn go<N: ServiceName, R: Wait + Abort>(&self, rt: &R, alloc: Global, service: Service<N>) {
         let mut service = service;
         let (mut one, other) = both(rt, &mut service);
-        let x = block(rt, &mut one.own);
+        let x = block(rt, &mut one);
         let service = unclosed(rt, alloc, service, CloseFault::StillHeld(0));
-        assert_eq!(rt; one.own.write(ALICE, x, 0, 5), Answer::Done);
-        one.leave(rt);
-        other.leave(rt);
-        let mut core = closed(rt, alloc, service);
-        refilled(rt, &mut core);
-        let event = Event::Read {
-            actor: ALICE,
-            handle: x,
-            index: 0,
-        };
-        assert_eq!(rt; told(rt, &mut core, 0, event), Answer::Value(5));
-        drop(core);
+        answers(rt, &mut one, write(ALICE, x, 5), Answer::Done);
+        leaves(rt, one);
+        leaves(rt, other);
+        let core = closed(rt, alloc, service);
+        answers_so(rt, core, &[(read(ALICE, x), Answer::Value(5))]);
     }
 }
 
@@ -40,23 +33,22 @@ impl Trial for GoesOn {
 /// lives on in the core with what was written.
 #[test]
 fn close_goes_on(rt: HostRuntime) {
-    holds(&rt, rt.alloc(), &GoesOn);
+    tried(&rt, rt.alloc(), &GoesOn);
 }
 
 struct Unused;
 
 impl Trial for Unused {
     fn go<N: ServiceName, R: Wait + Abort>(&self, rt: &R, alloc: Global, service: Service<N>) {
-        let mut core = closed(rt, alloc, service);
-        refilled(rt, &mut core);
-        drop(core);
+        let core = closed(rt, alloc, service);
+        answers_so(rt, core, &[]);
     }
 }
 
 /// A service of which no worker was ever taken closes.
 #[test]
 fn nobody_was_taken(rt: HostRuntime) {
-    holds(&rt, rt.alloc(), &Unused);
+    tried(&rt, rt.alloc(), &Unused);
 }
 
 struct Dropped;
@@ -64,7 +56,7 @@ struct Dropped;
 impl Trial for Dropped {
     fn go<N: ServiceName, R: Wait + Abort>(&self, rt: &R, alloc: Global, service: Service<N>) {
         let mut service = service;
-        drop(service.worker(1));
+        drop(worker(rt, &mut service, 1));
         drop(unclosed(rt, alloc, service, CloseFault::StillOut(1)));
     }
 }
@@ -72,7 +64,7 @@ impl Trial for Dropped {
 /// A worker that was dropped never leaves.
 #[test]
 fn dropped_worker_is_out(rt: HostRuntime) {
-    holds(&rt, rt.alloc(), &Dropped);
+    tried(&rt, rt.alloc(), &Dropped);
 }
 
 struct DroppedHolder;
@@ -90,7 +82,7 @@ impl Trial for DroppedHolder {
 /// What a dropped worker held is held for good, and is told before who is out.
 #[test]
 fn dropped_segment_is_held(rt: HostRuntime) {
-    holds(&rt, rt.alloc(), &DroppedHolder);
+    tried(&rt, rt.alloc(), &DroppedHolder);
 }
 
 struct SecondHeld;
@@ -99,13 +91,13 @@ impl Trial for SecondHeld {
     fn go<N: ServiceName, R: Wait + Abort>(&self, rt: &R, alloc: Global, service: Service<N>) {
         let mut service = service;
         let (mut one, mut other) = both(rt, &mut service);
-        assert_eq!(rt; other.refill(rt, MAIN), Answer::Refilled(1));
+        answers(rt, &mut other, refill(MAIN), Answer::Refilled(1));
         let service = unclosed(rt, alloc, service, CloseFault::StillHeld(0));
-        assert_eq!(rt; one.abandon(rt, 0), Answer::Done);
+        answers(rt, &mut one, Event::Abandon { segment: 0 }, Answer::Done);
         let service = unclosed(rt, alloc, service, CloseFault::StillHeld(1));
-        other.leave(rt);
+        leaves(rt, other);
         let service = unclosed(rt, alloc, service, CloseFault::StillOut(0));
-        one.leave(rt);
+        leaves(rt, one);
         drop(closed(rt, alloc, service));
     }
 }
@@ -113,7 +105,7 @@ impl Trial for SecondHeld {
 /// The lowest segment is told that somebody holds, and then the lowest worker that is out.
 #[test]
 fn lowest_is_told(rt: HostRuntime) {
-    holds(&rt, rt.alloc(), &SecondHeld);
+    tried(&rt, rt.alloc(), &SecondHeld);
 }
 
 struct SentBefore;
@@ -122,22 +114,19 @@ impl Trial for SentBefore {
     fn go<N: ServiceName, R: Wait + Abort>(&self, rt: &R, alloc: Global, service: Service<N>) {
         let mut service = service;
         let (mut one, mut other) = both(rt, &mut service);
-        let x = block(rt, &mut one.own);
-        assert_eq!(rt; other.own.free(ALICE, x), Answer::Parted);
-        other.leave(rt);
-        one.leave(rt);
-        let mut core = closed(rt, alloc, service);
-        refilled(rt, &mut core);
-        let event = Event::Take { segment: 0 };
-        assert_eq!(rt; told(rt, &mut core, 0, event), Answer::Taken(1));
-        drop(core);
+        let x = block(rt, &mut one);
+        answers(rt, &mut other, free(ALICE, x), Answer::Parted);
+        leaves(rt, other);
+        leaves(rt, one);
+        let core = closed(rt, alloc, service);
+        answers_so(rt, core, &[(take(0), Answer::Taken(1))]);
     }
 }
 
 /// What was sent to a segment is there in the core, for its holder to take in.
 #[test]
 fn sent_block_is_taken_in(rt: HostRuntime) {
-    holds(&rt, rt.alloc(), &SentBefore);
+    tried(&rt, rt.alloc(), &SentBefore);
 }
 
 struct HandedBack;
@@ -146,21 +135,21 @@ impl Trial for HandedBack {
     fn go<N: ServiceName, R: Wait + Abort>(&self, rt: &R, alloc: Global, service: Service<N>) {
         let mut service = service;
         let (mut one, mut other) = both(rt, &mut service);
-        let x = block(rt, &mut one.own);
-        let y = block(rt, &mut one.own);
-        assert_eq!(rt; one.own.write(ALICE, y, 0, 7), Answer::Done);
-        assert_eq!(rt; other.own.free(ALICE, x), Answer::Parted);
-        assert_eq!(rt; other.deliver(rt), Answer::Done);
+        let x = block(rt, &mut one);
+        let y = block(rt, &mut one);
+        answers(rt, &mut one, write(ALICE, y, 7), Answer::Done);
+        answers(rt, &mut other, free(ALICE, x), Answer::Parted);
+        answers(rt, &mut other, Event::Deliver, Answer::Done);
         let service = unclosed(rt, alloc, service, CloseFault::StillHeld(0));
-        one.leave(rt);
+        leaves(rt, one);
         let mut service = unclosed(rt, alloc, service, CloseFault::StillOut(1));
-        assert!(rt; service.worker(0).is_none());
+        assert!(rt; is_gone(&mut service, 0));
         assert_eq!(rt; service.policy().workers(), 2);
-        assert_eq!(rt; other.refill(rt, MAIN), Answer::Refilled(0));
-        assert_eq!(rt; other.take(rt, 0), Answer::Taken(1));
-        assert_eq!(rt; other.own.read(ALICE, y, 0), Answer::Value(7));
-        assert_eq!(rt; other.refill(rt, MAIN), Answer::Refilled(1));
-        other.leave(rt);
+        answers(rt, &mut other, refill(MAIN), Answer::Refilled(0));
+        answers(rt, &mut other, take(0), Answer::Taken(1));
+        answers(rt, &mut other, read(ALICE, y), Answer::Value(7));
+        answers(rt, &mut other, refill(MAIN), Answer::Refilled(1));
+        leaves(rt, other);
         drop(closed(rt, alloc, service));
     }
 }
@@ -168,5 +157,5 @@ impl Trial for HandedBack {
 /// A service that comes back has behind its locks what it had.
 #[test]
 fn service_comes_back_whole(rt: HostRuntime) {
-    holds(&rt, rt.alloc(), &HandedBack);
+    tried(&rt, rt.alloc(), &HandedBack);
 }
