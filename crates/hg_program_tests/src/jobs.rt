@@ -1,3 +1,5 @@
+//! Worked command lines: what each asks for, and what refuses it.
+
 use hg_job::{Job, JobFault, job_of};
 use std::alloc::{AllocError, Global};
 use std::process::Abort;
