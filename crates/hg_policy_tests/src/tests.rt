@@ -7,3 +7,4 @@ mod second;
 mod second_faults;
 mod sizes;
 mod texts;
+mod verdicts;

@@ -1,5 +1,10 @@
-//! The program on files in memory, and on outputs that fail.
+//! The program: its command lines, its races, and all of it on files in memory and on outputs that
+//! fail.
 #![tactic(auto)]
 
 #[cfg(test)]
-mod tests;
+mod files;
+#[cfg(test)]
+mod jobs;
+#[cfg(test)]
+mod races;

@@ -1,40 +1,11 @@
-//! The parts of a service in the hands of a host that locks by itself.
+//! Lists of a service that a host has locked, and what workers send to them.
 
-ghost use Rattle.std.specs.Prelude.{◌≡◌, length};
-ghost use Rattle.hg_table.specs.Named.{table_of};
-
-use crate::services::{ALICE, DOCUMENT, MAIN, made};
+use crate::parts::{PartsTrial, are_tried, delivers, parted, parts_tried, refilled, takes};
 use hg_machine::Answer;
-use hg_policy::Policy;
 use hg_service::{CallerLocked, KeptList};
-use hg_table::LifeTable;
 use hg_worker::{KeptPool, ServiceName, Worker};
 use std::alloc::Global;
-use std::marker::Brand;
 use std::process::Abort;
-
-/// A worker takes the first segment of the main arena.
-fn refilled<N: ServiceName>(rt: &impl Abort, worker: &mut Worker<N>, pool: &mut KeptPool<N>) {
-    assert_eq!(rt; worker.refill_from(MAIN, pool), Answer::Refilled(0));
-}
-
-/// One worker's block is freed by the other, which then has it in hand.
-fn parted<N: ServiceName>(rt: &impl Abort, one: &mut Worker<N>, other: &mut Worker<N>) {
-    let Answer::Block(x) = one.alloc(ALICE, MAIN, 24) else {
-        panic!(rt; "no block")
-    };
-    assert_eq!(rt; other.free(ALICE, x), Answer::Parted);
-}
-
-/// A list must answer the delivery of a worker so.
-fn delivers<N: ServiceName>(
-    rt: &impl Abort,
-    worker: &mut Worker<N>,
-    list: &mut KeptList<N>,
-    wanted: Answer,
-) {
-    assert_eq!(rt; list.deliver(worker), wanted);
-}
 
 /// The list of another segment takes nothing, and that of its own does once.
 fn sent<N: ServiceName>(
@@ -49,16 +20,6 @@ fn sent<N: ServiceName>(
     delivers(rt, worker, own, Answer::Done);
     assert!(rt; worker.hand().is_none());
     delivers(rt, worker, own, Answer::NothingInHand);
-}
-
-/// What a list gives to a worker.
-fn takes<N: ServiceName>(
-    rt: &impl Abort,
-    worker: &mut Worker<N>,
-    list: &mut KeptList<N>,
-    wanted: Answer,
-) {
-    assert_eq!(rt; list.take(worker), wanted);
 }
 
 /// What was sent is taken in by the holder alone.
@@ -84,59 +45,42 @@ fn sent_and_taken<N: ServiceName>(
     let (own, foreign) = lists;
     assert_eq!(rt; (one.number(), other.number()), (0, 1));
     refilled(rt, one, pool);
-    parted(rt, one, other);
+    let _ = parted(rt, one, other);
     sent(rt, other, foreign, own);
     taken(rt, one, other, own);
 }
 
-/// Tries that on the parts of a new service. Whether there was memory for them.
-fn is_tried_on<N: ServiceName>(
-    rt: &impl Abort,
-    alloc: Global,
-    policy: Policy,
-    table: LifeTable,
-) -> bool
-    requires table { table_of table ≡ N.table }
-    requires policy { policy ≡ N.policy }
-    requires segments { table.segments ≡ length policy.segments }
-    requires workers { table.workers ≡ policy.workers }
-{
-    let Ok(parts) = CallerLocked::<N>::open(alloc, policy, table) else {
-        return false;
-    };
-    let CallerLocked {
-        policy: _,
-        mut workers,
-        mut lists,
-        mut pool,
-    } = parts;
-    assert_eq!(rt; (workers.len(), lists.len()), (2, 3));
-    let (front, back) = workers.as_mut_slice().split_at_mut(1);
-    let (own, foreign) = lists.as_mut_slice().split_at_mut(1);
-    let workers_of = (&mut front[0], &mut back[0]);
-    let lists_of = (&mut own[0], &mut foreign[0]);
-    sent_and_taken(rt, workers_of, lists_of, &mut pool);
-    drop(workers);
-    drop(lists);
-    drop(pool);
-    true
-}
+struct SentAndTaken;
 
-fn is_tried(rt: &impl Abort, alloc: Global) -> bool {
-    match made(alloc, DOCUMENT) {
-        Some((policy, table)) => is_tried_on::<Brand>(rt, alloc, policy, table),
-        None => false,
+impl PartsTrial for SentAndTaken {
+    fn go<N: ServiceName, R: Abort>(&self, rt: &R, _: Global, parts: CallerLocked<N>) {
+        let CallerLocked {
+            policy: _,
+            mut workers,
+            mut lists,
+            mut pool,
+        } = parts;
+        assert_eq!(rt; (workers.len(), lists.len()), (2, 3));
+        let (front, back) = workers.as_mut_slice().split_at_mut(1);
+        let (own, foreign) = lists.as_mut_slice().split_at_mut(1);
+        let workers_of = (&mut front[0], &mut back[0]);
+        let lists_of = (&mut own[0], &mut foreign[0]);
+        sent_and_taken(rt, workers_of, lists_of, &mut pool);
+        drop(workers);
+        drop(lists);
+        drop(pool);
     }
 }
 
 /// A block goes from hand to list to holder, and no list takes a block of another segment.
 #[test]
 fn kept_lists(rt: HostRuntime) {
-    assert!(&rt; is_tried(&rt, rt.alloc()));
+    parts_tried(&rt, rt.alloc(), &SentAndTaken);
 }
 
 /// The parts of a service, or want of memory, and then another try meets none.
 #[test]
 fn parts_refused_in_turn(rt: HostRuntime) {
-    assert!(&rt; is_tried(&rt, rt.alloc()) || is_tried(&rt, rt.alloc()));
+    let alloc = rt.alloc();
+    assert!(&rt; are_tried(&rt, alloc, &SentAndTaken) || are_tried(&rt, alloc, &SentAndTaken));
 }

@@ -1,28 +1,31 @@
 //! Workers that are taken, that leave, and that are dropped.
 
 use crate::services::{
-    ALICE, MAIN, Trial, answers, block, both, free, is_gone, read, refill, take, tried, worker,
-    write,
+    ALICE, MAIN, Trial, answers, block, both, free, is_gone, leaves, read, refill, take, tried,
+    worker, write,
 };
 use hg_machine::Answer;
 use hg_service::Service;
 use hg_worker::ServiceName;
+use std::alloc::Global;
 use std::process::Abort;
 use std::sync::Wait;
 
 struct TakenOnce;
 
 impl Trial for TakenOnce {
-    fn go<N: ServiceName, R: Wait + Abort>(&self, rt: &R, service: &mut Service<N>) {
-        assert!(rt; is_gone(service, 2));
-        assert!(rt; is_gone(service, 255));
-        let one = worker(rt, service, 0);
-        assert!(rt; is_gone(service, 0));
-        one.leave(rt);
-        assert!(rt; is_gone(service, 0));
+    fn go<N: ServiceName, R: Wait + Abort>(&self, rt: &R, _: Global, service: Service<N>) {
+        let mut service = service;
+        assert!(rt; is_gone(&mut service, 2));
+        assert!(rt; is_gone(&mut service, 255));
+        let one = worker(rt, &mut service, 0);
+        assert!(rt; is_gone(&mut service, 0));
+        leaves(rt, one);
+        assert!(rt; is_gone(&mut service, 0));
         assert_eq!(rt; service.policy().workers(), 2);
-        drop(worker(rt, service, 1));
-        assert!(rt; is_gone(service, 1));
+        drop(worker(rt, &mut service, 1));
+        assert!(rt; is_gone(&mut service, 1));
+        drop(service);
     }
 }
 
@@ -35,15 +38,17 @@ fn each_worker_once(rt: HostRuntime) {
 struct LeftSent;
 
 impl Trial for LeftSent {
-    fn go<N: ServiceName, R: Wait + Abort>(&self, rt: &R, service: &mut Service<N>) {
-        let (mut one, mut other) = both(rt, service);
+    fn go<N: ServiceName, R: Wait + Abort>(&self, rt: &R, _: Global, service: Service<N>) {
+        let mut service = service;
+        let (mut one, mut other) = both(rt, &mut service);
         let x = block(rt, &mut one);
         let y = block(rt, &mut one);
         answers(rt, &mut other, free(ALICE, x), Answer::Parted);
-        other.leave(rt);
+        leaves(rt, other);
         answers(rt, &mut one, take(0), Answer::Taken(1));
         answers(rt, &mut one, free(ALICE, y), Answer::Done);
         drop(one);
+        drop(service);
     }
 }
 
@@ -56,17 +61,19 @@ fn hand_is_sent_by_leaving(rt: HostRuntime) {
 struct LeftSegments;
 
 impl Trial for LeftSegments {
-    fn go<N: ServiceName, R: Wait + Abort>(&self, rt: &R, service: &mut Service<N>) {
-        let (mut one, mut other) = both(rt, service);
+    fn go<N: ServiceName, R: Wait + Abort>(&self, rt: &R, _: Global, service: Service<N>) {
+        let mut service = service;
+        let (mut one, mut other) = both(rt, &mut service);
         let x = block(rt, &mut one);
         answers(rt, &mut one, write(ALICE, x, 7), Answer::Done);
         answers(rt, &mut one, refill(MAIN), Answer::Refilled(1));
-        one.leave(rt);
+        leaves(rt, one);
         answers(rt, &mut other, refill(MAIN), Answer::Refilled(0));
         answers(rt, &mut other, read(ALICE, x), Answer::Value(7));
         answers(rt, &mut other, refill(MAIN), Answer::Refilled(1));
         answers(rt, &mut other, refill(MAIN), Answer::NoSegment);
         drop(other);
+        drop(service);
     }
 }
 

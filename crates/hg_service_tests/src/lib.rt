@@ -1,6 +1,14 @@
-//! A service of workers in threads: what its calls answer.
+//! A service of workers in threads, and its parts: what its calls answer, and how it closes.
 #![tactic(auto)]
 
+#[cfg(test)]
+mod closed;
+#[cfg(test)]
+mod closing;
+#[cfg(test)]
+mod closing_parts;
+#[cfg(test)]
+mod closing_refused;
 #[cfg(test)]
 mod in_threads;
 #[cfg(test)]
@@ -8,7 +16,11 @@ mod kept_lists;
 #[cfg(test)]
 mod leaving;
 #[cfg(test)]
+mod lost;
+#[cfg(test)]
 mod memory;
+#[cfg(test)]
+mod parts;
 #[cfg(test)]
 mod rows;
 #[cfg(test)]

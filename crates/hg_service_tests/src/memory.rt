@@ -1,23 +1,26 @@
 //! A service of which each request for memory may be refused as it opens.
 
-use crate::services::{ALICE, DOCUMENT, Trial, answers, block, both, free, is_tried, take};
+use crate::services::{ALICE, DOCUMENT, Trial, answers, block, both, free, is_tried, leaves, take};
 use hg_machine::{Answer, Event};
 use hg_service::Service;
 use hg_worker::ServiceName;
+use std::alloc::Global;
 use std::process::Abort;
 use std::sync::Wait;
 
 struct Used;
 
 impl Trial for Used {
-    fn go<N: ServiceName, R: Wait + Abort>(&self, rt: &R, service: &mut Service<N>) {
-        let (mut one, mut other) = both(rt, service);
+    fn go<N: ServiceName, R: Wait + Abort>(&self, rt: &R, _: Global, service: Service<N>) {
+        let mut service = service;
+        let (mut one, mut other) = both(rt, &mut service);
         let x = block(rt, &mut one);
         answers(rt, &mut other, free(ALICE, x), Answer::Parted);
         answers(rt, &mut other, Event::Deliver, Answer::Done);
         answers(rt, &mut one, take(0), Answer::Taken(1));
-        one.leave(rt);
-        other.leave(rt);
+        leaves(rt, one);
+        leaves(rt, other);
+        drop(service);
     }
 }
 

@@ -48,9 +48,10 @@ struct Rows<'a> {
 }
 
 impl<'a> Trial for Rows<'a> {
-    fn go<N: ServiceName, R: Wait + Abort>(&self, rt: &R, service: &mut Service<N>) {
-        let mut one = worker(rt, service, 0);
-        let mut other = worker(rt, service, 1);
+    fn go<N: ServiceName, R: Wait + Abort>(&self, rt: &R, _: Global, service: Service<N>) {
+        let mut service = service;
+        let mut one = worker(rt, &mut service, 0);
+        let mut other = worker(rt, &mut service, 1);
         for (number, event, wanted) in self.rows {
             match *number {
                 0 => answers(rt, &mut one, *event, *wanted),
@@ -59,6 +60,7 @@ impl<'a> Trial for Rows<'a> {
         }
         drop(one);
         drop(other);
+        drop(service);
     }
 }
 

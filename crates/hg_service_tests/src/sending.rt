@@ -2,7 +2,7 @@
 //! home.
 
 use crate::in_threads::{Tried, in_threads};
-use crate::services::{ALICE, MAIN, answers, block, free, refill, worker};
+use crate::services::{ALICE, MAIN, answers, block, free, leaves, refill, worker};
 use hg_machine::{Answer, Event};
 use hg_place::Handle;
 use hg_service::{Service, Worker};
@@ -149,10 +149,10 @@ pub fn by_turns<N: ServiceName + Send + Sync, R: Threads + Wait + Abort + Sync>(
         round(rt, alloc, &mut w2, (&mut w3, &mut w0, &mut w1));
         round(rt, alloc, &mut w3, (&mut w0, &mut w1, &mut w2));
     }
-    w0.leave(rt);
-    w1.leave(rt);
-    w2.leave(rt);
-    w3.leave(rt);
+    leaves(rt, w0);
+    leaves(rt, w1);
+    leaves(rt, w2);
+    leaves(rt, w3);
 }
 
 /// Whoever holds the segment, and however the threads run: a delivery is never busy, and no place

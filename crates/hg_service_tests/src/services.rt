@@ -34,7 +34,7 @@ grant = [ {owner = "alice", to = "bob", rights = ["read", "free"]} ]
 /// What is tried on a new service. It calls a worker by the functions below, which have no clauses,
 /// so that none of what a call does is carried to the next.
 pub trait Trial {
-    fn go<N: ServiceName, R: Wait + Abort>(&self, rt: &R, service: &mut Service<N>);
+    fn go<N: ServiceName, R: Wait + Abort>(&self, rt: &R, alloc: Global, service: Service<N>);
 }
 
 /// A document's policy and a table for it, unless memory is refused.
@@ -74,11 +74,10 @@ fn is_tried_on<N: ServiceName, R: Wait + Abort, T: Trial>(
     requires segments { table.segments ≡ length policy.segments }
     requires workers { table.workers ≡ policy.workers }
 {
-    let Ok(mut service) = Service::<N>::open(alloc, policy, table) else {
+    let Ok(service) = Service::<N>::open(alloc, policy, table) else {
         return false;
     };
-    trial.go(rt, &mut service);
-    drop(service);
+    trial.go(rt, alloc, service);
     true
 }
 
@@ -90,6 +89,11 @@ pub fn tried<R: Wait + Abort, T: Trial>(rt: &R, alloc: Global, trial: &T) {
 /// A worker that nobody has taken yet.
 pub fn worker<N: ServiceName, R: Abort>(rt: &R, service: &mut Service<N>, number: u8) -> Worker<N> {
     service.worker(number).expect(rt, "a worker")
+}
+
+/// A worker leaves.
+pub fn leaves<N: ServiceName, R: Wait>(rt: &R, worker: Worker<N>) {
+    worker.leave(rt);
 }
 
 /// Whether nobody can take the worker of a number.
@@ -110,7 +114,12 @@ pub fn both<N: ServiceName, R: Wait + Abort>(
 
 /// A block of 24 bytes of alice's.
 pub fn block<N: ServiceName, R: Abort>(rt: &R, worker: &mut Worker<N>) -> Handle {
-    let Answer::Block(handle) = worker.own.alloc(ALICE, MAIN, 24) else {
+    own_block(rt, &mut worker.own)
+}
+
+/// The same of a worker that waits for nothing.
+pub fn own_block<N: ServiceName>(rt: &impl Abort, worker: &mut hg_worker::Worker<N>) -> Handle {
+    let Answer::Block(handle) = worker.alloc(ALICE, MAIN, 24) else {
         panic!(rt; "no block")
     };
     handle

@@ -3,7 +3,7 @@
 ghost use Rattle.std.specs.Prelude.{◌<◌};
 
 use crate::in_threads::{Tried, in_threads};
-use crate::services::{answer, worker};
+use crate::services::{answer, leaves, worker};
 use hg_machine::{Answer, Event};
 use hg_place::{Actor, Handle};
 use hg_service::{Service, Worker};
@@ -306,10 +306,10 @@ pub fn crowd<N: ServiceName + Send + Sync, R: Threads + Wait + Abort + Sync>(
     lists_what_lives(rt, alloc, &mut w1, &all);
     lists_what_lives(rt, alloc, &mut w2, &all);
     lists_what_lives(rt, alloc, &mut w3, &all);
-    w0.leave(rt);
-    w1.leave(rt);
-    w2.leave(rt);
-    w3.leave(rt);
+    leaves(rt, w0);
+    leaves(rt, w1);
+    leaves(rt, w2);
+    leaves(rt, w3);
     drop(all);
 }
 

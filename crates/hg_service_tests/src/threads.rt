@@ -6,6 +6,7 @@ use hg_machine::{Answer, Rule};
 use hg_place::Handle;
 use hg_service::{Service, Worker};
 use hg_worker::ServiceName;
+use std::alloc::Global;
 use std::process::Abort;
 use std::sync::Wait;
 use std::sync::atomic::{AtomicU64, Ordering};
@@ -109,12 +110,14 @@ fn parted_is_freed_after_join(rt: HostRuntime) {
 struct FreedLive;
 
 impl Trial for FreedLive {
-    fn go<N: ServiceName, R: Wait + Abort>(&self, rt: &R, service: &mut Service<N>) {
-        let (mut one, mut other) = both(rt, service);
+    fn go<N: ServiceName, R: Wait + Abort>(&self, rt: &R, _: Global, service: Service<N>) {
+        let mut service = service;
+        let (mut one, mut other) = both(rt, &mut service);
         let x = block(rt, &mut one);
         answers(rt, &mut other, free(ALICE, x), Answer::Parted);
         drop(one);
         drop(other);
+        drop(service);
     }
 }
 

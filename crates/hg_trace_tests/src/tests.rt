@@ -1,5 +1,6 @@
 mod faults;
 mod joined;
+mod kept_names;
 mod label_faults;
 mod labels;
 mod many;

@@ -97,8 +97,8 @@ fn are_of_workers(core: &Core, events: &[Asked]) -> bool
     events.iter().all(|event| event.0 < workers)
 }
 
-/// Runs these events.
-fn run(
+/// Runs these events, each of which must be one of a worker of the core.
+pub fn run(
     rt: &impl Abort,
     alloc: Global,
     core: &mut Core,

@@ -1,8 +1,9 @@
 //! Policies and traces that are cut or malformed. They end with a status of their own, a line on
 //! standard error, and nothing on the output.
 
+use crate::tests::policies::TWO_WORKERS;
 use crate::tests::running::{Ends, ended};
-use crate::tests::worked::{DELIVERED, LISTED, NEW_LIFE, SHARED, Worked};
+use crate::tests::worked::{DELIVERED, LISTED, NEW_LIFE, Worked};
 use hg_replay::{Status, run_texts};
 use std::alloc::Global;
 use std::process::Abort;
@@ -23,7 +24,7 @@ fn is_bad_policy(rt: &impl Abort, alloc: Global, policy: &[u8], line: &str) {
 /// Under the policy a trace is faulty.
 fn is_bad_trace(rt: &impl Abort, alloc: Global, trace: &[u8], line: &str) {
     let want = (Status::BadTrace, "", line);
-    ends(rt, alloc, SHARED.as_bytes(), trace, want);
+    ends(rt, alloc, TWO_WORKERS.as_bytes(), trace, want);
 }
 
 /// Each of these traces is.
@@ -62,10 +63,10 @@ fn policy_cut_behind_a_line(rt: HostRuntime) {
         (3, "policy fault 2: missing arena\n"),
     ];
     for (count, line) in missing {
-        is_bad_policy(&rt, rt.alloc(), lines(SHARED, count), line);
+        is_bad_policy(&rt, rt.alloc(), lines(TWO_WORKERS, count), line);
     }
     let want = (Status::Done, "", "");
-    ends(&rt, rt.alloc(), lines(SHARED, 4), b"", want);
+    ends(&rt, rt.alloc(), lines(TWO_WORKERS, 4), b"", want);
 }
 
 #[test]
@@ -137,8 +138,8 @@ fn run(rt: &impl Abort, alloc: Global, policy: &[u8], trace: &[u8]) -> (Status, 
 
 /// Each prefix of the policy, with a trace, has its end.
 fn cut_policy(rt: &impl Abort, alloc: Global, trace: &str) {
-    for bytes in 0..=SHARED.len() {
-        let (policy, _) = SHARED.as_bytes().split_at(bytes);
+    for bytes in 0..=TWO_WORKERS.len() {
+        let (policy, _) = TWO_WORKERS.as_bytes().split_at(bytes);
         let (status, out) = run(rt, alloc, policy, trace.as_bytes());
         assert!(rt; status != Status::BadTrace, "at {bytes}");
         drop(out);
@@ -152,7 +153,7 @@ fn cut_trace(rt: &impl Abort, alloc: Global, worked: Worked) {
     let mut written = 0;
     for bytes in 0..=whole.len() {
         let (trace, _) = whole.as_bytes().split_at(bytes);
-        let (status, out) = run(rt, alloc, SHARED.as_bytes(), trace);
+        let (status, out) = run(rt, alloc, TWO_WORKERS.as_bytes(), trace);
         assert!(rt; status != Status::BadPolicy, "at {bytes}");
         if trace.ends_with(b"\n") {
             assert!(rt; status == Status::Done, "at {bytes}");

@@ -46,7 +46,9 @@ pub fn ends(rt: &impl Abort, alloc: Global, policy: &str, trace: &str, want: End
         &mut out,
         &mut err,
     );
-    ended(rt, status, out.as_slice(), err.as_slice(), want);
+    assert!(rt; err.as_slice() == want.2.as_bytes(), "{trace}");
+    assert!(rt; out.as_slice() == want.1.as_bytes(), "{trace}");
+    assert!(rt; status == want.0, "{trace}");
 }
 
 const COLOURED: &str = "colour = 1

@@ -1,8 +1,9 @@
 //! Writers that stop, on the way and at the end.
 
 use crate::tests::fakes::{Full, Limited};
+use crate::tests::policies::TWO_WORKERS;
 use crate::tests::running::{ANSWERS, POLICY, TRACE};
-use crate::tests::worked::{DELIVERED, SHARED};
+use crate::tests::worked::DELIVERED;
 use hg_policy::read_policy;
 use hg_replay::{ReplayFault, Status, replay, run_texts};
 use hg_trace::{Trace, read_trace};
@@ -91,7 +92,7 @@ fn read<'a>(rt: &impl Abort, alloc: Global, text: &'a str) -> Trace<'a> {
 
 /// On a writer that stops after so many bytes a replay tells so, and has written these.
 fn replay_stops(rt: &impl Abort, alloc: Global, trace: &Trace, text: &str, left: usize) {
-    let policy = read_policy(alloc, SHARED.as_bytes()).expect(rt, "a policy");
+    let policy = read_policy(alloc, TWO_WORKERS.as_bytes()).expect(rt, "a policy");
     let mut out = Limited::new(alloc, left, 1, true);
     let ended = replay(alloc, policy, trace, &mut out);
     assert!(rt; matches!(ended, Err(ReplayFault::Write)), "at {left}");
@@ -110,7 +111,7 @@ fn write_stops(rt: HostRuntime) {
     for left in 0..67usize {
         replay_stops(&rt, rt.alloc(), &trace, text, left);
         let out = Limited::new(rt.alloc(), left, 1, true);
-        stops_under(&rt, rt.alloc(), SHARED, DELIVERED, out, left);
+        stops_under(&rt, rt.alloc(), TWO_WORKERS, DELIVERED, out, left);
     }
     drop(trace);
 }

@@ -1,11 +1,4 @@
-//! A policy of two workers, and worked traces under it.
-
-pub const SHARED: &str = r#"version = 1
-workers = 2
-tenant = [ {name = "alice", limit = 8192}, {name = "bob", limit = 64} ]
-arena = [ {name = "main", segments = 2}, {name = "vault", segments = 1, exclusive = ["alice"]} ]
-grant = [ {owner = "alice", to = "bob", rights = ["read", "free"]} ]
-"#;
+//! Worked traces of two workers.
 
 /// A trace, and what is written of its answers.
 pub type Worked = (&'static str, &'static str);

@@ -24,6 +24,21 @@ fn gone_over(
     old.rewrap(words)
 }
 
+/// The segment has the number, the arena and the greatest generation that it had.
+fn is_the_same(rt: &impl Abort, new: &Segment<PlainWords>) {
+    assert_eq!(rt; (new.number(), new.arena(), new.greatest()), (5, 1, 2));
+}
+
+/// How the first place of page 3 stands.
+fn standing(new: &Segment<PlainWords>) -> Standing {
+    new.standing(3, 0)
+}
+
+/// The index of the place that page 3 gives out next, for tenant 7.
+fn next_index(new: &mut Segment<PlainWords>) -> Option<u16> {
+    new.open_in(3, 7).map(|next| next.place.index)
+}
+
 // A segment over other slot words has its blocks and all else that it had.
 #[test]
 fn copied_and_gone_over(rt: HostRuntime) {
@@ -32,10 +47,10 @@ fn copied_and_gone_over(rt: HostRuntime) {
     assert!(&rt; is_opened(&rt, &mut old, 3, (1, 7)));
     let words = PlainWords::new(rt.alloc(), 5).expect(&rt, "memory");
     let mut new = gone_over(&rt, old, words);
-    assert_eq!(&rt; (new.number(), new.arena(), new.greatest()), (5, 1, 2));
+    is_the_same(&rt, &new);
     assert_eq!(&rt; charge(&rt, &new, 7), 8);
-    assert_eq!(&rt; new.standing(3, 0), Standing::Open(1, 7));
-    assert_eq!(&rt; new.open_in(3, 7).map(|next| next.place.index), Some(1));
+    assert_eq!(&rt; standing(&new), Standing::Open(1, 7));
+    assert_eq!(&rt; next_index(&mut new), Some(1));
     assert_eq!(&rt; charge(&rt, &new, 7), 16);
     drop(new);
 }

@@ -1,7 +1,7 @@
 //! Thousands of calls on a segment beside a plain model of it.
 
 use crate::tests::segment::{assign, free, live, part, segment};
-use hg_place::{PAGE_PLACES, Place, PlainWords, SEGMENT_PAGES, Standing};
+use hg_place::{Handle, PAGE_PLACES, Place, PlainWords, SEGMENT_PAGES, Standing};
 use hg_segment::{Segment, TENANTS};
 use hg_size::{block_words, class_of, per_page};
 use std::alloc::Global;
@@ -198,6 +198,22 @@ fn write_last(rt: &impl Abort, segment: &mut Segment<PlainWords>, place: Place, 
     segment.write(place.page, place.index, last, value);
 }
 
+/// The block that a page gives out for a tenant, if it has one.
+fn opened(
+    rt: &impl Abort,
+    segment: &mut Segment<PlainWords>,
+    page: u8,
+    owner: u8,
+) -> Option<Handle> {
+    assert!(rt; (page as usize) < SEGMENT_PAGES && (owner as usize) < TENANTS);
+    segment.open_in(page, owner)
+}
+
+/// Whether a place that was parted comes home.
+fn taken_back(segment: &mut Segment<PlainWords>, place: Place) -> bool {
+    segment.take_back(place.page, place.index)
+}
+
 /// A place is given out by a page, or by none.
 fn open(
     rt: &impl Abort,
@@ -207,8 +223,7 @@ fn open(
     owner: u8,
     value: u64,
 ) {
-    assert!(rt; (page as usize) < SEGMENT_PAGES && (owner as usize) < TENANTS);
-    let handle = segment.open_in(page, owner);
+    let handle = opened(rt, segment, page, owner);
     let expected = plain.page(rt, page).take(rt);
     assert_eq!(rt; handle.is_some(), expected.is_some());
     let (Some(handle), Some((index, generation))) = (handle, expected) else {
@@ -245,9 +260,9 @@ fn close(rt: &impl Abort, segment: &mut Segment<PlainWords>, plain: &mut Plain, 
     if number % 2 == 0 {
         assert_eq!(rt; free(rt, segment, place, word), Ok(()));
     } else {
-        assert!(rt; !segment.take_back(place.page, place.index));
+        assert!(rt; !taken_back(segment, place));
         assert_eq!(rt; part(rt, segment, place, word), Ok(()));
-        assert!(rt; segment.take_back(place.page, place.index));
+        assert!(rt; taken_back(segment, place));
     }
     assert_eq!(rt; free(rt, segment, place, word), Err(word & !1));
     plain.charge(rt, place.page, block.owner, false);

@@ -1,5 +1,0 @@
-//! Worked verdicts: what is allowed, and which rule refuses.
-#![tactic(auto)]
-
-#[cfg(test)]
-mod tests;

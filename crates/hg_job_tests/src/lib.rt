@@ -1,5 +1,0 @@
-//! Worked command lines: what each asks for, and what refuses it.
-#![tactic(auto)]
-
-#[cfg(test)]
-mod tests;

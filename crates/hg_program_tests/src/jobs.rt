@@ -1,0 +1,297 @@
+//! Worked command lines: what each asks for, and what refuses it.
+
+use hg_job::{Job, JobFault, job_of};
+use std::alloc::{AllocError, Global};
+use std::process::Abort;
+
+/// A job by the name of its command, with its operands; of what it lacks, no text and 0.
+type Told<'a> = (&'a str, &'a str, &'a str, u32);
+
+fn job_told<'a>(job: Job<'a>) -> Told<'a> {
+    match job {
+        Job::Joined => ("joined", "", "", 0),
+        Job::Check(policy) => ("check", policy, "", 0),
+        Job::Replay(policy, trace) => ("replay", policy, trace, 0),
+        Job::Race(policy, rounds) => ("race", policy, "", rounds),
+    }
+}
+
+/// Which refusal it is.
+fn fault_told(fault: &JobFault) -> &'static str {
+    match fault {
+        JobFault::Print(_) => "print",
+        JobFault::Line(_) => "line",
+        JobFault::Memory => "memory",
+    }
+}
+
+/// A job is this one, with these operands.
+fn is_job(rt: &impl Abort, job: Job<'_>, want: Told<'_>) {
+    let told = job_told(job);
+    assert_eq!(rt; told.0, want.0);
+    assert_eq!(rt; told.1, want.1);
+    assert_eq!(rt; told.2, want.2);
+    assert_eq!(rt; told.3, want.3);
+}
+
+/// A command line must come to this job with these operands, or to the refusal of this name.
+fn comes_to(rt: &impl Abort, alloc: Global, words: &[&str], want: Told<'_>) {
+    match job_of(alloc, words) {
+        Ok(job) => is_job(rt, job, want),
+        Err(fault) => assert_eq!(rt; fault_told(&fault), want.0),
+    }
+}
+
+/// A command line, its words with blanks between them, must come to the refusal of this name.
+fn is_refused(rt: &impl Abort, alloc: Global, line: &str, name: &str) {
+    let words: Result<Vec<&str>, AllocError> = line.split_whitespace().collect(alloc);
+    let words = words.expect(rt, "memory");
+    comes_to(rt, alloc, words.as_slice(), (name, "", "", 0));
+    drop(words);
+}
+
+/// The text of a refusal, behind the stream that it is for.
+fn text(alloc: Global, words: &[&str]) -> Result<String, AllocError> {
+    match job_of(alloc, words) {
+        Err(JobFault::Print(text)) => format!(in alloc; "out\n{text}"),
+        Err(JobFault::Line(text)) => format!(in alloc; "err\n{text}"),
+        _ => Ok(String::new(alloc)),
+    }
+}
+
+/// The text of a refusal must have each of these parts.
+fn has_all(rt: &impl Abort, text: &str, parts: &[&str]) {
+    for part in parts {
+        assert!(rt; text.contains(*part), "{part} in {text}");
+    }
+}
+
+/// Words must be refused with a text that has each of these parts.
+fn tells(rt: &impl Abort, alloc: Global, words: &[&str], parts: &[&str]) {
+    let text = text(alloc, words).expect(rt, "memory");
+    has_all(rt, text.as_str(), parts);
+    drop(text);
+}
+
+/// Command lines that are refused by a line.
+static NO_JOBS: [&str; 17] = [
+    "check",
+    "check p q",
+    "check -p",
+    "replay p",
+    "replay p t u",
+    "race p",
+    "race p 0",
+    "race p 1000001",
+    "race p 10x",
+    "race p -1",
+    "race p 1 2",
+    "jump",
+    "Check p",
+    "--jump",
+    "help",
+    "check --version",
+    "a b c d e f g h i",
+];
+
+/// Command lines that ask for help.
+static HELPS: [&str; 5] = ["-h", "--help", "check --help", "replay p --help", "race -h"];
+
+/// Command lines that come to a job.
+static JOBS: [(&[&str], Told<'static>); 9] = [
+    (&[], ("joined", "", "", 0)),
+    (&["check", "p"], ("check", "p", "", 0)),
+    (&["check", "--", "-p"], ("check", "-p", "", 0)),
+    (&["replay", "p", "t"], ("replay", "p", "t", 0)),
+    (
+        &["replay", "check", "replay"],
+        ("replay", "check", "replay", 0),
+    ),
+    (&["race", "p", "1000"], ("race", "p", "", 1000)),
+    (&["race", "p", "1"], ("race", "p", "", 1)),
+    (&["race", "p", "1000000"], ("race", "p", "", 1_000_000)),
+    (&["race", "--", "-p", "+07"], ("race", "-p", "", 7)),
+];
+
+#[test]
+fn job_words(rt: HostRuntime) {
+    for (words, want) in JOBS {
+        comes_to(&rt, rt.alloc(), words, want);
+    }
+    comes_to(&rt, rt.alloc(), &[""], ("line", "", "", 0));
+    for line in NO_JOBS {
+        is_refused(&rt, rt.alloc(), line, "line");
+    }
+    for line in HELPS {
+        is_refused(&rt, rt.alloc(), line, "print");
+    }
+}
+
+/// Parts of the program's help.
+static HELP: [&str; 14] = [
+    "out\nReplays traces",
+    "\nUsage: heapguard [COMMAND]\n",
+    "\n  check   ",
+    "\n  replay  ",
+    "\n  race    ",
+    "standard input",
+    "`---`",
+    "16777216 bytes",
+    "\nExit status:\n",
+    "\n  0  done\n",
+    "\n  1  the policy ",
+    "\n  2  the trace ",
+    "\n  3  reading or writing ",
+    "\n  4  the command line ",
+];
+
+#[test]
+fn help_of_the_program(rt: HostRuntime) {
+    let help = text(rt.alloc(), &["--help"]).expect(&rt, "memory");
+    has_all(&rt, help.as_str(), &HELP);
+    assert!(&rt; help.lines().count() <= 24, "more than a screen");
+    drop(help);
+}
+
+/// Parts of the help of each command.
+static HELP_OF_CHECK: [&str; 9] = [
+    "out\nReads a policy",
+    "\nUsage: heapguard check <POLICY>\n",
+    "\n  <POLICY>  ",
+    "`ok workers N tenants N arenas N segments N`",
+    "\nExit status:\n",
+    "\n  0  ",
+    "\n  1  ",
+    "\n  3  ",
+    "\n  4  ",
+];
+
+static HELP_OF_REPLAY: [&str; 10] = [
+    "out\nRuns a trace",
+    "\nUsage: heapguard replay <POLICY> <TRACE>\n",
+    "\n  <POLICY>  ",
+    "\n  <TRACE>   ",
+    "\nExit status:\n",
+    "\n  0  ",
+    "\n  1  ",
+    "\n  2  ",
+    "\n  3  ",
+    "\n  4  ",
+];
+
+static HELP_OF_RACE: [&str; 10] = [
+    "out\nFrees blocks twice",
+    "\nUsage: heapguard race <POLICY> <ROUNDS>\n",
+    "\n  <POLICY>  ",
+    "\n  <ROUNDS>  How many rounds, 1 to 1000000\n",
+    "`rounds R ended E freed F`",
+    "\nExit status:\n",
+    "\n  0  ",
+    "\n  1  ",
+    "\n  3  ",
+    "\n  4  ",
+];
+
+#[test]
+fn help_of_each_command(rt: HostRuntime) {
+    tells(&rt, rt.alloc(), &["check", "--help"], &HELP_OF_CHECK);
+    tells(&rt, rt.alloc(), &["replay", "--help"], &HELP_OF_REPLAY);
+    tells(&rt, rt.alloc(), &["race", "--help"], &HELP_OF_RACE);
+}
+
+#[test]
+fn version_of_the_program(rt: HostRuntime) {
+    for flag in ["--version", "-V"] {
+        let version = text(rt.alloc(), &[flag]).expect(&rt, "memory");
+        assert_eq!(&rt; version.as_str(), "out\nheapguard 0.1.0\n", "{flag}");
+        drop(version);
+    }
+}
+
+/// Parts of the lines that refuse a command that there isn't, one that lacks an operand, and a
+/// number of rounds that is out of its range.
+static NO_COMMAND: [&str; 4] = [
+    "err\n",
+    "'jump'",
+    "\nUsage: heapguard [COMMAND]\n",
+    "'--help'",
+];
+
+static NO_OPERAND: [&str; 4] = [
+    "err\n",
+    "<POLICY>",
+    "\nUsage: heapguard check <POLICY>\n",
+    "'--help'",
+];
+
+static NO_ROUNDS: [&str; 3] = ["err\n", "'0'", "<ROUNDS>"];
+
+#[test]
+fn lines_name_the_program(rt: HostRuntime) {
+    tells(&rt, rt.alloc(), &["jump"], &NO_COMMAND);
+    tells(&rt, rt.alloc(), &["check"], &NO_OPERAND);
+    tells(&rt, rt.alloc(), &["race", "p", "0"], &NO_ROUNDS);
+}
+
+/// A command line must come to this job with these operands, or meet want of memory.
+fn may_come_to(rt: &impl Abort, alloc: Global, words: &[&str], want: Told<'_>) {
+    match job_of(alloc, words) {
+        Ok(job) => is_job(rt, job, want),
+        Err(fault) => assert_eq!(rt; fault_told(&fault), "memory"),
+    }
+}
+
+/// The text of the refusal that words must meet, to be printed or a line; none where memory was
+/// refused.
+fn refused_with(
+    rt: &impl Abort,
+    alloc: Global,
+    words: &[&str],
+    is_printed: bool,
+) -> Option<String> {
+    match job_of(alloc, words) {
+        Err(JobFault::Print(text)) if is_printed => Some(text),
+        Err(JobFault::Line(text)) if !is_printed => Some(text),
+        Err(JobFault::Memory) => None,
+        _ => {
+            assert!(rt; false, "neither the text nor want of memory");
+            None
+        }
+    }
+}
+
+/// Two texts are one, or one of them met want of memory.
+fn are_alike(rt: &impl Abort, one: &Option<String>, other: &Option<String>) {
+    match (one, other) {
+        (Some(one), Some(other)) => assert_eq!(rt; one.as_str(), other.as_str()),
+        (None, None) => assert!(rt; false, "want of memory twice"),
+        _ => (),
+    }
+}
+
+/// Words must meet one text, to be printed or a line, or one of them want of memory.
+fn are_refused_alike(
+    rt: &impl Abort,
+    alloc: Global,
+    one: &[&str],
+    other: &[&str],
+    is_printed: bool,
+) {
+    let one = refused_with(rt, alloc, one, is_printed);
+    let other = refused_with(rt, alloc, other, is_printed);
+    are_alike(rt, &one, &other);
+    drop(one);
+    drop(other);
+}
+
+/// The right answer, or want of memory: for a run in which each allocation is refused in turn. Of
+/// two texts for the same words only one can meet the refusal, and would differ if it cut it short.
+#[test]
+fn refused_in_turn(rt: HostRuntime) {
+    let alloc = rt.alloc();
+    may_come_to(&rt, alloc, &[], ("joined", "", "", 0));
+    may_come_to(&rt, alloc, &["replay", "p", "t"], ("replay", "p", "t", 0));
+    may_come_to(&rt, alloc, &["race", "p", "9"], ("race", "p", "", 9));
+    are_refused_alike(&rt, alloc, &["check", "-h"], &["check", "--help"], true);
+    are_refused_alike(&rt, alloc, &["jump"], &["jump"], false);
+}

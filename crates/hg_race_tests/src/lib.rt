@@ -1,5 +1,0 @@
-//! Races of two workers: what they write, and how they end.
-#![tactic(auto)]
-
-#[cfg(test)]
-mod tests;
