@@ -16,7 +16,7 @@ use Rattle.hg_agreement.specs.LeftPut.{numbers}
 use Rattle.hg_agreement.specs.Pool.{IsPooled, without, with_adopted, IsTakenUp, TakenUpIsAdopted}
 use Rattle.hg_agreement.proofs.Bridge.{some_passes}
 use Rattle.hg_agreement.proofs.ReplacedHeap.{has_found, one_has, ReplacesHeap, heap_here}
-use Rattle.hg_agreement.proofs.ReplacedHeap.{heap_there, find_other, has_other, worker_other}
+use Rattle.hg_agreement.proofs.ReplacedHeap.{heap_there, find_each, has_each, found_has, worker_each}
 use Rattle.hg_agreement.proofs.ReplacedHeap.{state_rehoused}
 use Rattle.hg_agreement.proofs.Firsts.{some_counted, any_found, pool_inside, pool_unheld}
 
@@ -69,8 +69,12 @@ module _ (parts : Parts) (w : ℕ) (heap : List Plain) (one : Plain) (pooled : I
   abbrev after : Parts
   after = with_adopted parts w heap n
 
-  new : ReplacesHeap parts after w heap n
-  new = record { heaps = refl; below = up.worker_below; others = up.others }
+  new : ReplacesHeap parts after w heap
+  new = record { heaps = refl; below = up.worker_below }
+
+  others : (segment : ℕ) → (segment ≡ n → ⊥)
+      → has (holdings heap) segment ≡ has (holdings (heap_at parts w)) segment
+  others segment ne = found_has heap (heap_at parts w) segment (up.others segment ne)
 
   counted : 1 ≤ count_by (is_of n) (parts.orphans ++ parts.fresh)
   counted = some_counted (is_of n) (parts.orphans ++ parts.fresh)
@@ -85,7 +89,7 @@ module _ (parts : Parts) (w : ℕ) (heap : List Plain) (one : Plain) (pooled : I
   -- what heaps have, and the worker of a segment, once it is taken up
   pub up_has : (segment v : ℕ) → (segment ≡ n → ⊥)
       → has (holdings (heap_at after v)) segment ≡ has (holdings (heap_at parts v)) segment
-  up_has = has_other new
+  up_has segment v ne = has_each new segment (others segment ne) v
 
   -- no heap had it, and it is in this heap alone
   had_not : (v : ℕ) → has (holdings (heap_at parts v)) n ≡ true → ⊥
@@ -106,7 +110,7 @@ module _ (parts : Parts) (w : ℕ) (heap : List Plain) (one : Plain) (pooled : I
 
   pub up_worker : (segment : ℕ) → (segment ≡ n → ⊥)
       → worker_of after segment ≡ worker_of parts segment
-  up_worker = worker_other new
+  up_worker segment ne = worker_each new segment (others segment ne)
 
   pub up_now : worker_of after n ≡ Some w
   up_now =
@@ -117,7 +121,7 @@ module _ (parts : Parts) (w : ℕ) (heap : List Plain) (one : Plain) (pooled : I
 
   by_same : (segment : ℕ) (o : Option ℕ) → (segment ≡ n → ⊥)
       → plain_by after segment o ≡ plain_by parts segment o
-  by_same segment (Some v) ne = find_other new v segment ne
+  by_same segment (Some v) ne = find_each new segment (up.others segment ne) v
   by_same segment None ne =
       ap (find (is_of segment))
       (sym (filter-append (λ k. not (is_of n k)) parts.orphans parts.fresh))

@@ -1,12 +1,10 @@
 -- A Collect, in the state of a core.
 use Rattle.std.proofs.Common.{zero, suc, ◌≡◌, ◌⊎◌, ℕ, ◌+◌, ◌*◌, ◌%◌, ◌==◌, ◌<◌, inl, inr, Bool}
 use Rattle.std.proofs.Common.{true, false, cond, not, ◌&&◌, if◌then◌else◌, ◌∷◌, [], List, map}
-use Rattle.std.proofs.Common.{length, set, Option, Some, None, refl, sym, ap, ◌∙◌, arith, find}
-use Rattle.std.proofs.Common.{is_some, option_map, slice_index_or}
+use Rattle.std.proofs.Common.{length, Option, Some, None, refl, sym, ap, ◌∙◌, arith, find, is_some}
+use Rattle.std.proofs.Common.{slice_index_or}
 use Rattle.std.specs.List.{list_all, list_any, range_with_len}
-use Rattle.std.proofs.lemmas.Bool.{cases_eq, cases_Bool}
-use Rattle.std.proofs.lemmas.Grind.{get_or-set_at}
-use Rattle.std.proofs.lemmas.List.{length-set, get_or-set_other}
+use Rattle.std.proofs.lemmas.Bool.{cases_Bool}
 use Rattle.std.proofs.lemmas.List.FromFn.{length-map-range_with_len}
 use Rattle.hg_place.specs.Places.{segment_of, segment_of_page}
 use Rattle.hg_place.specs.Slots.{slot_in}
@@ -22,7 +20,8 @@ use Rattle.hg_agreement.specs.Swept.{is_idle_of, IsSwept, AreSwept, with_heap, S
 use Rattle.hg_agreement.proofs.HeldLives.{held_home}
 use Rattle.hg_agreement.proofs.Bridge.{worker_held, holds_had}
 use Rattle.hg_agreement.proofs.Told.{record_is, class_is}
-use Rattle.hg_agreement.proofs.Lookups.{kept_find, finds, maps, maps_below}
+use Rattle.hg_agreement.proofs.ReplacedHeap.{has_found, found_has, ReplacesHeap, heap_here, find_each, has_each, worker_each}
+use Rattle.hg_agreement.proofs.Lookups.{maps, maps_below}
 
 -- a segment is in neither heap, or in both, swept
 abbrev BothOrNone : ℕ → List Plain → List Plain → Type 0
@@ -72,55 +71,34 @@ alls_moved f g a b (suc n) e =
 
 module _ (parts : Parts) (w : ℕ) (heap : List Plain) (sorted : IsSorted parts)
     (below : w < length parts.heaps) (swept : AreSwept (heap_at parts w) heap) where
-  after : Parts
+  abbrev after : Parts
   after = with_heap parts w heap
 
-  heap_here : heap_at after w ≡ heap
-  unfolding after
-  heap_here = get_or-set_at parts.heaps w w heap [] refl below
-
-  heap_there : (v : ℕ) → (v ≡ w → ⊥) → heap_at after v ≡ heap_at parts v
-  unfolding after
-  heap_there v ne = get_or-set_other parts.heaps w v heap [] ne
+  new : ReplacesHeap parts after w heap
+  new = record { heaps = refl; below = below }
 
   same_found : (segment : ℕ) (xs ys : List Plain) → BothOrNone segment xs ys
       → has (holdings ys) segment ≡ has (holdings xs) segment
-  same_found segment xs ys (inl none) =
-      ap is_some (kept_find ys segment)
-      ∙ ap (λ o. is_some (option_map (λ k. k.holding) o)) (none.1 ∙ sym none.0)
-      ∙ sym (ap is_some (kept_find xs segment))
+  same_found segment xs ys (inl none) = found_has ys xs segment (none.1 ∙ sym none.0)
   same_found segment xs ys (inr some) =
-      ap is_some (kept_find ys segment)
-      ∙ ap (λ o. is_some (option_map (λ k. k.holding) o)) some.3
-      ∙ sym (ap (λ o. is_some (option_map (λ k. k.holding) o)) some.2)
-      ∙ sym (ap is_some (kept_find xs segment))
+      has_found ys segment ∙ ap is_some some.3
+      ∙ sym (has_found xs segment ∙ ap is_some some.2)
 
-  has_same : (segment v : ℕ) → has (holdings (heap_at after v)) segment ≡ has
-      (holdings (heap_at parts v)) segment
-  has_same segment v =
-      elim (cases_eq v w) [
-        | inl e ↦
-            ap (λ x. has (holdings (heap_at after x)) segment) e
-            ∙ ap (λ h. has (holdings h) segment) heap_here
-            ∙ same_found segment (heap_at parts w) heap
-            (swept_find segment (heap_at parts w) heap swept)
-            ∙ sym (ap (λ x. has (holdings (heap_at parts x)) segment) e)
-        | inr away ↦ ap (λ h. has (holdings h) segment) (heap_there v away)
-      ]
+  same_has : (segment : ℕ) → has (holdings heap) segment ≡ has (holdings (heap_at parts w)) segment
+  same_has segment = same_found segment (heap_at parts w) heap
+      (swept_find segment (heap_at parts w) heap swept)
 
-  worker_same : (segment : ℕ) → worker_of after segment ≡ worker_of parts segment
-  unfolding after
-  worker_same segment =
-      finds (λ v. has (holdings (heap_at (with_heap parts w heap) v)) segment)
-      (λ v. has (holdings (heap_at parts v)) segment)
-      (range_with_len 0 (length (set parts.heaps w heap))) (has_same segment)
-      ∙ ap (λ l. find (λ v. has (holdings (heap_at parts v)) segment) (range_with_len 0 l))
-      (length-set parts.heaps w heap)
+  -- each heap has the segments it had
+  pub swept_has : (segment v : ℕ)
+      → has (holdings (heap_at after v)) segment ≡ has (holdings (heap_at parts v)) segment
+  swept_has segment v = has_each new segment (same_has segment) v
+
+  pub swept_worker : (segment : ℕ) → worker_of after segment ≡ worker_of parts segment
+  swept_worker segment = worker_each new segment (same_has segment)
 
   holder_same : (segment : ℕ) → holder_of after segment ≡ holder_of parts segment
-  unfolding after
   holder_same segment =
-      ap (λ o. holder_by o (list_any (is_of segment) parts.orphans)) (worker_same segment)
+      ap (λ o. holder_by o (list_any (is_of segment) parts.orphans)) (swept_worker segment)
 
   -- a segment of the heap, before and after
   here : (segment : ℕ) (one now : Plain) → find (is_of segment) (heap_at parts w) ≡ Some one
@@ -128,42 +106,30 @@ module _ (parts : Parts) (w : ℕ) (heap : List Plain) (sorted : IsSorted parts)
       × (plain_of parts segment ≡ Some one) × (plain_of after segment ≡ Some now)
   here segment one now was is =
       let t : has (holdings (heap_at parts w)) segment ≡ true =
-      ap is_some (kept_find (heap_at parts w) segment)
-      ∙ ap (λ o. is_some (option_map (λ k. k.holding) o)) was in
+      has_found (heap_at parts w) segment ∙ ap is_some was in
       let held = worker_held parts w sorted below segment t in (
         t,
         ap (plain_by parts segment) held ∙ was,
-        ap (plain_by after segment) (worker_same segment ∙ held)
-            ∙ ap (find (is_of segment)) heap_here ∙ is,
+        ap (plain_by after segment) (swept_worker segment ∙ held)
+            ∙ ap (find (is_of segment)) (heap_here new) ∙ is,
       )
 
   -- another segment
   away_by : (segment : ℕ) (o : Option ℕ) → find (is_of segment) (heap_at parts w) ≡ None
       → find (is_of segment) heap ≡ None → plain_by after segment o ≡ plain_by parts segment o
-  unfolding after
   away_by segment None was is = refl
-  away_by segment (Some v) was is =
-      elim (cases_eq v w) [
-        | inl e ↦
-            ap (λ x. find (is_of segment) (heap_at after x)) e
-            ∙ ap (find (is_of segment)) heap_here
-            ∙ is
-            ∙ sym was
-            ∙ sym (ap (λ x. find (is_of segment) (heap_at parts x)) e)
-        | inr ne ↦ ap (find (is_of segment)) (heap_there v ne)
-      ]
+  away_by segment (Some v) was is = find_each new segment (is ∙ sym was) v
 
   away : (segment : ℕ) → find (is_of segment) (heap_at parts w) ≡ None
       → find (is_of segment) heap ≡ None → plain_of after segment ≡ plain_of parts segment
   away segment was is =
-      ap (plain_by after segment) (worker_same segment)
+      ap (plain_by after segment) (swept_worker segment)
       ∙ away_by segment (worker_of parts segment) was is
 
   not_had : (segment : ℕ) → find (is_of segment) (heap_at parts w) ≡ None
       → has (holdings (heap_at parts w)) segment ≡ false
   not_had segment was =
-      ap is_some (kept_find (heap_at parts w) segment)
-      ∙ ap (λ o. is_some (option_map (λ k. k.holding) o)) was
+      has_found (heap_at parts w) segment ∙ ap is_some was
 
   record_same : (q : ℕ) → record_of after q ≡ record_of parts q
   record_same q =
@@ -215,47 +181,20 @@ module _ (parts : Parts) (w : ℕ) (heap : List Plain) (sorted : IsSorted parts)
             (state_of parts) page) (holds_had parts w sorted below (segment_of_page page) ∙ at.0))
       ]
 
-  pub clears : state_of (with_heap parts w heap) ≡ record (state_of parts)
-      { classes = map (cleared (state_of parts) w) (pages_in (state_of parts)) }
-  unfolding after
+  clears : state_of after ≡ record (state_of parts) {
+    classes = map (cleared (state_of parts) w) (pages_in (state_of parts));
+  }
   clears =
       let s = state_of parts in
-      let a = with_heap parts w heap in
       let segments = length parts.policy.segments in
-      let pages : length s.classes ≡ segments * 16 =
-      length-map-range_with_len (page_class parts) 0 (segments * 16) in
-      ap (λ rs. record s {
-        records = rs;
-        classes = map (page_class a)
-            (range_with_len 0 (segments * 16));
-        holders = map (holder_of a) (range_with_len 0 segments);
-      })
-      (maps (record_of a) (record_of parts) (range_with_len 0 (segments * 8192)) record_same)
-      ∙ ap (λ cs. record s {
-        classes = cs;
-        holders = map (holder_of a) (range_with_len 0 segments);
-      })
-      (maps_below (page_class a) (cleared s w) 0 (segments * 16)
+      let r = maps (record_of after) (record_of parts) (range_with_len 0 (segments * 8192))
+      record_same in
+      let c = maps_below (page_class after) (cleared s w) 0 (segments * 16)
       (λ k low high. class_cleared k (omega arith))
-      ∙ ap (λ l. map (cleared s w) (range_with_len 0 l)) (sym pages))
-      ∙ ap (λ hs. record s { classes = map (cleared s w) (pages_in s); holders = hs })
-      (maps (holder_of a) (holder_of parts) (range_with_len 0 segments) holder_same)
+      ∙ ap (λ l. map (cleared s w) (range_with_len 0 l))
+      (sym (length-map-range_with_len (page_class parts) 0 (segments * 16))) in
+      let h = maps (holder_of after) (holder_of parts) (range_with_len 0 segments) holder_same in
+      cc
 
 pub swept_is_cleared : SweptIsCleared
 swept_is_cleared parts worker heap sorted below swept = clears parts worker heap sorted below swept
-
--- each heap has the segments it had
-pub swept_has : (parts : Parts) (worker : ℕ) (heap : List Plain) → IsSorted parts
-    → worker < length parts.heaps → AreSwept (heap_at parts worker) heap → (segment v : ℕ)
-    → has (holdings (heap_at (with_heap parts worker heap) v)) segment ≡ has
-    (holdings (heap_at parts v)) segment
-unfolding after
-swept_has parts worker heap sorted below swept segment v =
-    has_same parts worker heap sorted below swept segment v
-
-pub swept_worker : (parts : Parts) (worker : ℕ) (heap : List Plain) → IsSorted parts
-    → worker < length parts.heaps → AreSwept (heap_at parts worker) heap → (segment : ℕ)
-    → worker_of (with_heap parts worker heap) segment ≡ worker_of parts segment
-unfolding after
-swept_worker parts worker heap sorted below swept segment =
-    worker_same parts worker heap sorted below swept segment

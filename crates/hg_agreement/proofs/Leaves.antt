@@ -12,7 +12,7 @@ use Rattle.hg_agreement.specs.Parts.{plain_of, holder_by, holder_of, state_of, I
 use Rattle.hg_agreement.specs.LeftPut.{numbers}
 use Rattle.hg_agreement.specs.Moves.{with_orphan, IsLetGo, LetGoIsAbandoned}
 use Rattle.hg_agreement.proofs.ReplacedHeap.{has_found, one_has, ReplacesHeap, heap_here}
-use Rattle.hg_agreement.proofs.ReplacedHeap.{heap_there, find_other, has_other, worker_other}
+use Rattle.hg_agreement.proofs.ReplacedHeap.{heap_there, find_each, has_each, found_has, worker_each}
 use Rattle.hg_agreement.proofs.ReplacedHeap.{state_rehoused}
 
 pub none_passes : (p : ℕ → Bool) (xs : List ℕ) → ((k : ℕ) → p k ≡ false) → find p xs ≡ None
@@ -69,13 +69,17 @@ module _ (parts : Parts) (w : ℕ) (heap : List Plain) (one : Plain) (sorted : I
   abbrev after : Parts
   after = with_orphan parts w heap one
 
-  new : ReplacesHeap parts after w heap n
-  new = record { heaps = refl; below = go.worker_below; others = go.others }
+  new : ReplacesHeap parts after w heap
+  new = record { heaps = refl; below = go.worker_below }
+
+  others : (segment : ℕ) → (segment ≡ n → ⊥)
+      → has (holdings heap) segment ≡ has (holdings (heap_at parts w)) segment
+  others segment ne = found_has heap (heap_at parts w) segment (go.others segment ne)
 
   -- what heaps have, and the worker of a segment, once it is let go
   pub go_has : (segment v : ℕ) → (segment ≡ n → ⊥)
       → has (holdings (heap_at after v)) segment ≡ has (holdings (heap_at parts v)) segment
-  go_has = has_other new
+  go_has segment v ne = has_each new segment (others segment ne) v
 
   pub go_had : has (holdings (heap_at parts w)) n ≡ true
   go_had = has_found (heap_at parts w) n ∙ ap is_some go.there
@@ -91,7 +95,7 @@ module _ (parts : Parts) (w : ℕ) (heap : List Plain) (one : Plain) (sorted : I
 
   pub go_worker : (segment : ℕ) → (segment ≡ n → ⊥)
       → worker_of after segment ≡ worker_of parts segment
-  go_worker = worker_other new
+  go_worker segment ne = worker_each new segment (others segment ne)
 
   pub go_none : worker_of after n ≡ None
   go_none = none_passes (λ v. has (holdings (heap_at after v)) n)
@@ -102,7 +106,7 @@ module _ (parts : Parts) (w : ℕ) (heap : List Plain) (one : Plain) (sorted : I
 
   by_same : (segment : ℕ) (o : Option ℕ) → (segment ≡ n → ⊥)
       → plain_by after segment o ≡ plain_by parts segment o
-  by_same segment (Some v) ne = find_other new v segment ne
+  by_same segment (Some v) ne = find_each new segment (go.others segment ne) v
   by_same segment None ne = no_other segment one parts.orphans parts.fresh (λ e. ne (sym e))
 
   pub go_plain : (segment : ℕ) → plain_of after segment ≡ plain_of parts segment

@@ -19,6 +19,7 @@ pub mod Witnesses
 pub mod Bridge
 pub mod Lookups
 pub mod ReplacedHeap
+pub mod ChangedOne
 pub mod Swapped
 pub mod Putting
 pub mod Helds

@@ -108,23 +108,17 @@ module _ (parts : Parts) (unused : IsUnused parts) where
 
   pub opens : state_of parts ≡ opening parts.policy
   opens =
-      let s = state_of parts in
       let n = length parts.policy.segments in
-      ap (λ rs. record s { records = rs }) (maps (record_of parts) (λ k. never_used)
-      (range_with_len 0 (n * 8192)) record_is ∙ map_same never_used 0 (n * 8192))
-      ∙ ap (λ cs. record s { records = replicate (n * 8192) never_used; classes = cs })
-      (maps (page_class parts) (λ k. None) (range_with_len 0 (n * 16)) class_is
-      ∙ map_same None 0 (n * 16))
-      ∙ ap (λ hs. record s {
-        records = replicate (n * 8192) never_used;
-        classes = replicate
-            (n * 16) None;
-        holders = hs;
-      }) (maps (holder_of parts) (λ k. fresh) (range_with_len 0 n)
-      holder_is ∙ map_same fresh 0 n)
-      ∙ ap (λ os. record (opening parts.policy) { orphans = numbers os; hands = parts.hands })
-      unused.orphans
-      ∙ ap (λ hs. record (opening parts.policy) { hands = hs }) unused.hands
+      let r = maps (record_of parts) (λ k. never_used) (range_with_len 0 (n * 8192)) record_is
+      ∙ map_same never_used 0 (n * 8192) in
+      let none : Option ℕ = None in
+      let c = maps (page_class parts) (λ k. none) (range_with_len 0 (n * 16)) class_is
+      ∙ map_same none 0 (n * 16) in
+      let h = maps (holder_of parts) (λ k. fresh) (range_with_len 0 n) holder_is
+      ∙ map_same fresh 0 n in
+      let o = ap numbers unused.orphans in
+      let hands = unused.hands in
+      cc
 
   pub counted : (segment : ℕ) → count_by (is_of segment) (parts.orphans ++ parts.fresh) ≡ bit_of
       (is_unheld parts segment)

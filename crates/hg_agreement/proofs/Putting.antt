@@ -5,12 +5,12 @@ use Rattle.std.specs.List.{range_with_len}
 use Rattle.std.proofs.lemmas.Bool.{cases_eq}
 use Rattle.std.proofs.lemmas.List.{set-get_or}
 use Rattle.std.proofs.lemmas.List.FromFn.{get_or-map-range_with_len}
-use Rattle.hg_place.specs.Places.{segment_of, segment_of_page}
-use Rattle.hg_machine.specs.Life.{never_used}
+use Rattle.hg_place.specs.Places.{segment_of_page}
 use Rattle.hg_agreement.specs.Holdings.{class_of}
-use Rattle.hg_agreement.specs.Parts.{Plain, Parts, plain_of, record_by, class_by, record_of}
-use Rattle.hg_agreement.specs.Parts.{page_class, state_of, IsSorted}
+use Rattle.hg_agreement.specs.Parts.{Plain, Parts, plain_of, record_by, class_by, page_class}
+use Rattle.hg_agreement.specs.Parts.{state_of, IsSorted}
 use Rattle.hg_agreement.specs.PlainPut.{with_plain, IsPut, PutIsPut, PutIsRecord}
+use Rattle.hg_agreement.proofs.ChangedOne.{ChangesOne, records_changed}
 use Rattle.hg_agreement.proofs.Lookups.{map_set}
 use Rattle.hg_agreement.proofs.Swapped.{swap_before, swap_after, swap_other, swap_holders}
 use Rattle.hg_agreement.proofs.Swapped.{swap_below}
@@ -35,25 +35,14 @@ module _ (parts : Parts) (w found : ℕ) (one now : Plain) (at : ℕ) (sorted : 
   same : (segment : ℕ) → (segment ≡ n → ⊥) → plain_of after segment ≡ plain_of parts segment
   same = swap_other parts w found one now sorted put.swap
 
-  record_other : (q : ℕ) → (q ≡ n * 8192 + at → ⊥) → record_of after q ≡ record_of parts q
-  record_other q ne =
-      elim (cases_eq (segment_of q) n) [
-        | inl e ↦
-            let b = put.below in
-            rw e (ap (λ o. record_by o (q % 8192)) after_is
-            ∙ put.others (q % 8192) (omega arith) (λ f. ne (omega arith))
-            ∙ sym (ap (λ o. record_by o (q % 8192)) before_is))
-        | inr away ↦ ap (λ o. record_by o (q % 8192)) (same (segment_of q) away)
-      ]
-
-  record_here : record_of after (n * 8192 + at) ≡ record_by (Some now) at
-  record_here =
-      let b = put.below in
-      let s : segment_of (n * 8192 + at) ≡ n = omega arith in
-      let m : (n * 8192 + at) % 8192 ≡ at = omega arith in
-      ap (λ x. record_by (plain_of after x) ((n * 8192 + at) % 8192)) s
-      ∙ ap (λ o. record_by o ((n * 8192 + at) % 8192)) after_is
-      ∙ ap (record_by (Some now)) m
+  change : ChangesOne parts after one now at
+  change = record {
+    was = before_is;
+    is = after_is;
+    same = same;
+    below = put.below;
+    others = put.others;
+  }
 
   class_other : (q : ℕ) → (q ≡ n * 16 + at / 512 → ⊥) → page_class after q ≡ page_class parts q
   class_other q ne =
@@ -83,10 +72,7 @@ module _ (parts : Parts) (w found : ℕ) (one now : Plain) (at : ℕ) (sorted : 
   put_is =
       let b = put.below in
       let below = swap_below parts w found one now sorted put.swap in
-      let r = map_set (record_of parts) (record_of after) (segments * 8192) (n * 8192 + at)
-      never_used (omega arith) record_other
-      ∙ ap (set (map (record_of parts) (range_with_len 0 (segments * 8192))) (n * 8192 + at))
-      record_here in
+      let r = records_changed change segments below in
       let c = map_set (page_class parts) (page_class after) (segments * 16) (n * 16 + at / 512)
       None (omega arith) class_other
       ∙ ap (set (map (page_class parts) (range_with_len 0 (segments * 16))) (n * 16 + at / 512))

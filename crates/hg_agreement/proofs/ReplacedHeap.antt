@@ -35,15 +35,17 @@ one_has parts w n below here alone =
     let some = some_passes p 0 (length parts.heaps) w (omega arith) (omega arith) here in
     some.1 ∙ ap Some (alone some.0 (first_passes p 0 (length parts.heaps) some.0 some.1))
 
-pub record ReplacesHeap (parts after : Parts) (worker : ℕ) (heap : List Plain) (number : ℕ) : Type 0 where
+pub found_has : (xs ys : List Plain) (segment : ℕ) → find (is_of segment) xs ≡ find (is_of segment) ys
+    → has (holdings xs) segment ≡ has (holdings ys) segment
+found_has xs ys segment e =
+    has_found xs segment ∙ ap is_some e ∙ sym (has_found ys segment)
+
+pub record ReplacesHeap (parts after : Parts) (worker : ℕ) (heap : List Plain) : Type 0 where
   pub heaps : after.heaps ≡ set parts.heaps worker heap
   pub below : worker < length parts.heaps
-  pub others :
-      (segment : ℕ) → (segment ≡ number → ⊥)
-      → find (is_of segment) heap ≡ find (is_of segment) (heap_at parts worker)
 
-module _ {parts after : Parts} {w : ℕ} {heap : List Plain} {n : ℕ}
-    (new : ReplacesHeap parts after w heap n) where
+module _ {parts after : Parts} {w : ℕ} {heap : List Plain}
+    (new : ReplacesHeap parts after w heap) where
   pub heap_here : heap_at after w ≡ heap
   heap_here =
       ap (λ hs. get_or hs w []) new.heaps ∙ get_or-set_at parts.heaps w w heap [] refl new.below
@@ -52,32 +54,32 @@ module _ {parts after : Parts} {w : ℕ} {heap : List Plain} {n : ℕ}
   heap_there v ne =
       ap (λ hs. get_or hs v []) new.heaps ∙ get_or-set_other parts.heaps w v heap [] ne
 
-  pub find_other : (v segment : ℕ) → (segment ≡ n → ⊥)
-      → find (is_of segment) (heap_at after v) ≡ find (is_of segment) (heap_at parts v)
-  find_other v segment ne = elim (cases_eq v w) [
-    | inl e ↦ rw e (ap (find (is_of segment)) heap_here ∙ new.others segment ne)
+  -- what is so of the heap that comes as of the one that goes is so of each
+  pub find_each : (segment : ℕ)
+      → find (is_of segment) heap ≡ find (is_of segment) (heap_at parts w)
+      → (v : ℕ) → find (is_of segment) (heap_at after v) ≡ find (is_of segment) (heap_at parts v)
+  find_each segment same v = elim (cases_eq v w) [
+    | inl e ↦ rw e (ap (find (is_of segment)) heap_here ∙ same)
     | inr away ↦ ap (find (is_of segment)) (heap_there v away)
   ]
 
-  pub has_other : (segment v : ℕ) → (segment ≡ n → ⊥)
-      → has (holdings (heap_at after v)) segment ≡ has (holdings (heap_at parts v)) segment
-  has_other segment v ne =
-      has_found (heap_at after v) segment ∙ ap is_some (find_other v segment ne)
-      ∙ sym (has_found (heap_at parts v) segment)
+  pub has_each : (segment : ℕ)
+      → has (holdings heap) segment ≡ has (holdings (heap_at parts w)) segment
+      → (v : ℕ) → has (holdings (heap_at after v)) segment ≡ has (holdings (heap_at parts v)) segment
+  has_each segment same v = elim (cases_eq v w) [
+    | inl e ↦ rw e (ap (λ h. has (holdings h) segment) heap_here ∙ same)
+    | inr away ↦ ap (λ h. has (holdings h) segment) (heap_there v away)
+  ]
 
-  pub worker_by : (segment : ℕ)
-      → ((v : ℕ) → has (holdings (heap_at after v)) segment ≡ has (holdings (heap_at parts v)) segment)
+  pub worker_each : (segment : ℕ)
+      → has (holdings heap) segment ≡ has (holdings (heap_at parts w)) segment
       → worker_of after segment ≡ worker_of parts segment
-  worker_by segment same =
+  worker_each segment same =
       let has_it : ℕ → Bool = λ v. has (holdings (heap_at parts v)) segment in
       finds (λ v. has (holdings (heap_at after v)) segment) has_it
-      (range_with_len 0 (length after.heaps)) same
+      (range_with_len 0 (length after.heaps)) (has_each segment same)
       ∙ ap (λ l. find has_it (range_with_len 0 l))
       (ap length new.heaps ∙ length-set parts.heaps w heap)
-
-  pub worker_other : (segment : ℕ) → (segment ≡ n → ⊥)
-      → worker_of after segment ≡ worker_of parts segment
-  worker_other segment ne = worker_by segment (λ v. has_other segment v ne)
 
 -- a segment moves between a heap and the pool: its holder and the orphans alone are others
 abbrev pub rehoused : Parts → List (List Plain) → List Plain → List Plain → Parts

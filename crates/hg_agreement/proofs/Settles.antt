@@ -8,7 +8,7 @@ use Rattle.std.proofs.lemmas.List.{map-append}
 use Rattle.std.proofs.lemmas.List.FromFn.{length-map-range_with_len, get_or-map-range_with_len}
 use Rattle.hg_place.specs.Places.{segment_of, segment_of_page}
 use Rattle.hg_place.specs.Words.{bit_of}
-use Rattle.hg_machine.specs.State.{record_at, class_at, places_in, pages_in}
+use Rattle.hg_machine.specs.State.{record_at, class_at, places_in}
 use Rattle.hg_machine.specs.Sweeps.{is_sent, is_sent_to, settled}
 use Rattle.hg_machine.proofs.Listed.{bit_true}
 use Rattle.hg_machine.specs.Lists.{list_at, sent_in, times, IsPartition}
@@ -167,18 +167,13 @@ module _ (parts : Parts) (w found : ℕ) (one now : Plain) (sorted : IsSorted pa
       length-map-range_with_len (record_of parts) 0 (segments * 8192) in
       let pages : length s.classes ≡ segments * 16 =
       length-map-range_with_len (page_class parts) 0 (segments * 16) in
-      swap_is_map parts w found one now sorted taken.swap
-      ∙ ap (λ rs. record s { records = rs; classes = map (class_now parts now) (pages_in s) })
-      (maps_below (record_now parts now) (settled s one.holding.number) 0 (length s.records)
-      (λ k low high. record_settled k (omega arith)))
-      ∙ ap (λ cs. record s {
-        records = map (settled s one.holding.number) (places_in s);
-        classes =
-            cs;
-      })
-      (maps_below (class_now parts now) (page_class parts) 0 (length s.classes)
+      let swapped = swap_is_map parts w found one now sorted taken.swap in
+      let r = maps_below (record_now parts now) (settled s one.holding.number) 0 (length s.records)
+      (λ k low high. record_settled k (omega arith)) in
+      let c = maps_below (class_now parts now) (page_class parts) 0 (length s.classes)
       (λ k low high. class_same k (omega arith))
-      ∙ ap (λ l. map (page_class parts) (range_with_len 0 l)) pages)
+      ∙ ap (λ l. map (page_class parts) (range_with_len 0 l)) pages in
+      cc
 
 pub taken_in_is_settled : TakenInIsSettled
 taken_in_is_settled parts worker found one now remotes sorted partition taken =

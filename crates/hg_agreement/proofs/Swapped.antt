@@ -16,8 +16,8 @@ use Rattle.hg_agreement.specs.Parts.{plain_of, record_by, class_by, record_of, p
 use Rattle.hg_agreement.specs.Parts.{holder_by, holder_of, state_of, IsSorted}
 use Rattle.hg_agreement.specs.PlainPut.{with_plain, IsSwap, record_now, class_now, SwapIsMap}
 use Rattle.hg_agreement.proofs.Lookups.{maps, maps_below}
-use Rattle.hg_agreement.proofs.ReplacedHeap.{has_found, one_has, ReplacesHeap, heap_here}
-use Rattle.hg_agreement.proofs.ReplacedHeap.{heap_there, find_other, has_other, worker_by}
+use Rattle.hg_agreement.proofs.ReplacedHeap.{has_found, found_has, one_has, ReplacesHeap, heap_here}
+use Rattle.hg_agreement.proofs.ReplacedHeap.{find_each, has_each, worker_each}
 
 module _ (parts : Parts) (w found : ℕ) (one now : Plain) (sorted : IsSorted parts)
     (swap : IsSwap parts w found one now) where
@@ -33,24 +33,22 @@ module _ (parts : Parts) (w found : ℕ) (one now : Plain) (sorted : IsSorted pa
   abbrev segments : ℕ
   segments = length parts.policy.segments
 
-  new : ReplacesHeap parts after w heap n
-  new = record {
-    heaps = refl;
-    below = swap.worker_below;
-    others = λ segment ne. find_past (is_of segment) (heap_at parts w) found now one
-        (ap (is_of segment) (get_or_from_slice_get (heap_at parts w) found one one swap.there)
-        ∙ ne_eqb n segment (λ e. ne (sym e)))
-        (ne_eqb now.holding.number segment (λ e. ne (sym e ∙ swap.number)));
-  }
+  new : ReplacesHeap parts after w heap
+  new = record { heaps = refl; below = swap.worker_below }
+
+  others : (segment : ℕ) → (segment ≡ n → ⊥)
+      → find (is_of segment) heap ≡ find (is_of segment) (heap_at parts w)
+  others segment ne = find_past (is_of segment) (heap_at parts w) found now one
+      (ap (is_of segment) (get_or_from_slice_get (heap_at parts w) found one one swap.there)
+      ∙ ne_eqb n segment (λ e. ne (sym e)))
+      (ne_eqb now.holding.number segment (λ e. ne (sym e ∙ swap.number)))
 
   before_here : find (is_of n) (heap_at parts w) ≡ Some one
   before_here = find_at (is_of n) (heap_at parts w)
       ∙ ap (slice_get (heap_at parts w)) (sym swap.first) ∙ swap.there
 
-  find_here : find (is_of n) (heap_at after w) ≡ Some now
-  find_here =
-      ap (find (is_of n)) (heap_here new)
-      ∙ find-set (is_of n) (heap_at parts w) found now swap.first
+  find_here : find (is_of n) heap ≡ Some now
+  find_here = find-set (is_of n) (heap_at parts w) found now swap.first
       (slice_get_within (heap_at parts w) found one swap.there)
       (eq-eqb now.holding.number n swap.number)
 
@@ -61,18 +59,19 @@ module _ (parts : Parts) (w found : ℕ) (one now : Plain) (sorted : IsSorted pa
   swap_below = sorted.below w n swap_had
 
   -- each heap has the segments it had
-  pub swap_has : (segment v : ℕ)
-      → has (holdings (heap_at after v)) segment ≡ has (holdings (heap_at parts v)) segment
-  swap_has segment v = elim (cases_eq segment n) [
-    | inl e ↦ rw e (elim (cases_eq v w) [
-      | inl same ↦ rw same (has_found (heap_at after w) n ∙ ap is_some find_here ∙ sym swap_had)
-      | inr away ↦ ap (λ h. has (holdings h) n) (heap_there new v away)
-    ])
-    | inr ne ↦ has_other new segment v ne
+  has_same : (segment : ℕ)
+      → has (holdings heap) segment ≡ has (holdings (heap_at parts w)) segment
+  has_same segment = elim (cases_eq segment n) [
+    | inl e ↦ rw e (has_found heap n ∙ ap is_some find_here ∙ sym swap_had)
+    | inr ne ↦ found_has heap (heap_at parts w) segment (others segment ne)
   ]
 
+  pub swap_has : (segment v : ℕ)
+      → has (holdings (heap_at after v)) segment ≡ has (holdings (heap_at parts v)) segment
+  swap_has segment v = has_each new segment (has_same segment) v
+
   pub swap_worker : (segment : ℕ) → worker_of after segment ≡ worker_of parts segment
-  swap_worker segment = worker_by new segment (swap_has segment)
+  swap_worker segment = worker_each new segment (has_same segment)
 
   worker_n : worker_of parts n ≡ Some w
   worker_n = one_has parts w n swap.worker_below swap_had
@@ -83,12 +82,14 @@ module _ (parts : Parts) (w found : ℕ) (one now : Plain) (sorted : IsSorted pa
   swap_before = ap (plain_by parts n) worker_n ∙ before_here
 
   pub swap_after : plain_of after n ≡ Some now
-  swap_after = ap (plain_by after n) (swap_worker n ∙ worker_n) ∙ find_here
+  swap_after =
+      ap (plain_by after n) (swap_worker n ∙ worker_n) ∙ ap (find (is_of n)) (heap_here new)
+      ∙ find_here
 
   by_same : (segment : ℕ) (o : Option ℕ) → (segment ≡ n → ⊥)
       → plain_by after segment o ≡ plain_by parts segment o
   by_same segment None ne = refl
-  by_same segment (Some v) ne = find_other new v segment ne
+  by_same segment (Some v) ne = find_each new segment (others segment ne) v
 
   pub swap_other : (segment : ℕ) → (segment ≡ n → ⊥)
       → plain_of after segment ≡ plain_of parts segment
