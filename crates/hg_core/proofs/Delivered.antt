@@ -1,6 +1,6 @@
 -- A place goes from a worker's hand to a remote list.
-use Rattle.std.proofs.Common.{◌≡◌, ℕ, ◌<◌, Option, Some, None, map, length, Contains}
-use Rattle.std.proofs.Common.{slice_index_or, slice_set, refl, sym, ap, subst, ◌∙◌, arith}
+use Rattle.std.proofs.Common.{◌≡◌, ℕ, ◌<◌, Option, Some, None, length, Contains, slice_index_or}
+use Rattle.std.proofs.Common.{refl, sym, ap, subst, ◌∙◌, arith}
 use Rattle.std.specs.Option.{option_map}
 use Rattle.std.specs.Box.{boxed_slice_items, boxed_slice_with_item}
 use Rattle.std.proofs.lemmas.List.{length-map, map-set, get_or-map, get_or_read}
@@ -102,15 +102,8 @@ module _ (a : Inside) (s : Core) (at worker : ℕ) (hand : Option Place) (place 
           remotes = boxed_slice_with_item a.remotes n new;
           hands = boxed_slice_with_item a.hands to None;
         }) s (delivered core worker place new) worker event.Deliver answer.Done view stored tt
-        (ap (λ k. record core {
-          remotes = slice_set core.remotes k new;
-          hands = map (option_map number_of) (slice_set (boxed_slice_items a.hands) to None);
-        }) number
-        ∙ ap (λ hs. record core {
-          remotes = slice_set core.remotes place.segment new;
-          hands = hs;
-        }) (map-set (option_map number_of) (boxed_slice_items a.hands) to None
-        ∙ ap (λ k. slice_set core.hands k None) back))
+        (let empty = map-set (option_map number_of) (boxed_slice_items a.hands) to None in
+        let there = number in let its_hand = back in cc)
         refl
         (deliver_is_served core worker place new stored.kept.tidy in_hand its.added right)
         (deliver_is_chosen core worker place new stored.kept.tidy in_hand its)

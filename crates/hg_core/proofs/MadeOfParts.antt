@@ -14,7 +14,7 @@ use Rattle.hg_agreement.proofs.Told.{holder_is}
 use Rattle.hg_parts.specs.Tidy.{IsTidy}
 use Rattle.hg_parts.proofs.Sorted.{tidy_sorted}
 use Rattle.hg_events.specs.Core.{Core, parts_of}
-use Rattle.hg_audit.specs.Handed.{core_in, hands_in}
+use Rattle.hg_audit.specs.Handed.{core_in}
 use Rattle.hg_audit.specs.declared.parts.Parts.{Parts as Handed}
 use Rattle.hg_core.specs.declared.stores.Stores.TheInside.{Inside}
 use Rattle.hg_core.specs.Keeping.{state_in}
@@ -25,12 +25,7 @@ use Rattle.hg_core.specs.Stored.{core_of, AreHolders}
 pub same_core : (a : Inside) (p : Handed) → a.policy ≡ p.policy
     → boxed_slice_items a.heaps ≡ p.heaps.items → boxed_slice_items a.remotes ≡ p.remotes.items
     → a.pool ≡ p.pool → boxed_slice_items a.hands ≡ p.hands.items → core_of a ≡ core_in p
-same_core a p policy heaps remotes pool hands =
-    ap (λ x. record (core_of a) { policy = x }) policy
-    ∙ ap (λ x. record (core_of a) { policy = p.policy; heaps = x }) heaps
-    ∙ ap (λ x. record (core_of a) { policy = p.policy; heaps = p.heaps.items; remotes = x }) remotes
-    ∙ ap (λ x. record (core_in p) { pool = x; hands = hands_in (boxed_slice_items a.hands) }) pool
-    ∙ ap (λ x. record (core_in p) { hands = hands_in x }) hands
+same_core a p policy heaps remotes pool hands = cc
 
 worker_by : (o : Option ℕ) (b : Bool) → worker_in (holder_by o b) ≡ o
 worker_by (Some w) b = refl

@@ -1,6 +1,6 @@
 -- What was sent to a segment of a worker comes home.
-use Rattle.std.proofs.Common.{◌≡◌, ℕ, ◌<◌, true, false, length, Contains, slice_index_or, slice_set}
-use Rattle.std.proofs.Common.{refl, sym, ap, subst, ◌∙◌, arith}
+use Rattle.std.proofs.Common.{◌≡◌, ℕ, ◌<◌, true, false, length, Contains, slice_index_or, refl, sym}
+use Rattle.std.proofs.Common.{ap, subst, ◌∙◌, arith}
 use Rattle.std.specs.Box.{boxed_slice_items, boxed_slice_with_item}
 use Rattle.std.proofs.lemmas.List.{get_or_read}
 use Rattle.hg_place.specs.declared.plain.PlainWords.{PlainWords}
@@ -93,18 +93,7 @@ module _ (a : Inside) (s : Core) (at worker segment : ℕ) (old : Held PlainWord
           remotes = boxed_slice_with_item a.remotes n left;
         }) s (with_taken core worker new segment) worker (event.Take segment)
         (answer.Taken count) view stored tt
-        (ap (λ k. record core {
-          heaps = slice_set core.heaps k new;
-          remotes = slice_set core.remotes n left;
-        }) same
-        ∙ ap (λ k. record core {
-          heaps = slice_set core.heaps worker new;
-          remotes = slice_set core.remotes k left;
-        }) number
-        ∙ ap (λ r. record core {
-          heaps = slice_set core.heaps worker new;
-          remotes = slice_set core.remotes segment r;
-        }) empty)
+        (cc)
         refl
         (taking_is_take core worker segment new count stored.kept.policy t taking)
         (take_is_chosen core worker segment new count stored.kept.policy t taking)

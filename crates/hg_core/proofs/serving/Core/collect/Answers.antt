@@ -1,11 +1,6 @@
 use Rattle.hg_core.proofs.Kept.{kept_sound}
 use Rattle.hg_core.proofs.serving.Core.collect.Goals as goal
 
-pub returns-clause-step : goal.returns-clause-step
-returns-clause-step c = rw (← c.self.view_is) c.collect.ensures.step
-
-pub returns-clause-chosen : goal.returns-clause-chosen
-returns-clause-chosen c = rw (← c.self.view_is) c.collect.ensures.chosen
-
-pub returns-clause-kept : goal.returns-clause-kept
-returns-clause-kept c = kept_sound c.collect.new.self c.collect.ensures.kept
+pub returns : goal.returns
+returns c =
+    record { step = rw (← c.self.view_is) c.collect.ensures.step; chosen = rw (← c.self.view_is) c.collect.ensures.chosen; kept = kept_sound c.collect.new.self c.collect.ensures.kept }

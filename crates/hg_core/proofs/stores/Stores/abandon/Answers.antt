@@ -20,14 +20,9 @@ refused c =
 pub invariant_of-self : goal.invariant_of-self
 invariant_of-self c = (refused c).stored
 
-pub returns-in_default-clause-step : goal.returns-in_default-clause-step
-returns-in_default-clause-step c = (refused c).step
-
-pub returns-in_default-clause-chosen : goal.returns-in_default-clause-chosen
-returns-in_default-clause-chosen c = (refused c).chosen
-
-pub returns-in_default-clause-kept : goal.returns-in_default-clause-kept
-returns-in_default-clause-kept c = (refused c).stored.kept
+pub returns-in_default : goal.returns-in_default
+returns-in_default c =
+    record { step = (refused c).step; chosen = (refused c).chosen; kept = (refused c).stored.kept }
 
 pub put_orphan-requires : goal.put_orphan-requires
 put_orphan-requires c =
@@ -52,11 +47,6 @@ after c =
 pub invariant_of-self-2 : goal.invariant_of-self-2
 invariant_of-self-2 c = (after c).stored
 
-pub returns-clause-step : goal.returns-clause-step
-returns-clause-step c = (after c).step
-
-pub returns-clause-chosen : goal.returns-clause-chosen
-returns-clause-chosen c = (after c).chosen
-
-pub returns-clause-kept : goal.returns-clause-kept
-returns-clause-kept c = (after c).stored.kept
+pub returns : goal.returns
+returns c =
+    record { step = (after c).step; chosen = (after c).chosen; kept = (after c).stored.kept }

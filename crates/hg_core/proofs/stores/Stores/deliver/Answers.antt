@@ -42,11 +42,6 @@ after c =
 pub invariant_of-self : goal.invariant_of-self
 invariant_of-self c = (after c).stored
 
-pub returns-clause-step : goal.returns-clause-step
-returns-clause-step c = (after c).step
-
-pub returns-clause-chosen : goal.returns-clause-chosen
-returns-clause-chosen c = (after c).chosen
-
-pub returns-clause-kept : goal.returns-clause-kept
-returns-clause-kept c = (after c).stored.kept
+pub returns : goal.returns
+returns c =
+    record { step = (after c).step; chosen = (after c).chosen; kept = (after c).stored.kept }

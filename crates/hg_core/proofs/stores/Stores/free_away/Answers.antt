@@ -86,14 +86,9 @@ in_heap c =
 pub invariant_of-self : goal.invariant_of-self
 invariant_of-self c = (in_heap c).stored
 
-pub returns-in-Some-clause-step : goal.returns-in-Some-clause-step
-returns-in-Some-clause-step c = (in_heap c).step
-
-pub returns-in-Some-clause-chosen : goal.returns-in-Some-clause-chosen
-returns-in-Some-clause-chosen c = (in_heap c).chosen
-
-pub returns-in-Some-clause-kept : goal.returns-in-Some-clause-kept
-returns-in-Some-clause-kept c = (in_heap c).stored.kept
+pub returns-in-Some : goal.returns-in-Some
+returns-in-Some c =
+    record { step = (in_heap c).step; chosen = (in_heap c).chosen; kept = (in_heap c).stored.kept }
 
 -- where nobody does
 
@@ -141,11 +136,6 @@ in_pool c =
 pub invariant_of-self-2 : goal.invariant_of-self-2
 invariant_of-self-2 c = (in_pool c).stored
 
-pub returns-clause-step : goal.returns-clause-step
-returns-clause-step c = (in_pool c).step
-
-pub returns-clause-chosen : goal.returns-clause-chosen
-returns-clause-chosen c = (in_pool c).chosen
-
-pub returns-clause-kept : goal.returns-clause-kept
-returns-clause-kept c = (in_pool c).stored.kept
+pub returns : goal.returns
+returns c =
+    record { step = (in_pool c).step; chosen = (in_pool c).chosen; kept = (in_pool c).stored.kept }

@@ -49,14 +49,9 @@ unlisted c =
 pub invariant_of-self : goal.invariant_of-self
 invariant_of-self c = (unlisted c).stored
 
-pub returns-in_default-clause-step : goal.returns-in_default-clause-step
-returns-in_default-clause-step c = (unlisted c).step
-
-pub returns-in_default-clause-chosen : goal.returns-in_default-clause-chosen
-returns-in_default-clause-chosen c = (unlisted c).chosen
-
-pub returns-in_default-clause-kept : goal.returns-in_default-clause-kept
-returns-in_default-clause-kept c = (unlisted c).stored.kept
+pub returns-in_default : goal.returns-in_default
+returns-in_default c =
+    record { step = (unlisted c).step; chosen = (unlisted c).chosen; kept = (unlisted c).stored.kept }
 
 listed : (c : goal.In-Some) → IsAfter c.args.self.now
     (record c.self.inside {
@@ -75,11 +70,6 @@ listed c =
 pub invariant_of-self-2 : goal.invariant_of-self-2
 invariant_of-self-2 c = (listed c).stored
 
-pub returns-clause-step : goal.returns-clause-step
-returns-clause-step c = (listed c).step
-
-pub returns-clause-chosen : goal.returns-clause-chosen
-returns-clause-chosen c = (listed c).chosen
-
-pub returns-clause-kept : goal.returns-clause-kept
-returns-clause-kept c = (listed c).stored.kept
+pub returns : goal.returns
+returns c =
+    record { step = (listed c).step; chosen = (listed c).chosen; kept = (listed c).stored.kept }

@@ -17,14 +17,9 @@ refused c =
 pub invariant_of-self : goal.invariant_of-self
 invariant_of-self c = (refused c).stored
 
-pub returns-in_default-clause-step : goal.returns-in_default-clause-step
-returns-in_default-clause-step c = (refused c).step
-
-pub returns-in_default-clause-chosen : goal.returns-in_default-clause-chosen
-returns-in_default-clause-chosen c = (refused c).chosen
-
-pub returns-in_default-clause-kept : goal.returns-in_default-clause-kept
-returns-in_default-clause-kept c = (refused c).stored.kept
+pub returns-in_default : goal.returns-in_default
+returns-in_default c =
+    record { step = (refused c).step; chosen = (refused c).chosen; kept = (refused c).stored.kept }
 
 pub adopt-requires-clause-new : goal.adopt-requires-clause-new
 adopt-requires-clause-new c =
@@ -60,11 +55,6 @@ after c =
 pub invariant_of-self-2 : goal.invariant_of-self-2
 invariant_of-self-2 c = (after c).stored
 
-pub returns-clause-step : goal.returns-clause-step
-returns-clause-step c = rw c.number-segment.ensures (after c).step
-
-pub returns-clause-chosen : goal.returns-clause-chosen
-returns-clause-chosen c = rw c.number-segment.ensures (after c).chosen
-
-pub returns-clause-kept : goal.returns-clause-kept
-returns-clause-kept c = (after c).stored.kept
+pub returns : goal.returns
+returns c =
+    record { step = rw c.number-segment.ensures (after c).step; chosen = rw c.number-segment.ensures (after c).chosen; kept = (after c).stored.kept }

@@ -19,14 +19,9 @@ refused c =
 pub invariant_of-self : goal.invariant_of-self
 invariant_of-self c = (refused c).stored
 
-pub returns-then-not-holds-clause-step : goal.returns-then-not-holds-clause-step
-returns-then-not-holds-clause-step c = (refused c).step
-
-pub returns-then-not-holds-clause-chosen : goal.returns-then-not-holds-clause-chosen
-returns-then-not-holds-clause-chosen c = (refused c).chosen
-
-pub returns-then-not-holds-clause-kept : goal.returns-then-not-holds-clause-kept
-returns-then-not-holds-clause-kept c = (refused c).stored.kept
+pub returns-then-not-holds : goal.returns-then-not-holds
+returns-then-not-holds c =
+    record { step = (refused c).step; chosen = (refused c).chosen; kept = (refused c).stored.kept }
 
 pub index_mut-requires : goal.index_mut-requires
 index_mut-requires c =
@@ -54,11 +49,6 @@ after c =
 pub invariant_of-self-2 : goal.invariant_of-self-2
 invariant_of-self-2 c = (after c).stored
 
-pub returns-clause-step : goal.returns-clause-step
-returns-clause-step c = (after c).step
-
-pub returns-clause-chosen : goal.returns-clause-chosen
-returns-clause-chosen c = (after c).chosen
-
-pub returns-clause-kept : goal.returns-clause-kept
-returns-clause-kept c = (after c).stored.kept
+pub returns : goal.returns
+returns c =
+    record { step = (after c).step; chosen = (after c).chosen; kept = (after c).stored.kept }
