@@ -1,5 +1,6 @@
 //! The calls over a list and a pool of the caller's own.
 
+use crate::calls::{block, delivers, frees, gives_up, has_in_hand, holds, refills, takes};
 use crate::services::{ALICE, DOCUMENT, MAIN, Service, Trial, VAULT, tried};
 use hg_machine::Answer;
 use hg_remote::RemoteList;
@@ -9,33 +10,31 @@ use std::process::Abort;
 
 /// A worker's block is parted by another.
 fn parted<N: ServiceName>(rt: &impl Abort, worker: &mut Worker<N>, other: &mut Worker<N>) {
-    let Answer::Block(x) = worker.alloc(ALICE, MAIN, 24) else {
-        panic!(rt; "no block")
-    };
-    assert_eq!(rt; other.free(ALICE, x), Answer::Parted);
-    assert_eq!(rt; other.hand(), Some(x.place));
+    let x = block(rt, worker, ALICE, 24);
+    frees(rt, other, ALICE, x, Answer::Parted);
+    has_in_hand(rt, other, Some(x.place));
 }
 
 /// What is in a hand is sent, and there is nothing to send then.
 fn delivered<N: ServiceName>(rt: &impl Abort, other: &mut Worker<N>, list: &mut RemoteList) {
-    assert_eq!(rt; other.deliver_to(list), Answer::Done);
-    assert_eq!(rt; other.hand(), None);
-    assert_eq!(rt; other.deliver_to(list), Answer::NothingInHand);
+    delivers(rt, other, list, Answer::Done);
+    has_in_hand(rt, other, None);
+    delivers(rt, other, list, Answer::NothingInHand);
 }
 
 /// What was sent is taken in by the worker that holds the segment.
 fn taken<N: ServiceName>(rt: &impl Abort, worker: &mut Worker<N>, list: &mut RemoteList) {
-    assert_eq!(rt; worker.take_from(1, list), Answer::NotHeld);
-    assert_eq!(rt; worker.take_from(0, list), Answer::Taken(1));
+    takes(rt, worker, 1, list, Answer::NotHeld);
+    takes(rt, worker, 0, list, Answer::Taken(1));
 }
 
 /// A segment goes to a pool of the caller's own, and comes back.
 fn given_back<N: ServiceName>(rt: &impl Abort, worker: &mut Worker<N>, pool: &mut KeptPool<N>) {
-    assert_eq!(rt; worker.abandon_to(0, pool), Answer::Done);
-    assert!(rt; !worker.holds(0));
-    assert_eq!(rt; worker.refill_from(VAULT, pool), Answer::NoSegment);
-    assert_eq!(rt; worker.refill_from(MAIN, pool), Answer::Refilled(0));
-    assert!(rt; worker.holds(0));
+    gives_up(rt, worker, pool);
+    assert!(rt; !holds(worker));
+    refills(rt, worker, VAULT, pool, Answer::NoSegment);
+    refills(rt, worker, MAIN, pool, Answer::Refilled(0));
+    assert!(rt; holds(worker));
 }
 
 /// Two workers, a list, and a pool.

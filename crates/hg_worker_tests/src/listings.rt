@@ -1,24 +1,12 @@
 //! What a worker lists.
 
-use crate::services::{ALICE, BOB, DOCUMENT, MAIN, Service, Trial, tried};
+use crate::calls::{block, frees};
+use crate::services::{ALICE, BOB, DOCUMENT, Service, Trial, tried};
 use hg_machine::{Answer, Row};
 use hg_place::{Actor, Handle};
 use hg_worker::{ServiceName, Worker};
 use std::alloc::Global;
 use std::process::Abort;
-
-/// A block that a worker gives out.
-fn block<N: ServiceName>(
-    rt: &impl Abort,
-    worker: &mut Worker<N>,
-    actor: Actor,
-    bytes: u64,
-) -> Handle {
-    let Answer::Block(handle) = worker.alloc(actor, MAIN, bytes) else {
-        panic!(rt; "no block")
-    };
-    handle
-}
 
 /// The row of a block.
 fn row(handle: Handle, owner: Actor, bytes: u32) -> Row {
@@ -63,9 +51,9 @@ fn listed<N: ServiceName>(
     lists(rt, alloc, worker, BOB, &[y]);
     lists(rt, alloc, worker, Actor(255), &[]);
     lists(rt, alloc, other, ALICE, &[]);
-    assert_eq!(rt; other.free(ALICE, first), Answer::Parted);
+    frees(rt, other, ALICE, first, Answer::Parted);
     lists(rt, alloc, worker, ALICE, &[z]);
-    assert_eq!(rt; worker.free(ALICE, last), Answer::Done);
+    frees(rt, worker, ALICE, last, Answer::Done);
     lists(rt, alloc, worker, ALICE, &[]);
 }
 

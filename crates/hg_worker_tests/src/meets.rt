@@ -1,6 +1,7 @@
 //! Two workers meet at a place.
 
-use crate::services::{ALICE, DOCUMENT, MAIN, Service, Trial, tried};
+use crate::calls::{block, frees};
+use crate::services::{ALICE, DOCUMENT, Service, Trial, tried};
 use hg_machine::Answer;
 use hg_place::{Handle, Place};
 use hg_worker::{ServiceName, Worker};
@@ -20,23 +21,31 @@ fn beyond() -> Handle {
     }
 }
 
-/// A block that a worker gives out.
-fn block<N: ServiceName>(rt: &impl Abort, worker: &mut Worker<N>) -> Handle {
-    let Answer::Block(x) = worker.alloc(ALICE, MAIN, 24) else {
-        panic!(rt; "no block")
-    };
+/// The holder sees that a block lives.
+fn is_listed<N: ServiceName>(rt: &impl Abort, worker: &mut Worker<N>, x: Handle) {
     assert!(rt; matches!(worker.look(ALICE, x.place), Answer::Listed(_)));
-    x
+}
+
+/// The word that two workers see where they meet.
+fn see<N: ServiceName>(
+    rt: &impl Abort,
+    one: &mut Worker<N>,
+    other: &mut Worker<N>,
+    handle: Handle,
+    wanted: u64,
+) {
+    assert_eq!(rt; one.meet(other, handle), wanted);
 }
 
 /// A worker's block is freed by another: both see the word where they meet, whoever calls.
 fn met<N: ServiceName>(rt: &impl Abort, worker: &mut Worker<N>, other: &mut Worker<N>) {
-    let x = block(rt, worker);
-    assert_eq!(rt; worker.meet(other, x), 0x0000_0001_0000_0001);
-    assert_eq!(rt; other.free(ALICE, x), Answer::Parted);
-    assert_eq!(rt; worker.meet(other, x), 0x0000_0001_0000_0000);
-    assert_eq!(rt; other.meet(worker, x), 0x0000_0001_0000_0000);
-    assert_eq!(rt; worker.meet(other, beyond()), 0);
+    let x = block(rt, worker, ALICE, 24);
+    is_listed(rt, worker, x);
+    see(rt, worker, other, x, 0x0000_0001_0000_0001);
+    frees(rt, other, ALICE, x, Answer::Parted);
+    see(rt, worker, other, x, 0x0000_0001_0000_0000);
+    see(rt, other, worker, x, 0x0000_0001_0000_0000);
+    see(rt, worker, other, beyond(), 0);
 }
 
 /// The two workers of a new service meet.

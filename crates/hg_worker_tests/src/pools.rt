@@ -1,5 +1,6 @@
 //! A new pool has no segment.
 
+use crate::calls::{gives_up, refills};
 use crate::services::{DOCUMENT, MAIN, Service, Trial, tried};
 use hg_machine::Answer;
 use hg_worker::{KeptPool, ServiceName, Worker};
@@ -17,9 +18,9 @@ fn pool<N: ServiceName>(rt: &impl Abort, alloc: Global) -> KeptPool<N> {
 /// A worker finds no segment in a new pool, and one that it gave there itself.
 fn comes_and_goes<N: ServiceName>(rt: &impl Abort, alloc: Global, worker: &mut Worker<N>) {
     let mut pool = pool(rt, alloc);
-    assert_eq!(rt; worker.refill_from(MAIN, &mut pool), Answer::NoSegment);
-    assert_eq!(rt; worker.abandon_to(0, &mut pool), Answer::Done);
-    assert_eq!(rt; worker.refill_from(MAIN, &mut pool), Answer::Refilled(0));
+    refills(rt, worker, MAIN, &mut pool, Answer::NoSegment);
+    gives_up(rt, worker, &mut pool);
+    refills(rt, worker, MAIN, &mut pool, Answer::Refilled(0));
     drop(pool);
 }
 
