@@ -31,5 +31,3 @@ mod services;
 mod stress;
 #[cfg(test)]
 mod threads;
-#[cfg(test)]
-mod used_up;
