@@ -4,6 +4,7 @@ use Rattle.std.proofs.lemmas.List.{take_more}
 use Rattle.hg_trace.specs.declared.line.Line.{Line}
 use Rattle.hg_replay.specs.Replays.{Progress, Answered}
 use Rattle.hg_expect.specs.Findings.{Findings, Finds, found_at, agrees}
+use Rattle.hg_expect.specs.Words.{words, last_line}
 use Rattle.hg_expect.specs.Judging.{Judges, text_of}
 
 -- a line more
@@ -49,3 +50,12 @@ module _ (found : Findings) (number : ℕ) (line answer : List ℕ) where
       by_case : (same : Bool) → agrees line (at + 4) answer ≡ same → (found_at found number line answer (Some at)).differ ≤ found.differ + 1
       by_case true e = rw e (omega arith)
       by_case false e = rw e (omega arith)
+
+module _ (found next : Findings) (number : ℕ) (line text : List ℕ) where
+  pub finds_stated : Finds found number line text next → next.stated ≤ found.stated + 1
+  finds_stated (mark, first, is) =
+      subst (λ f. f.stated ≤ found.stated + 1) (sym is) (one_stated found number line (words (last_line text)) mark)
+
+  pub finds_differ : Finds found number line text next → next.differ ≤ found.differ + 1
+  finds_differ (mark, first, is) =
+      subst (λ f. f.differ ≤ found.differ + 1) (sym is) (one_differs found number line (words (last_line text)) mark)

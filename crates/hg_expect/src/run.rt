@@ -130,11 +130,10 @@ fn summary_of<E: Write>(
     let mut summary = Summary::new(alloc);
     for source in sources {
         match tested(alloc, policy, source.bytes.as_slice()) {
-            Ok(found) => {
-                if summary.add(source.name, &found).is_err() {
-                    return Err(RunFault::Replay(ReplayFault::Memory));
-                }
-            }
+            Ok(found) => match summary.add(source.name, &found) {
+                Ok(()) => {}
+                Err(_) => return Err(RunFault::Replay(ReplayFault::Memory)),
+            },
             Err(fault) => {
                 if sources.len() > 1 && fault.status() == Status::BadTrace {
                     let _ = writeln!(err, "in {}", source.name);

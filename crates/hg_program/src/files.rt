@@ -81,8 +81,9 @@ fn read_traces<'a, H: Host>(
     for name in names {
         let bytes = host.read_file(alloc, name)?;
         let source = Source { name: *name, bytes };
-        if sources.push(source).is_err() {
-            return Err(ReadFault::Memory);
+        match sources.push(source) {
+            Ok(()) => {}
+            Err(_) => return Err(ReadFault::Memory),
         }
     }
     Ok(sources)
