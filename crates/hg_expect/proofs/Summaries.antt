@@ -1,5 +1,6 @@
 -- Traces are tested one after another.
-use Rattle.std.proofs.Common.{◌≡◌, ℕ, ◌+◌, ◌<◌, List, [], ◌∷◌, ◌++◌, length, get_or, take, drop, refl, sym, ap, subst, ◌∙◌, append_assoc, take-append-drop}
+use Rattle.std.proofs.Common.{◌≡◌, ℕ, ◌+◌, ◌<◌, ◌≤◌, ◌==◌, Bool, true, false, arith, List, [], ◌∷◌, ◌++◌, length, get_or, take, drop, refl, sym, ap, subst, ◌∙◌, append_assoc, take-append-drop}
+use Rattle.std.specs.Prelude.{if◌then◌else◌}
 use Rattle.std.proofs.lemmas.List.{take_more}
 use Rattle.hg_replay.specs.declared.run.status.Status.{Status}
 use Rattle.hg_replay.specs.declared.run.status.Status.TheVariants as status
@@ -48,3 +49,11 @@ module _ (policy : List ℕ) (sources : List Source) (i : ℕ) (source : Source)
   fails_here status.Failed faulty = tt
   fails_here status.BadLine faulty = absurd faulty
   fails_here status.Differs faulty = absurd faulty
+
+-- a trace adds one at most
+pub few_differ : (here : Summary) (name : List ℕ) (found : Findings) → (summary_after here name found).differ ≤ here.differ + 1
+few_differ here name found = by_case (found.differ == 0)
+  where
+    by_case : (same : Bool) → here.differ + (if same then 0 else 1) ≤ here.differ + 1
+    by_case true = omega arith
+    by_case false = omega arith
