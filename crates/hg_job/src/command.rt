@@ -14,9 +14,8 @@ const ABOUT: &str =
     "Replays traces of a memory service that several tenants share under a written policy.";
 
 const MORE: &str = "\
-Without a command, one input is read from standard input: the policy, a line `---`, and
-the trace. It is answered as `replay` answers it. No file or input may be longer than
-16777216 bytes. A fault is told in one line on standard error.
+Without a command the policy, a line `---` and the trace are read from standard input, and
+answered as by `replay`. No file or input may be longer than 16777216 bytes.
 
 Exit status:
   0  done
