@@ -33,10 +33,23 @@ unproved() {
             lend policy "$2"
             set -- race policy "$3"
             ;;
+        test/[3-9] | test/[1-9][0-9]*)
+            lend policy "$2"
+            shift 2
+            lent=''
+            number=0
+            for it; do
+                number=$((number + 1))
+                lend "trace$number" "$it"
+                lent="$lent trace$number"
+            done
+            # shellcheck disable=SC2086 # a word each
+            set -- test policy $lent
+            ;;
     esac
     set -- -- "$@"
-    for it in policy trace; do
-        [ ! -f "$scratch/$it" ] || set -- --data "$it=$scratch/$it" "$@"
+    for it in "$scratch/policy" "$scratch"/trace*; do
+        [ ! -f "$it" ] || set -- --data "${it##*/}=$it" "$@"
     done
     say "unproved: compiling the sources as they stand, in a minute or two; no proof is checked"
     answer=0

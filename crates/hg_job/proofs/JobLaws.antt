@@ -1,5 +1,5 @@
 -- What the words of some command lines are answered.
-use Rattle.std.proofs.Common.{◌≡◌, ◌≢◌, ◌⊎◌, [], ◌∷◌, refl, inl, inr, subst, codes, arith, Some}
+use Rattle.std.proofs.Common.{◌≡◌, ◌≢◌, ◌⊎◌, [], ◌∷◌, refl, inl, inr, ap, sym, subst, codes, slice_index, arith, Some}
 use Rattle.clap.specs.Faults.{walk_fault}
 use Rattle.clap.specs.Walk.{walked}
 use Rattle.clap.specs.Words.{fault_of}
@@ -8,23 +8,46 @@ use Rattle.clap.specs.declared.error.kind.ErrorKind.TheVariants as kind
 use Rattle.hg_job.specs.CommandLine.{heapguard}
 use Rattle.hg_job.specs.Jobs.{IsDecimal, IsNumber, RefusedBy}
 use Rattle.hg_job.specs.JobLaws.{WordsAreJobs, RequestsArePrinted, IsPrinted, IsTold}
-use Rattle.hg_job.specs.declared.job.Job.TheVariants.{Joined, Check, Replay, Race}
+use Rattle.hg_job.specs.declared.job.Job.TheVariants.{Joined, Check, Replay, Race, Test}
 use Rattle.hg_job.specs.declared.job.JobFault.{JobFault}
 use Rattle.hg_job.specs.declared.job.JobFault.TheVariants.{Print, Line, Memory}
 
 is_1000 : IsDecimal (codes "1000")
 is_1000 = ((omega arith, (omega arith, (omega arith, (omega arith, (omega arith, tt))))), omega arith)
 
+test_is_no_race : codes "test" ≡ codes "race" → ⊥
+test_is_no_race e = let first : 116 ≡ 114 = ap (λ text. slice_index text 0) e in omega (arith, first)
+
 pub words_are_jobs : WordsAreJobs
 unfolding walked
-words_are_jobs Joined = ((λ e. e), (λ h. h), (λ h. h), (λ h. h))
-words_are_jobs (Check policy) = ((λ e. e), (λ h. h.1), (λ h. let e = h.0 in absurd (cc)), (λ h. let e = h.0 in absurd (cc)))
-words_are_jobs (Replay policy trace) = ((λ e. e), (λ h. let e = h.0 in absurd (cc)), (λ h. (h.1, h.2)), (λ h. let e = h.0 in absurd (cc)))
+words_are_jobs Joined = ((λ e. e), (λ h. h), (λ h. h), (λ h. h), (λ h. h))
+words_are_jobs (Check policy) = (
+  (λ e. e),
+  (λ h. h.1),
+  (λ h. let e = h.0 in absurd (cc)),
+  (λ h. let e = h.0 in absurd (cc)),
+  (λ h. let e = h.0 in absurd (cc)),
+)
+words_are_jobs (Replay policy trace) = (
+  (λ e. e),
+  (λ h. let e = h.0 in absurd (cc)),
+  (λ h. (h.1, h.2)),
+  (λ h. let e = h.0 in absurd (cc)),
+  (λ h. let e = h.0 in absurd (cc)),
+)
 words_are_jobs (Race policy rounds) = (
   (λ e. e),
   (λ h. let e = h.0 in absurd (cc)),
   (λ h. let e = h.0 in absurd (cc)),
   (λ h. let read : IsNumber (Some (codes "1000")) rounds = h.2 in (h.1, read.0 is_1000)),
+  (λ h. absurd (test_is_no_race h.0)),
+)
+words_are_jobs (Test policy traces) = (
+  (λ e. e),
+  (λ h. let e = h.0 in absurd (cc)),
+  (λ h. let e = h.0 in absurd (cc)),
+  (λ h. absurd (test_is_no_race (sym h.0))),
+  (λ h. (h.1, h.2)),
 )
 
 -- where a request is all that the words may be refused for

@@ -1,5 +1,6 @@
 -- The command line of the program, as what its parser reads of it.
 use Rattle.std.specs.Prelude.{true, List, Some, map, codes, pos}
+use Rattle.clap.specs.Lexer.{usize_max}
 use Rattle.clap.specs.Words.{App, Rule, Text, new_app, new_rule, with_rule, with_subcommand}
 use Rattle.clap.specs.declared.builder.value_parser.ValueParser.TheVariants as parser
 
@@ -10,6 +11,12 @@ required name = record (new_rule name) { required = true }
 -- one that has to be a whole number from 1 to 1,000,000
 abbrev pub counted : Text → Rule
 counted name = record (required name) { parser = Some (parser.Signed (pos 1) (pos 1000000)) }
+
+-- one that has to be there, once or more
+abbrev pub several : Text → Rule
+several name = record (required name) {
+  range = Some (record { start_inclusive = 1; end_inclusive = usize_max });
+}
 
 abbrev pub check : App
 check = with_rule (new_app (codes "check")) (required (codes "POLICY"))
@@ -24,6 +31,11 @@ race =
     with_rule (with_rule (new_app (codes "race")) (required (codes "POLICY")))
     (counted (codes "ROUNDS"))
 
+abbrev pub test : App
+test =
+    with_rule (with_rule (new_app (codes "test")) (required (codes "POLICY")))
+    (several (codes "TRACE"))
+
 -- the program alone: its words come without its own name, and help and the version are asked for by
 -- flags
 abbrev pub alone : App
@@ -35,9 +47,12 @@ alone = record (new_app (codes "heapguard")) {
   };
 }
 
--- the program with its commands
+-- the program with the commands that read a policy or a trace once, and with all its commands
+abbrev pub reader : App
+reader = with_subcommand (with_subcommand alone check.top) replay.top
+
 abbrev pub heapguard : App
-heapguard = with_subcommand (with_subcommand (with_subcommand alone check.top) replay.top) race.top
+heapguard = with_subcommand (with_subcommand reader race.top) test.top
 
 -- the names of the commands
 abbrev pub command_names : List Text

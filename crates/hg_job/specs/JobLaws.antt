@@ -1,10 +1,10 @@
 -- Laws of what words are answered.
-use Rattle.std.specs.Prelude.{⊤, ◌≡◌, ℕ, [], ◌∷◌, codes}
+use Rattle.std.specs.Prelude.{⊤, ◌≡◌, ℕ, List, [], ◌∷◌, codes, map}
 use Rattle.clap.specs.Words.{Text, subcommand_of, fault_of}
 use Rattle.hg_job.specs.CommandLine.{heapguard}
 use Rattle.hg_job.specs.Jobs.{IsJobAt, RefusedBy}
 use Rattle.hg_job.specs.declared.job.Job.{Job}
-use Rattle.hg_job.specs.declared.job.Job.TheVariants.{Joined, Check, Replay, Race}
+use Rattle.hg_job.specs.declared.job.Job.TheVariants.{Joined, Check, Replay, Race, Test}
 use Rattle.hg_job.specs.declared.job.JobFault.{JobFault}
 use Rattle.hg_job.specs.declared.job.JobFault.TheVariants.{Print, Line}
 
@@ -23,6 +23,12 @@ abbrev pub IsRaceOf : Text → ℕ → Job → Type 0
 IsRaceOf file count (Race policy rounds) = (policy.now ≡ file) × (rounds ≡ count)
 IsRaceOf file count _ = ⊥
 
+-- a test of these traces under the policy of this file
+abbrev pub IsTestOf : Text → List Text → Job → Type 0
+IsTestOf file files (Test policy traces) =
+    (policy.now ≡ file) × (map (λ trace. trace.now) traces.items ≡ files)
+IsTestOf file files _ = ⊥
+
 -- where there are no words, and where these words are given, this and no other job is asked for
 abbrev pub WordsAreJobs : Type 0
 WordsAreJobs =
@@ -34,6 +40,9 @@ WordsAreJobs =
     → IsReplayOf (codes "p") (codes "t") job)
     × (IsJobAt (subcommand_of heapguard (codes "race" ∷ codes "p" ∷ codes "1000" ∷ [])) job
     → IsRaceOf (codes "p") 1000 job)
+    × (IsJobAt
+    (subcommand_of heapguard (codes "test" ∷ codes "p" ∷ codes "t" ∷ codes "u" ∷ [])) job
+    → IsTestOf (codes "p") (codes "t" ∷ codes "u" ∷ []) job)
 
 -- a text to print, or want of memory
 abbrev pub IsPrinted : JobFault → Type 0

@@ -1,20 +1,24 @@
 -- The job that a command with its operands asks for.
 use Rattle.std.specs.Prelude.{⊤, ◌⊎◌, ◌≡◌, ◌≢◌, ◌<◌, ◌^◌, ℕ, List, [], Option, Some, None, Result, Ok}
-use Rattle.std.specs.Prelude.{Err, true, Contains, unwrap_or, codes}
+use Rattle.std.specs.Prelude.{Err, true, Contains, unwrap_or, codes, map}
 use Rattle.std.specs.Str.Parse.{IsNumeral, digits_value, without_leading_plus}
-use Rattle.clap.specs.Words.{Row, Text, first_of, one_of, subcommand_of, takes, fault_of}
+use Rattle.clap.specs.Words.{Row, Text, all_of, first_of, one_of, subcommand_of, takes, fault_of}
 use Rattle.clap.specs.Kinds.{Kinds, IsAmong}
 use Rattle.clap.specs.declared.error.kind.ErrorKind.{ErrorKind}
 use Rattle.clap.specs.declared.error.kind.ErrorKind.TheVariants as kind
 use Rattle.hg_job.specs.CommandLine.{heapguard, command_names}
 use Rattle.hg_job.specs.declared.job.Job.{Job}
-use Rattle.hg_job.specs.declared.job.Job.TheVariants.{Joined, Check, Replay, Race}
+use Rattle.hg_job.specs.declared.job.Job.TheVariants.{Joined, Check, Replay, Race, Test}
 use Rattle.hg_job.specs.declared.job.JobFault.{JobFault}
 use Rattle.hg_job.specs.declared.job.JobFault.TheVariants.{Print, Line, Memory}
 
 -- the first value of an operand, and no text where it has none
 abbrev pub operand : Text → List Row → Text
 operand name rows = unwrap_or (first_of name rows) []
+
+-- all values of an operand, and none where it has none
+abbrev pub operands : Text → List Row → List Text
+operands name rows = unwrap_or (all_of name rows) []
 
 -- the text is a number below 2 ^ 32 in decimal digits, of which the first may be a plus
 abbrev pub IsDecimal : Text → Type 0
@@ -40,6 +44,9 @@ IsJobOf name rows (Replay policy trace) =
 IsJobOf name rows (Race policy rounds) =
     (name ≡ codes "race") × (policy.now ≡ operand (codes "POLICY") rows)
     × IsNumber (one_of (codes "ROUNDS") rows) rounds
+IsJobOf name rows (Test policy traces) =
+    (name ≡ codes "test") × (policy.now ≡ operand (codes "POLICY") rows)
+    × (map (λ trace. trace.now) traces.items ≡ operands (codes "TRACE") rows)
 
 -- the job of the command that was entered, if any was
 abbrev pub IsJobAt : Option (Text × List Row) → Job → Type 0

@@ -2,8 +2,8 @@
 ghost use Rattle.std.specs.Prelude.{◌≡◌, codes, false, IfOk};
 ghost use Rattle.clap.specs.Words.{app_of, rule_of};
 ghost use Rattle.clap.specs.declared.builder.command.Command.TheViews.{out-Command};
-ghost use Rattle.hg_job.specs.CommandLine.{alone, check, counted, heapguard, race};
-ghost use Rattle.hg_job.specs.CommandLine.{replay, required};
+ghost use Rattle.hg_job.specs.CommandLine.{alone, check, counted, heapguard, race, reader};
+ghost use Rattle.hg_job.specs.CommandLine.{replay, required, several, test};
 
 use clap::{Arg, Command, value_parser};
 use std::alloc::{AllocError, Global};
@@ -14,16 +14,16 @@ const ABOUT: &str =
     "Replays traces of a memory service that several tenants share under a written policy.";
 
 const MORE: &str = "\
-Without a command, one input is read from standard input: the policy, a line `---`, and
-the trace. It is answered as `replay` answers it. No file or input may be longer than
-16777216 bytes. A fault is told in one line on standard error.
+Without a command the policy, a line `---` and the trace are read from standard input, and
+answered as by `replay`. No file or input may be longer than 16777216 bytes.
 
 Exit status:
   0  done
   1  the policy has a fault
   2  the trace has a fault
   3  reading or writing failed, or memory was refused
-  4  the command line is wrong";
+  4  the command line is wrong
+  5  an answer isn't the one that a line states (`test` alone)";
 
 const CHECK_ABOUT: &str = "Reads a policy and counts what it names";
 
@@ -63,6 +63,22 @@ Exit status:
   3  reading or writing failed, memory was refused, or a thread couldn't be started
   4  the command line is wrong";
 
+const TEST_ABOUT: &str = "Compares the answers to traces with those that they state";
+
+const TEST_MORE: &str = "\
+Behind `# =>` a line of a trace states the answer that is expected; of a `list` it is the
+last line, `rows N`. Blanks between words count as one. Each line that is answered
+otherwise is printed as a diff, then a line for each trace, and at the end how many
+traces there are and how many differ.
+
+Exit status:
+  0  each stated answer is the answer
+  1  the policy has a fault, told in one line on standard error
+  2  a trace has a fault, told with its line's number
+  3  reading or writing failed, or memory was refused
+  4  the command line is wrong
+  5  some answer differs";
+
 /// An operand that has to be there.
 fn operand<'a>(alloc: Global, name: &'a str, help: &'a str) -> Arg<'a>
     ensures rule { rule_of result ≡ required name.entry.now }
@@ -91,6 +107,18 @@ fn rounds<'a>(alloc: Global) -> Arg<'a>
 {
     let number = value_parser!(u32).range(1..=1_000_000);
     operand(alloc, "ROUNDS", "How many rounds, 1 to 1000000").value_parser(number)
+}
+
+fn traces<'a>(alloc: Global) -> Arg<'a>
+    ensures rule { rule_of result ≡ several (codes "TRACE") }
+    ensures local { result.global ≡ false }
+{
+    operand(
+        alloc,
+        "TRACE",
+        "Files with traces whose lines state answers",
+    )
+    .num_args(1..)
 }
 
 fn check_command<'a>(alloc: Global) -> Result<Command<'a>, AllocError>
@@ -125,6 +153,17 @@ fn race_command<'a>(alloc: Global) -> Result<Command<'a>, AllocError>
         .arg(rounds(alloc))
 }
 
+fn test_command<'a>(alloc: Global) -> Result<Command<'a>, AllocError>
+    ensures app { IfOk result (λ c. app_of c ≡ test) }
+    ensures local { IfOk result (λ c. (out-Command c).has_globals ≡ false) }
+{
+    Command::new(alloc, "test")
+        .about(TEST_ABOUT)
+        .after_help(TEST_MORE)
+        .arg(policy(alloc))?
+        .arg(traces(alloc))
+}
+
 /// The program with no command yet.
 fn program<'a>(alloc: Global) -> Result<Command<'a>, AllocError>
     ensures { IfOk result (λ c. app_of c ≡ alone) }
@@ -138,15 +177,20 @@ fn program<'a>(alloc: Global) -> Result<Command<'a>, AllocError>
         .bin_name("heapguard")
 }
 
+/// The program with the commands that read a policy or a trace once.
+fn reader<'a>(alloc: Global) -> Result<Command<'a>, AllocError>
+    ensures { IfOk result (λ c. app_of c ≡ reader) }
+{
+    let check = check_command(alloc)?;
+    let replay = replay_command(alloc)?;
+    program(alloc)?.subcommand(check)?.subcommand(replay)
+}
+
 /// The program's command line.
 pub(crate) fn command<'a>(alloc: Global) -> Result<Command<'a>, AllocError>
     ensures { IfOk result (λ c. app_of c ≡ heapguard) }
 {
-    let check = check_command(alloc)?;
-    let replay = replay_command(alloc)?;
     let race = race_command(alloc)?;
-    program(alloc)?
-        .subcommand(check)?
-        .subcommand(replay)?
-        .subcommand(race)
+    let test = test_command(alloc)?;
+    reader(alloc)?.subcommand(race)?.subcommand(test)
 }

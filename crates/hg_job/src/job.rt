@@ -23,6 +23,9 @@ pub enum Job<'a> {
     Replay(&'a str, &'a str),
     /// Race so many rounds, 1 to 1,000,000, under the policy of this file.
     Race(&'a str, u32),
+    /// Compare the answers to the traces of these files under the policy of the first file with
+    /// those that they state.
+    Test(&'a str, Vec<&'a str>),
 }
 
 /// Why there is nothing to do.
@@ -73,7 +76,7 @@ pub fn job_of<'a>(alloc: Global, words: &'a [&'a str]) -> Result<Job<'a>, JobFau
     ensures refused { IfErr result (RefusedBy (fault_of heapguard (map (λ w. w.now) words.now))) }
 {
     match command(alloc)?.try_get_matches_from(words) {
-        Ok(matches) => Ok(job_in(&matches)),
+        Ok(matches) => Ok(job_in(alloc, &matches)?),
         Err(error) => Err(fault_in(alloc, &error)),
     }
 }

@@ -1,16 +1,42 @@
 //! The job that a parse found.
-ghost use Rattle.std.specs.Prelude.{◌≡◌, codes};
+ghost use Rattle.std.specs.Prelude.{◌≡◌, codes, map, Contains, IfOk};
 ghost use Rattle.clap.specs.Words.{found_of, one_of, rows_of, subcommand_rows_of};
-ghost use Rattle.hg_job.specs.Jobs.{operand, IsJobAt, IsKnown, IsNumber};
+ghost use Rattle.hg_job.specs.CommandLine.{command_names};
+ghost use Rattle.hg_job.specs.Jobs.{operand, operands, IsJobAt, IsJobOf, IsKnown, IsNumber};
 
 use crate::Job;
 use clap::ArgMatches;
+use std::alloc::{AllocError, Global};
 
 /// The first value of an operand, and no text where it has none.
 fn operand_in<'a>(matches: &ArgMatches<'a>, name: &str) -> &'a str
     ensures { result.now ≡ operand name.now (rows_of (found_of matches.now)) }
 {
     matches.get_str(name).unwrap_or("")
+}
+
+/// A copy of some words.
+fn copy_of<'a>(alloc: Global, words: &[&'a str]) -> Result<Vec<&'a str>, AllocError>
+    ensures { IfOk result (λ copy. copy.items ≡ words.now) }
+{
+    let mut copy = Vec::new(alloc);
+    copy.extend_from_slice(words)?;
+    Ok(copy)
+}
+
+/// All values of an operand.
+fn operands_in<'a>(
+    alloc: Global,
+    matches: &ArgMatches<'a>,
+    name: &str,
+) -> Result<Vec<&'a str>, AllocError>
+    ensures { IfOk result (λ values. map (λ value. value.now) values.items
+        ≡ operands name.now (rows_of (found_of matches.now))) }
+{
+    match matches.get_strs(name) {
+        Some(values) => copy_of(alloc, values),
+        None => Ok(Vec::new(alloc)),
+    }
 }
 
 /// The number of an operand, and 0 where it has none.
@@ -20,20 +46,31 @@ fn number_in(matches: &ArgMatches<'_>, name: &str) -> u32
     matches.get_one::<u32>(name).unwrap_or(0)
 }
 
+/// The job of the command of this name, with its operands.
+fn job_named<'a>(alloc: Global, name: &str, matches: &ArgMatches<'a>) -> Result<Job<'a>, AllocError>
+    requires { Contains command_names name.now }
+    ensures { IfOk result (IsJobOf name.now (rows_of (found_of matches.now))) }
+{
+    let policy = operand_in(matches, "POLICY");
+    match name {
+        "check" => Ok(Job::Check(policy)),
+        "replay" => Ok(Job::Replay(policy, operand_in(matches, "TRACE"))),
+        "race" => Ok(Job::Race(policy, number_in(matches, "ROUNDS"))),
+        "test" => {
+            let traces = operands_in(alloc, matches, "TRACE")?;
+            Ok(Job::Test(policy, traces))
+        }
+        _ => unreachable!(),
+    }
+}
+
 /// The job of the command that was entered.
-pub(crate) fn job_in<'a>(matches: &ArgMatches<'a>) -> Job<'a>
+pub(crate) fn job_in<'a>(alloc: Global, matches: &ArgMatches<'a>) -> Result<Job<'a>, AllocError>
     requires { IsKnown (subcommand_rows_of matches.now) }
-    ensures { IsJobAt (subcommand_rows_of matches.now) result }
+    ensures { IfOk result (IsJobAt (subcommand_rows_of matches.now)) }
 {
     match matches.subcommand() {
-        None => Job::Joined,
-        Some(("check", inner)) => Job::Check(operand_in(inner, "POLICY")),
-        Some(("replay", inner)) => {
-            Job::Replay(operand_in(inner, "POLICY"), operand_in(inner, "TRACE"))
-        }
-        Some(("race", inner)) => {
-            Job::Race(operand_in(inner, "POLICY"), number_in(inner, "ROUNDS"))
-        }
-        Some(_) => unreachable!(),
+        None => Ok(Job::Joined),
+        Some((name, inner)) => job_named(alloc, name, inner),
     }
 }

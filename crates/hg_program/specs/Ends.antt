@@ -1,6 +1,6 @@
 -- How the program ends, by the words of its command line: its status, and what it writes.
 use Rattle.std.specs.Prelude.{◌≡◌, ◌≢◌, ◌≤◌, ◌⊎◌, ℕ, List, Option, Result, Ok, Err, IfSome}
-use Rattle.std.specs.Prelude.{length, string_bytes}
+use Rattle.std.specs.Prelude.{length, string_bytes, All, map}
 use Rattle.std.specs.declared.io.ErrorKind.{ErrorKind}
 use Rattle.std.specs.declared.io.ErrorKind.TheVariants as kind
 use Rattle.hg_replay.specs.Checks.{EndsCheck}
@@ -11,6 +11,8 @@ use Rattle.hg_replay.specs.declared.run.input.TheConstants.{LIMIT}
 use Rattle.hg_replay.specs.declared.run.status.Status.{Status}
 use Rattle.hg_replay.specs.declared.run.status.Status.TheVariants as status
 use Rattle.hg_race.specs.Races.{EndsRace}
+use Rattle.hg_expect.specs.Tests.{EndsTests}
+use Rattle.hg_expect.specs.declared.source.Source.{Source}
 use Rattle.hg_job.specs.Jobs.{IsAnswerTo}
 use Rattle.hg_job.specs.declared.job.Job.{Job}
 use Rattle.hg_job.specs.declared.job.Job.TheVariants as job
@@ -43,6 +45,20 @@ EndsOnRace held rounds ended old new =
     ReadsNone ended old new
     ⊎ ((bytes : List ℕ) × IsOf held bytes × EndsRace ended bytes rounds old new)
 
+-- traces of files of these names, in their order
+abbrev pub AreOf : (List ℕ → Option (List ℕ)) → List (List ℕ) → List Source → Type 0
+AreOf holds names sources =
+    (map (λ source. source.name.now) sources ≡ names)
+    × All (λ source. IsOf (holds source.name.now) source.bytes.items) sources
+
+-- a file is not read, or a test of the traces' bytes under the policy's ends so
+abbrev pub EndsOnTests
+    : (List ℕ → Option (List ℕ)) → List ℕ → List (List ℕ) → Status → Seen → Seen → Type 0
+EndsOnTests holds file names ended old new =
+    ReadsNone ended old new
+    ⊎ ((policy : List ℕ) × (sources : List Source) × IsOf (holds file) policy
+    × AreOf holds names sources × EndsTests ended policy sources old new)
+
 -- a job ends so, where these are what the file of a path holds and what the input has left
 abbrev pub EndsJob
     : (List ℕ → Option (List ℕ)) → Option (List ℕ) → Job → Status → Seen → Seen → Type 0
@@ -52,6 +68,8 @@ EndsJob holds input (job.Replay policy trace) ended old new =
     EndsOnFiles (holds policy.now) (holds trace.now) ended old new
 EndsJob holds input (job.Race policy rounds) ended old new =
     EndsOnRace (holds policy.now) rounds ended old new
+EndsJob holds input (job.Test policy traces) ended old new =
+    EndsOnTests holds policy.now (map (λ trace. trace.now) traces.items) ended old new
 
 -- the text is written, or its writing stopped
 abbrev pub Tries : Seen → Seen → List ℕ → Type 0

@@ -8,7 +8,7 @@ ghost use Rattle.hg_replay.specs.Statuses.{EndsJoined};
 ghost use Rattle.hg_replay.specs.declared.run.status.Status.{Status};
 ghost use Rattle.hg_program.specs.Ends.{EndsJob, EndsProgram, EndsWordless};
 
-use crate::files::{check_file, race_file, replay_files};
+use crate::files::{check_file, race_file, replay_files, test_files};
 use crate::host::Host;
 use crate::refusal::{fails, refuse};
 use hg_job::{Job, job_of};
@@ -59,6 +59,9 @@ fn do_job<T: Threads + Wait, H: Host, R: Read, W: Sink, E: Write>(
         Job::Check(policy) => check_file(alloc, host, policy, out, err),
         Job::Replay(policy, trace) => replay_files(alloc, host, policy, trace, out, err),
         Job::Race(policy, rounds) => race_file(rt, alloc, host, policy, *rounds, out, err),
+        Job::Test(policy, traces) => {
+            test_files(alloc, host, policy, traces.as_slice(), out, err)
+        }
     }
 }
 

@@ -1,11 +1,13 @@
 //! Policies and traces from files. A file that can't be read, or that is too long, is a read fault.
 
-ghost use Rattle.std.specs.Prelude.{◌≡◌, ◌≤◌, IfOk, IfSome, vec_len};
+ghost use Rattle.std.specs.Prelude.{◌≡◌, ◌≤◌, IfOk, IfSome, map, vec_len};
 ghost use Rattle.hg_replay.specs.declared.run.input.TheConstants.{LIMIT};
-ghost use Rattle.hg_program.specs.Ends.{EndsOnFile, EndsOnFiles, EndsOnRace, IsOf};
+ghost use Rattle.hg_program.specs.Ends.{AreOf, EndsOnFile, EndsOnFiles, EndsOnRace, EndsOnTests};
+ghost use Rattle.hg_program.specs.Ends.{IsOf};
 
 use crate::host::Host;
 use crate::refusal::fails;
+use hg_expect::{Source, run_tests};
 use hg_race::run_race;
 use hg_replay::{ReadFault, Sink, Status, run_check, run_texts};
 use std::alloc::Global;
@@ -62,6 +64,65 @@ pub(crate) fn replay_files<H: Host, W: Sink, E: Write>(
 {
     match read_files(alloc, host, policy, trace) {
         Ok((policy, trace)) => run_texts(alloc, policy.as_slice(), trace.as_slice(), out, err),
+        Err(fault) => fails(fault, err),
+    }
+}
+
+/// The traces of files, in their order.
+fn read_traces<'a, H: Host>(
+    alloc: Global,
+    host: &H,
+    names: &[&'a str],
+) -> Result<Vec<Source<'a>>, ReadFault>
+    ensures { IfOk result (λ sources.
+        AreOf (H.holds host.now) (map (λ name. name.now) names.now) sources.items) }
+{
+    let mut sources = Vec::new(alloc);
+    for name in names {
+        let bytes = host.read_file(alloc, name)?;
+        let source = Source { name: *name, bytes };
+        match sources.push(source) {
+            Ok(()) => {}
+            Err(_) => return Err(ReadFault::Memory),
+        }
+    }
+    Ok(sources)
+}
+
+/// The policy's file and those of traces, the policy's first.
+fn read_sources<'a, H: Host>(
+    alloc: Global,
+    host: &H,
+    policy: &str,
+    names: &[&'a str],
+) -> Result<(Vec<u8>, Vec<Source<'a>>), ReadFault>
+    ensures policy { IfOk result (λ files. IsOf (H.holds host.now policy.now) files.0.items) }
+    ensures traces { IfOk result (λ files.
+        AreOf (H.holds host.now) (map (λ name. name.now) names.now) files.1.items) }
+{
+    let policy = host.read_file(alloc, policy)?;
+    let sources = read_traces(alloc, host, names)?;
+    Ok((policy, sources))
+}
+
+/// Tests the traces of files under the policy of another. All are read before any fault of one is
+/// told.
+pub(crate) fn test_files<H: Host, W: Sink, E: Write>(
+    alloc: Global,
+    host: &H,
+    policy: &str,
+    names: &[&str],
+    out: &mut W,
+    err: &mut E,
+) -> Status
+    ensures ends { EndsOnTests (H.holds host.now) policy.now (map (λ name. name.now) names.now)
+        result (W.seen out.old) (W.seen out.new) }
+    ensures quiet { result ≡ Status.Done → err.new ≡ err.old }
+{
+    match read_sources(alloc, host, policy, names) {
+        Ok((policy, sources)) => {
+            run_tests(alloc, policy.as_slice(), sources.as_slice(), out, err)
+        }
         Err(fault) => fails(fault, err),
     }
 }

@@ -4,15 +4,20 @@ use hg_job::{Job, JobFault, job_of};
 use std::alloc::{AllocError, Global};
 use std::process::Abort;
 
-/// A job by the name of its command, with its operands; of what it lacks, no text and 0.
+/// A job by the name of its command, with its operands; of what it lacks, no text and 0; of a test the
+/// first trace and how many there are.
 type Told<'a> = (&'a str, &'a str, &'a str, u32);
 
-fn job_told<'a>(job: Job<'a>) -> Told<'a> {
+fn job_told<'a>(job: &Job<'a>) -> Told<'a> {
     match job {
         Job::Joined => ("joined", "", "", 0),
         Job::Check(policy) => ("check", policy, "", 0),
         Job::Replay(policy, trace) => ("replay", policy, trace, 0),
-        Job::Race(policy, rounds) => ("race", policy, "", rounds),
+        Job::Race(policy, rounds) => ("race", policy, "", *rounds),
+        Job::Test(policy, traces) => {
+            let first = traces.first().map_or("", |trace| *trace);
+            ("test", policy, first, traces.len().min(99) as u32)
+        }
     }
 }
 
@@ -27,7 +32,7 @@ fn fault_told(fault: &JobFault) -> &'static str {
 
 /// A job is this one, with these operands.
 fn is_job(rt: &impl Abort, job: Job<'_>, want: Told<'_>) {
-    let told = job_told(job);
+    let told = job_told(&job);
     assert_eq!(rt; told.0, want.0);
     assert_eq!(rt; told.1, want.1);
     assert_eq!(rt; told.2, want.2);
@@ -74,7 +79,7 @@ fn tells(rt: &impl Abort, alloc: Global, words: &[&str], parts: &[&str]) {
 }
 
 /// Command lines that are refused by a line.
-static NO_JOBS: [&str; 17] = [
+static NO_JOBS: [&str; 19] = [
     "check",
     "check p q",
     "check -p",
@@ -86,6 +91,8 @@ static NO_JOBS: [&str; 17] = [
     "race p 10x",
     "race p -1",
     "race p 1 2",
+    "test p",
+    "test p t --u",
     "jump",
     "Check p",
     "--jump",
@@ -95,10 +102,17 @@ static NO_JOBS: [&str; 17] = [
 ];
 
 /// Command lines that ask for help.
-static HELPS: [&str; 5] = ["-h", "--help", "check --help", "replay p --help", "race -h"];
+static HELPS: [&str; 6] = [
+    "-h",
+    "--help",
+    "check --help",
+    "replay p --help",
+    "race -h",
+    "test p t -h",
+];
 
 /// Command lines that come to a job.
-static JOBS: [(&[&str], Told<'static>); 9] = [
+static JOBS: [(&[&str], Told<'static>); 12] = [
     (&[], ("joined", "", "", 0)),
     (&["check", "p"], ("check", "p", "", 0)),
     (&["check", "--", "-p"], ("check", "-p", "", 0)),
@@ -111,6 +125,9 @@ static JOBS: [(&[&str], Told<'static>); 9] = [
     (&["race", "p", "1"], ("race", "p", "", 1)),
     (&["race", "p", "1000000"], ("race", "p", "", 1_000_000)),
     (&["race", "--", "-p", "+07"], ("race", "-p", "", 7)),
+    (&["test", "p", "t"], ("test", "p", "t", 1)),
+    (&["test", "p", "t", "u", "t"], ("test", "p", "t", 3)),
+    (&["test", "--", "-p", "-t"], ("test", "-p", "-t", 1)),
 ];
 
 #[test]
@@ -128,12 +145,13 @@ fn job_words(rt: HostRuntime) {
 }
 
 /// Parts of the program's help.
-static HELP: [&str; 14] = [
+static HELP: [&str; 16] = [
     "out\nReplays traces",
     "\nUsage: heapguard [COMMAND]\n",
     "\n  check   ",
     "\n  replay  ",
     "\n  race    ",
+    "\n  test    ",
     "standard input",
     "`---`",
     "16777216 bytes",
@@ -143,13 +161,15 @@ static HELP: [&str; 14] = [
     "\n  2  the trace ",
     "\n  3  reading or writing ",
     "\n  4  the command line ",
+    "\n  5  an answer ",
 ];
 
 #[test]
 fn help_of_the_program(rt: HostRuntime) {
     let help = text(rt.alloc(), &["--help"]).expect(&rt, "memory");
     has_all(&rt, help.as_str(), &HELP);
-    assert!(&rt; help.lines().count() <= 24, "more than a screen");
+    // A screen, behind the stream's line.
+    assert!(&rt; help.lines().count() <= 1 + 24, "more than a screen");
     drop(help);
 }
 
@@ -192,11 +212,27 @@ static HELP_OF_RACE: [&str; 10] = [
     "\n  4  ",
 ];
 
+static HELP_OF_TEST: [&str; 12] = [
+    "out\nCompares the answers",
+    "\nUsage: heapguard test <POLICY> <TRACE>...\n",
+    "\n  <POLICY>    ",
+    "\n  <TRACE>...  ",
+    "`# =>`",
+    "\nExit status:\n",
+    "\n  0  ",
+    "\n  1  ",
+    "\n  2  ",
+    "\n  3  ",
+    "\n  4  ",
+    "\n  5  ",
+];
+
 #[test]
 fn help_of_each_command(rt: HostRuntime) {
     tells(&rt, rt.alloc(), &["check", "--help"], &HELP_OF_CHECK);
     tells(&rt, rt.alloc(), &["replay", "--help"], &HELP_OF_REPLAY);
     tells(&rt, rt.alloc(), &["race", "--help"], &HELP_OF_RACE);
+    tells(&rt, rt.alloc(), &["test", "--help"], &HELP_OF_TEST);
 }
 
 #[test]

@@ -24,6 +24,7 @@ module _ (p t : List ℕ) (fault : Fault) (none : document_of p ≡ Err fault) w
   only_bad_policy status.BadTrace (policy, e, none_read) = absurd (cc)
   only_bad_policy status.Failed due = absurd due
   only_bad_policy status.BadLine due = absurd due
+  only_bad_policy status.Differs due = absurd due
 
 -- bytes that mean a policy
 module _ (p t : List ℕ) (policy : Policy) (is : document_of p ≡ Ok policy) where
@@ -35,6 +36,7 @@ module _ (p t : List ℕ) (policy : Policy) (is : document_of p ≡ Ok policy) w
     only_no_trace status.BadTrace due = refl
     only_no_trace status.Failed due = absurd due
     only_no_trace status.BadLine due = absurd due
+    only_no_trace status.Differs due = absurd due
 
   -- and these lines
   module _ (lines : List Line) (read : trace_of t ≡ Ok lines) where
@@ -54,6 +56,7 @@ module _ (p t : List ℕ) (policy : Policy) (is : document_of p ≡ Ok policy) w
         absurd (cc)
     only_done known status.Failed due = absurd due
     only_done known status.BadLine due = absurd due
+    only_done known status.Differs due = absurd due
 
     only_bad_worker : (number : ℕ) → unknown_worker policy.workers lines ≡ Some number → (other : Status) → IsDue other p t → other ≡ status.BadTrace
     only_bad_worker number unknown status.Done (other, others, means) =
@@ -64,6 +67,7 @@ module _ (p t : List ℕ) (policy : Policy) (is : document_of p ≡ Ok policy) w
     only_bad_worker number unknown status.BadTrace due = refl
     only_bad_worker number unknown status.Failed due = absurd due
     only_bad_worker number unknown status.BadLine due = absurd due
+    only_bad_worker number unknown status.Differs due = absurd due
 
     due_by_worker : (worker : Option ℕ) → unknown_worker policy.workers lines ≡ worker
         → (due : Status) × IsDue due p t × ((other : Status) → IsDue other p t → other ≡ due)
@@ -90,6 +94,7 @@ runs_end_as_due status.BadPolicy p t old new (none, kept) = inr none
 runs_end_as_due status.BadTrace p t old new (policy, is, none, kept) = inr (policy, is, none)
 runs_end_as_due status.Failed p t old new early = inl refl
 runs_end_as_due status.BadLine p t old new ends = absurd ends
+runs_end_as_due status.Differs p t old new ends = absurd ends
 
 pub runs_show_values_in_words : RunsShowValuesInWords
 runs_show_values_in_words p t u lines others old new before after read reread same
@@ -128,6 +133,7 @@ checks_end_as_due status.BadPolicy p t old new (none, kept) other = (inr refl, (
 checks_end_as_due status.BadTrace p t old new ends other = absurd ends
 checks_end_as_due status.Failed p t old new ends other = absurd (other refl)
 checks_end_as_due status.BadLine p t old new ends other = absurd ends
+checks_end_as_due status.Differs p t old new ends other = absurd ends
 
 pub long_inputs_fail : LongInputsFail
 long_inputs_fail ended bytes old new long (inl failed) = failed
@@ -141,7 +147,8 @@ status_at zero = status.Done
 status_at (suc zero) = status.BadPolicy
 status_at (suc (suc zero)) = status.BadTrace
 status_at (suc (suc (suc zero))) = status.Failed
-status_at (suc (suc (suc (suc n)))) = status.BadLine
+status_at (suc (suc (suc (suc zero)))) = status.BadLine
+status_at (suc (suc (suc (suc (suc n))))) = status.Differs
 
 status_at_number : (one : Status) → status_at (number_of one) ≡ one
 unfolding status_at

@@ -9,3 +9,4 @@ number_of status.BadPolicy = 1
 number_of status.BadTrace = 2
 number_of status.Failed = 3
 number_of status.BadLine = 4
+number_of status.Differs = 5

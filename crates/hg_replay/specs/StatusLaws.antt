@@ -27,6 +27,7 @@ IsDue status.BadTrace policy_bytes trace_bytes =
     (policy : Policy) × (document_of policy_bytes ≡ Ok policy) × NoTrace policy trace_bytes
 IsDue status.Failed policy_bytes trace_bytes = ⊥
 IsDue status.BadLine policy_bytes trace_bytes = ⊥
+IsDue status.Differs policy_bytes trace_bytes = ⊥
 
 -- for all bytes one status is due, and no other
 abbrev pub OneStatusIsDue : Type 0

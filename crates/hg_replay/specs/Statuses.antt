@@ -58,6 +58,7 @@ EndsAs status.BadTrace policy_bytes trace_bytes old new =
     × (new ≡ old)
 EndsAs status.Failed policy_bytes trace_bytes old new = EndsEarly policy_bytes trace_bytes old new
 EndsAs status.BadLine policy_bytes trace_bytes old new = ⊥
+EndsAs status.Differs policy_bytes trace_bytes old new = ⊥
 
 -- joined input is not read, or it is, up to the limit, and a run on its two parts ends so
 abbrev pub EndsJoined : Status → Option (List ℕ) → Seen → Seen → Type 0

@@ -16,7 +16,8 @@ ghost use Rattle.hg_trace.specs.Stored.{command_in, line_in, lines_in, IsNumbere
 
 mod events;
 pub(crate) mod fault;
-mod known;
+pub(crate) mod known;
+mod line;
 mod listing;
 pub(crate) mod output;
 pub(crate) mod put;
@@ -253,14 +254,16 @@ fn replay_on<W: Sink>(
 /// What a replay has before its first event: a core for a policy, what the names of the trace mean
 /// under it, and room for the handles of its labels.
 #[derive(Drop)]
-struct Ready {
-    core: Core,
-    meant: Vec<Meant>,
-    handles: Vec<Option<Handle>>,
+pub struct Ready {
+    pub core: Core,
+    /// What each name means, at its number in the trace.
+    pub meant: Vec<Meant>,
+    /// What the allocation of each label so far was answered, in the order of the labels.
+    pub handles: Vec<Option<Handle>>,
 }
 
 /// All memory that a replay needs.
-fn start(alloc: Global, policy: Policy, trace: &Trace) -> Result<Ready, AllocError>
+pub fn start(alloc: Global, policy: Policy, trace: &Trace) -> Result<Ready, AllocError>
     ensures opened { IfOk result (λ ready. ready.core ≡ opened policy) }
     ensures meant { IfOk result (λ ready. ready.meant.items ≡ meanings policy trace.now.names) }
     ensures none { IfOk result (λ ready. ready.handles.items ≡ []) }

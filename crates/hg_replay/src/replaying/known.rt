@@ -10,11 +10,11 @@ use std::alloc::{AllocError, Global};
 /// The number of a name that the policy lacks.
 pub(crate) const NOBODY: u8 = 255;
 
-/// The numbers of a name among a policy's tenants and among its arenas.
+/// The numbers of a name among a policy's tenants and among its arenas, 255 where it is none's.
 #[derive(Clone, Copy)]
-pub(crate) struct Meant {
-    pub(crate) tenant: u8,
-    pub(crate) arena: u8,
+pub struct Meant {
+    pub tenant: u8,
+    pub arena: u8,
 }
 
 fn meant_of(policy: &Policy, name: &str) -> Meant

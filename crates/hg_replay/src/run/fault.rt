@@ -13,7 +13,7 @@ use thiserror::Error;
 
 /// Why a run on a policy's and a trace's bytes failed.
 #[derive(Debug, Drop, Error)]
-pub(crate) enum RunFault {
+pub enum RunFault {
     #[error(transparent)]
     Read(ReadFault),
     #[error(transparent)]
@@ -26,7 +26,7 @@ pub(crate) enum RunFault {
 
 impl RunFault {
     /// The status that a run ends with.
-    pub(crate) fn status(&self) -> Status
+    pub fn status(&self) -> Status
         ensures { result ≡ status_of self.now }
     {
         match self {

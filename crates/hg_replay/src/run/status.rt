@@ -19,10 +19,12 @@ pub enum Status {
     Failed,
     /// The command line has a fault.
     BadLine,
+    /// All was read and answered, and some answer isn't the one that its line states.
+    Differs,
 }
 
 impl Status {
-    /// The exit status: 0 to 4, in the order of the variants.
+    /// The exit status: 0 to 5, in the order of the variants.
     pub fn number(self) -> u8
         ensures { result ≡ number_of self }
     {
@@ -32,6 +34,7 @@ impl Status {
             Status::BadTrace => 2,
             Status::Failed => 3,
             Status::BadLine => 4,
+            Status::Differs => 5,
         }
     }
 }

@@ -11,8 +11,8 @@ job_in-requires c =
     c.in_ok-command.ensures (λ e. (c.in-Ok.ensures.matches e).1) in
     subst IsKnown (sym matches) (subcommand_known (map (λ w. w.now) c.args.words.now))
 
-pub returns-in-Ok-clause-faultless : goal.returns-in-Ok-clause-faultless
-returns-in-Ok-clause-faultless c =
+pub returns-in_ok-job_in-in-Ok-clause-faultless : goal.returns-in_ok-job_in-in-Ok-clause-faultless
+returns-in_ok-job_in-in-Ok-clause-faultless c =
     at_free (λ a. fault_of a (map (λ w. w.now) c.args.words.now) ≡ []) _ c.in_ok-command.ensures c.in-Ok.ensures.kinds
 
 pub returns-in-Err-clause-taken : goal.returns-in-Err-clause-taken

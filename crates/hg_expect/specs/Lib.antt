@@ -1,0 +1,5 @@
+pub mod Words
+pub mod Findings
+pub mod Judging
+pub mod Tests
+pub mod Endings

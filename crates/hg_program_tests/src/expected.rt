@@ -1,0 +1,267 @@
+//! Tests of traces whose lines state answers, on files in memory.
+
+ghost use Rattle.std.specs.Prelude.{None, false};
+
+use hg_program::{Host, program};
+use hg_replay::{ReadFault, Status, read_limited};
+use std::alloc::Global;
+use std::io;
+use std::io::Write;
+use std::process::Abort;
+use std::sync::Wait;
+use std::thread::Threads;
+
+/// Alice's blocks may be read and freed by bob.
+const POLICY: &str = "version = 1
+workers = 2
+tenant = [ {name = \"alice\", limit = 8192}, {name = \"bob\", limit = 64} ]
+arena = [ {name = \"main\", segments = 2} ]
+grant = [ {owner = \"alice\", to = \"bob\", rights = [\"read\", \"free\"]} ]
+";
+
+/// Each line states its answer.
+const RIGHT: &str = "# of the first block
+w0 alloc alice main 24 # => noroom
+w0 refill main # => segment 0
+w0 alloc alice main 24 as x # it has room now # => ok @0.0.0.1
+w0 read bob x 0 # => word 0
+w0 write bob x 0 8   # =>denied grant
+w0 look alice 0.0.0 # => @0.0.0.1 alice 24
+w0 list alice # => \t rows  1 \r
+w0 list bob # => rows 0
+w1 free bob x # => parted
+# w1 free bob x # => ok
+w1 deliver";
+
+/// Four lines that are answered otherwise, and one answer that no line states.
+const WRONG: &str = "w0 refill main # => segment 1
+w0 alloc alice main 24 as x # => ok @0.0.0.1 # since there is room
+w0 read bob x 0 # => word 0
+w0 list alice # \u{1b}[2J => # => rows 2
+w0 free bob x
+w0 read bob x 0 # =>
+";
+
+const DIFFERENCES: &str = "--- wrong
++++ wrong
+@@ -1 +1 @@
+-w0 refill main # => segment 1
++w0 refill main # => segment 0
+@@ -2 +2 @@
+-w0 alloc alice main 24 as x # => ok @0.0.0.1 # since there is room
++w0 alloc alice main 24 as x # => ok @0.0.0.1
+@@ -4 +4 @@
+-w0 list alice # ?[2J => # => rows 2
++w0 list alice # ?[2J => # => rows 1
+@@ -6 +6 @@
+-w0 read bob x 0 # =>
++w0 read bob x 0 # => denied freed
+wrong: expected 5 differ 4
+traces 1 differ 1
+";
+
+/// Files in memory, by their names.
+#[derive(Drop)]
+struct Files;
+
+impl Host for Files {
+    ghost holds = { λ _ _. None };
+
+    ghost may_be_terminal = { λ _. false };
+
+    fn read_file(&self, alloc: Global, path: &str) -> Result<Vec<u8>, ReadFault> {
+        let text = match path {
+            "policy" => POLICY,
+            "right" => RIGHT,
+            "wrong" => WRONG,
+            "silent" => "w0 refill main\n# w0 collect # => pages 3\n",
+            "empty" => "",
+            "faulty" => "w0 refill main # => segment 0\nw0 refil main # => ok\n",
+            "stranger" => "w2 refill main # => segment 0\n",
+            _ => return Err(ReadFault::Failed),
+        };
+        read_limited(alloc, &mut text.as_bytes())
+    }
+
+    fn is_at_terminal(&self) -> bool {
+        false
+    }
+}
+
+/// How the program ends, with nothing on its input.
+fn ended<T: Threads + Wait, W: Write, E: Write>(
+    rt: &T,
+    alloc: Global,
+    words: &[&str],
+    out: &mut W,
+    err: &mut E,
+) -> Status {
+    program(rt, alloc, words, &Files, &mut b"".as_slice(), out, err)
+}
+
+/// The words of a command line, and how the program ends: its status, output and standard error.
+type Row = (&'static [&'static str], Status, &'static str, &'static str);
+
+/// The program ends as each row says.
+fn end_each<T: Abort + Threads + Wait>(rt: &T, alloc: Global, rows: &[Row]) {
+    for (words, status, out, err) in rows {
+        let mut written = Vec::new(alloc);
+        let mut told = Vec::new(alloc);
+        let ends = ended(rt, alloc, words, &mut written, &mut told);
+        assert!(rt; told.as_slice() == err.as_bytes(), "{words:?}");
+        assert!(rt; written.as_slice() == out.as_bytes(), "{words:?}");
+        assert!(rt; ends == *status, "{words:?}");
+    }
+}
+
+static ENDINGS: [Row; 4] = [
+    (
+        &["test", "policy", "right"],
+        Status::Done,
+        "right: expected 9 differ 0\ntraces 1 differ 0\n",
+        "",
+    ),
+    (
+        &["test", "policy", "wrong"],
+        Status::Differs,
+        DIFFERENCES,
+        "",
+    ),
+    (
+        &["test", "policy", "silent", "empty"],
+        Status::Done,
+        "silent: expected 0 differ 0\nempty: expected 0 differ 0\ntraces 2 differ 0\n",
+        "",
+    ),
+    // What a line states is a comment for a replay.
+    (
+        &["replay", "policy", "silent"],
+        Status::Done,
+        "segment 0\n",
+        "",
+    ),
+];
+
+#[test]
+fn lines_state_their_answers(rt: HostRuntime) {
+    end_each(&rt, rt.alloc(), &ENDINGS);
+}
+
+static FAULTS: [Row; 8] = [
+    (
+        &["test", "right", "wrong"],
+        Status::BadPolicy,
+        "",
+        "policy fault 1: not toml\n",
+    ),
+    (
+        &["test", "right", "faulty", "wrong"],
+        Status::BadPolicy,
+        "",
+        "policy fault 1: not toml\n",
+    ),
+    (
+        &["test", "policy", "faulty"],
+        Status::BadTrace,
+        "",
+        "trace fault 2 at line 2: command\n",
+    ),
+    // Where there are several traces it is told in which the fault is.
+    (
+        &["test", "policy", "wrong", "faulty", "stranger"],
+        Status::BadTrace,
+        "",
+        "in faulty\ntrace fault 2 at line 2: command\n",
+    ),
+    (
+        &["test", "policy", "stranger"],
+        Status::BadTrace,
+        "",
+        "trace fault 6 at line 1: worker\n",
+    ),
+    (
+        &["test", "none", "right"],
+        Status::Failed,
+        "",
+        "read fault\n",
+    ),
+    (
+        &["test", "policy", "none"],
+        Status::Failed,
+        "",
+        "read fault\n",
+    ),
+    // All files are read before a fault of one is told.
+    (
+        &["test", "right", "faulty", "none"],
+        Status::Failed,
+        "",
+        "read fault\n",
+    ),
+];
+
+#[test]
+fn faults_are_told_as_of_a_replay(rt: HostRuntime) {
+    end_each(&rt, rt.alloc(), &FAULTS);
+}
+
+/// A command line without a trace is refused on standard error.
+#[test]
+fn a_test_has_a_trace(rt: HostRuntime) {
+    let mut out = Vec::new(rt.alloc());
+    let mut err = Vec::new(rt.alloc());
+    let status = ended(&rt, rt.alloc(), &["test", "policy"], &mut out, &mut err);
+    assert!(&rt; status == Status::BadLine);
+    assert!(&rt; out.len() == 0);
+    assert!(&rt; err.as_slice().starts_with(b"error: "));
+}
+
+/// A writer that takes so many bytes, and then nothing.
+#[derive(Drop)]
+struct Narrow {
+    left: usize,
+}
+
+impl Write for Narrow {
+    fn write(&mut self, buf: &[u8]) -> io::Result<usize> {
+        let taken = self.left.min(buf.len());
+        self.left -= taken;
+        Ok(taken)
+    }
+
+    fn flush(&mut self) -> io::Result<()> {
+        Ok(())
+    }
+}
+
+/// A write that stops is a fault, wherever it stops, and whether lines differ or not.
+#[test]
+fn stopped_writes_are_told(rt: HostRuntime) {
+    for (name, left) in [("right", 0), ("right", 40), ("wrong", 20)] {
+        let mut err = Vec::new(rt.alloc());
+        let words = ["test", "policy", name];
+        let status = ended(&rt, rt.alloc(), &words, &mut Narrow { left }, &mut err);
+        assert!(&rt; status == Status::Failed);
+        assert!(&rt; err.as_slice() == b"write fault\n".as_slice());
+    }
+}
+
+/// A place for the bytes of a test that asks for no memory.
+type Held = arrayvec::ArrayVec<u8, 1024>;
+
+/// The differences, or want of memory and nothing written.
+#[test]
+fn tests_refused_in_turn(rt: HostRuntime) {
+    let mut out = Held::new();
+    let mut err = Held::new();
+    let words = ["test", "policy", "wrong"];
+    let status = ended(&rt, rt.alloc(), &words, &mut out, &mut err);
+    if status == Status::Differs {
+        assert!(&rt; out.as_slice() == DIFFERENCES.as_bytes());
+        assert!(&rt; err.len() == 0);
+    } else {
+        assert!(&rt; status == Status::Failed);
+        assert!(&rt; out.len() == 0);
+        assert!(&rt; err.as_slice() == b"no memory\n".as_slice());
+    }
+}
