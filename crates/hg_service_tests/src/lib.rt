@@ -31,3 +31,5 @@ mod services;
 mod stress;
 #[cfg(test)]
 mod threads;
+#[cfg(test)]
+mod used_up;

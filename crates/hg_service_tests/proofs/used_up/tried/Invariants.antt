@@ -1,0 +1,14 @@
+use Rattle.hg_table.specs.Named.{table_of}
+use Rattle.hg_service_tests.proofs.used_up.tried.Given as goal
+
+abbrev pub ghosts-of_a_service-N-TableName : goal.ghosts-of_a_service-N-TableName
+ghosts-of_a_service-N-TableName g a = record { table = table_of a.made.1 }
+
+abbrev pub ghosts-of_a_service-N-ServiceName : goal.ghosts-of_a_service-N-ServiceName
+ghosts-of_a_service-N-ServiceName g a = record { policy = a.made.0 }
+
+abbrev pub ghosts-of_parts-N-TableName : goal.ghosts-of_parts-N-TableName
+ghosts-of_parts-N-TableName g a = record { table = table_of a.made.1 }
+
+abbrev pub ghosts-of_parts-N-ServiceName : goal.ghosts-of_parts-N-ServiceName
+ghosts-of_parts-N-ServiceName g a = record { policy = a.made.0 }
