@@ -4,7 +4,9 @@ use Rattle.hg_trace.specs.Labels.{label_count}
 use Rattle.hg_trace.specs.Stored.{line_in, lines_in}
 use Rattle.hg_replay.specs.KnownNames.{meanings}
 use Rattle.hg_replay.specs.StoredLabels.{binds}
-use Rattle.hg_replay.proofs.Answering.{answered_keeps_policy, label_count_more, label_within, binds_said, said_within, said_here, numbered_here}
+use Rattle.hg_replay.proofs.GoingOn.{answered_keeps_policy}
+use Rattle.hg_replay.proofs.LinesSaid.{label_count_more, label_within, binds_said, said_within}
+use Rattle.hg_replay.proofs.LinesSaid.{said_here, numbered_here}
 use Rattle.hg_expect.specs.Findings.{Finds, nothing}
 use Rattle.hg_expect.specs.Judging.{text_of}
 use Rattle.hg_expect.proofs.Judging.{judges_next, finds_stated, finds_differ}

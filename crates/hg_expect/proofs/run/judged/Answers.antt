@@ -1,7 +1,7 @@
 use Rattle.std.proofs.Common.{◌≡◌, None, ap, ◌∙◌}
 use Rattle.hg_trace.specs.Stored.{lines_in}
 use Rattle.hg_replay.specs.Events.{unknown_worker}
-use Rattle.hg_replay.proofs.Answering.{workers_below}
+use Rattle.hg_replay.proofs.GoingOn.{workers_below}
 use Rattle.hg_expect.proofs.run.judged.Goals as goal
 
 pub judge_all-requires : goal.judge_all-requires
