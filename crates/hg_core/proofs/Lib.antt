@@ -18,3 +18,6 @@ mod Kept
 mod Charged
 mod Runs
 mod MadeOfParts
+mod Recorded
+mod Handed
+mod KindsTold

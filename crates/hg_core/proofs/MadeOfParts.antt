@@ -27,7 +27,7 @@ pub same_core : (a : Inside) (p : Handed) → a.policy ≡ p.policy
     → a.pool ≡ p.pool → boxed_slice_items a.hands ≡ p.hands.items → core_of a ≡ core_in p
 same_core a p policy heaps remotes pool hands = cc
 
-worker_by : (o : Option ℕ) (b : Bool) → worker_in (holder_by o b) ≡ o
+pub worker_by : (o : Option ℕ) (b : Bool) → worker_in (holder_by o b) ≡ o
 worker_by (Some w) b = refl
 worker_by None true = refl
 worker_by None false = refl

@@ -68,7 +68,7 @@ module _ (a : Inside) (s : Core) (place : Place) (view : core_of a ≡ s) (store
   module _ (holder at : ℕ) (heap : Held PlainWords)
       (is : worker_in (holder_at (state_in s) place.segment) ≡ Some holder) (same : at ≡ holder)
       (there : heap ≡ slice_index_or (boxed_slice_items a.heaps) at heap) where
-    heap_is : heap_of s holder ≡ heap
+    pub heap_is : heap_of s holder ≡ heap
     heap_is =
         ap (λ x. heap_of x holder) (sym view)
         ∙ heap_read (core_of a) at holder heap stored.kept.tidy

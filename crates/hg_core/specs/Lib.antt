@@ -4,3 +4,5 @@ pub mod Keeping
 pub mod Stored
 pub mod Opened
 pub mod Opening
+pub mod Records
+pub mod Kinds

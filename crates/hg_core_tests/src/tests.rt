@@ -3,6 +3,7 @@ mod cases;
 mod changing;
 mod draws;
 mod machine;
+mod places;
 mod reached;
 mod runs;
 mod secrets;

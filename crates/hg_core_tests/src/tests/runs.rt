@@ -3,10 +3,11 @@
 ghost use Rattle.std.specs.Prelude.{◌<◌, IsTrue, All};
 
 use crate::tests::machine::{Holder, Machine};
+use crate::tests::places::check_places;
 use crate::tests::seeded::{MANY_LIVES, Run};
 use hg_core::Core;
 use hg_machine::{Answer, Event};
-use hg_place::Actor;
+use hg_place::{Actor, SEGMENT_PAGES};
 use hg_policy::{PolicyFault, read_policy};
 use std::alloc::{AllocError, Global};
 use std::process::Abort;
@@ -66,6 +67,8 @@ fn events_told(rt: &impl Abort, alloc: Global, policy: &str) -> Told {
         if number % 100 == 0 {
             check_charges(rt, &run.core, &run.machine);
             check_holders(rt, &run.core, &run.machine);
+            let pages = usize::from(run.machine.policy.segments().max(1)) * SEGMENT_PAGES;
+            check_places(rt, &run.core, &run.machine, number as usize / 100 % pages);
         }
     }
     drop(run);
