@@ -18,10 +18,10 @@
  *  2. A core is 16 bytes of the caller, aligned to 8, and begins as HG_CORE_INIT. Only the calls
  *     write its fields. It may be moved: copied, and the old place not used again. Two copies are
  *     one core: once one was closed, the other's memory is gone. A pointer to a core isn't null.
- *  3. Lengths are true: a pointer and a length are memory that may be read (a policy, a name) or
- *     written (room) during the call, and that overlaps neither the core nor each other. During
- *     the call no other thread writes what may be read, nor touches the room. With length 0 the
- *     pointer may be null.
+ *  3. Lengths are true: a pointer and a length are memory that may be read (a policy, a name,
+ *     words) or written (room) during the call, and that overlaps neither the core nor each other.
+ *     Words are aligned to 8, and their length counts words. During the call no other thread writes
+ *     what may be read, nor touches the room. With length 0 the pointer may be null.
  *  4. One allocator: malloc, realloc and free are of one allocator, and what they give is aligned
  *     to each power of two up to 16 that divides the size.
  *  5. No call is made from a signal handler, nor in the child of a fork of a program with threads.
@@ -153,6 +153,20 @@ hg_reply hg_write(hg_core *core, uint32_t worker, uint32_t actor, hg_handle bloc
 hg_reply hg_look(hg_core *core, uint32_t worker, uint32_t actor, uint32_t place);
 hg_reply hg_abandon(hg_core *core, uint32_t worker, uint32_t segment);
 hg_reply hg_refill(hg_core *core, uint32_t worker, uint32_t arena);
+
+/* Many words of a block, from the word of an index on: each is a Read or a Write of its own, one
+ * after another, and the first that is refused ends them. HG_DONE where all were served, else what
+ * the one that wasn't is answered; value: how many were. What stands in the room behind them is as
+ * it was. */
+hg_reply hg_read_words(hg_core *core, uint32_t worker, uint32_t actor, hg_handle block,
+                       uint32_t first, uint64_t *room, size_t count);
+hg_reply hg_write_words(hg_core *core, uint32_t worker, uint32_t actor, hg_handle block,
+                        uint32_t first, const uint64_t *words, size_t count);
+
+/* All blocks of an owner that the worker holds: for each a Free by the actor, in rising order of
+ * their places. One that the actor may not free is denied, and stays. HG_DONE, value: how many were
+ * freed. */
+hg_reply hg_free_all(hg_core *core, uint32_t worker, uint32_t actor, uint32_t owner);
 
 /* Questions, which only read the core: HG_VALUE with the number, or HG_NO_NAME. */
 hg_reply hg_workers(const hg_core *core);

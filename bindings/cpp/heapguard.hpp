@@ -146,6 +146,29 @@ public:
         return hg_refill(&core_, number(worker), number(arena));
     }
 
+    /// Reads that many words from the word of an index on, until one is refused; the value is how
+    /// many were read.
+    Reply read_words(Worker worker, Tenant actor, Handle block, std::uint32_t first,
+                     std::uint64_t *room, std::size_t count)
+    {
+        return hg_read_words(&core_, number(worker), number(actor), block, first, room, count);
+    }
+
+    /// Writes that many words from the word of an index on, until one is refused; the value is how
+    /// many were written.
+    Reply write_words(Worker worker, Tenant actor, Handle block, std::uint32_t first,
+                      const std::uint64_t *words, std::size_t count)
+    {
+        return hg_write_words(&core_, number(worker), number(actor), block, first, words, count);
+    }
+
+    /// Frees all blocks of the owner that the worker holds and the actor may free; the value is how
+    /// many.
+    Reply free_all(Worker worker, Tenant actor, Tenant owner)
+    {
+        return hg_free_all(&core_, number(worker), number(actor), number(owner));
+    }
+
     /// How many workers there are, 0 where it is closed.
     std::uint32_t workers() const { return static_cast<std::uint32_t>(hg_workers(&core_).value); }
 

@@ -7,7 +7,7 @@
 #include <stdio.h>
 #include <string.h>
 
-enum { WORKER = 0, MAIN_ARENA = 0, PLACES = 8192 };
+enum { WORKER = 0, MAIN_ARENA = 0 };
 
 static const char POLICY[] =
     "version = 1\n"
@@ -91,16 +91,11 @@ static void meddle(const struct plugin *chat, hg_handle tile)
     get(chat, "reads its own block, which is new", own, 0);
 }
 
-/* A plug-in goes: the host frees, in its name, what stands there for it. */
+/* A plug-in goes: the host frees, in its name, all blocks of its own. */
 static void unload(const struct plugin *plugin)
 {
-    unsigned freed = 0;
-    for (uint32_t place = 0; place < PLACES; place++) {
-        hg_reply row = hg_look(plugin->core, WORKER, plugin->tenant, place);
-        if (row.status == HG_LISTED && row.owner == plugin->tenant)
-            freed += hg_free(plugin->core, WORKER, plugin->tenant, row.value).status == HG_DONE;
-    }
-    printf("%s goes, and leaves %u blocks\n", plugin->name, freed);
+    hg_reply freed = hg_free_all(plugin->core, WORKER, plugin->tenant, plugin->tenant);
+    printf("%s goes, and leaves %" PRIu64 " blocks\n", plugin->name, freed.value);
 }
 
 static int load(struct plugin *plugin, hg_core *core, const char *name)

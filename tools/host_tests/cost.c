@@ -23,17 +23,18 @@ static double now(void)
 }
 
 /* Tells the time of an expression that is a reply; `n` counts its calls. */
-#define COST(what, call)                                      \
+#define COST(what, call) COST_OF(what, CALLS, call)
+#define COST_OF(what, calls, call)                            \
     do {                                                      \
         double best = 1e18;                                   \
         for (int round = 0; round < ROUNDS; round++) {        \
             uint64_t sum = 0;                                 \
             double began = now();                             \
-            for (uint64_t n = 0; n < CALLS; n++) {            \
+            for (uint64_t n = 0; n < calls; n++) {            \
                 hg_reply reply = call;                        \
                 sum += reply.status + reply.value;            \
             }                                                 \
-            double each = (now() - began) / CALLS;            \
+            double each = (now() - began) / calls;            \
             if (each < best) best = each;                     \
             sink = sum;                                       \
         }                                                     \
@@ -64,6 +65,13 @@ int main(void)
     COST("question: the name of a tenant", hg_tenant_name(&core, n & 1, room, sizeof room));
     COST("alloc, denied to a stranger", hg_alloc(&core, 0, 77, 0, 24));
     COST("alloc and free of the block", hg_free(&core, 0, 0, hg_alloc(&core, 0, 0, 0, 24).value));
+    hg_free(&core, 0, 0, block);
+    hg_collect(&core, 0);
+    static uint64_t words[512];
+    block = hg_alloc(&core, 0, 0, 0, sizeof words).value;
+    COST_OF("write 512 words at once", 20, hg_write_words(&core, 0, 0, block, 0, words, 512));
+    COST_OF("read 512 words at once", 20, hg_read_words(&core, 0, 0, block, 0, words, 512));
+    COST_OF("free all, of which there are none", 2, hg_free_all(&core, 0, 0, 1));
     hg_free(&core, 0, 0, block);
     hg_collect(&core, 0);
     COST("alloc and free of 64 KiB",

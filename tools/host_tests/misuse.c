@@ -9,7 +9,7 @@
 #include <stdio.h>
 #include <string.h>
 
-enum { ROUNDS = 200000, ROOM = 64 };
+enum { ROUNDS = 200000, ROOM = 64, WORDS = 12 };
 
 static const char POLICY[] =
     "version = 1\n"
@@ -63,6 +63,7 @@ static hg_reply any_call(hg_core *core, unsigned kind, char *room)
     uint32_t w = number(), actor = stranger();
     uint64_t word = below(2) ? next() : hg_handle_of(below(3), below(16), below(512), below(3));
     uint32_t at = below(2) ? (uint32_t)next() : below(8192);
+    uint64_t words[WORDS] = {0};
     char name[8];
     for (unsigned at = 0; at < sizeof name; at++) name[at] = (char)next();
     switch (kind) {
@@ -83,11 +84,14 @@ static hg_reply any_call(hg_core *core, unsigned kind, char *room)
     case 14: return hg_tenant_name(core, number(), room, below(ROOM + 1));
     case 15: return hg_segments(core);
     case 16: return hg_holder(core, number());
-    default: return hg_charge(core, w, number());
+    case 17: return hg_charge(core, w, number());
+    case 18: return hg_read_words(core, w, actor, word, at, words, below(WORDS + 1));
+    case 19: return hg_write_words(core, w, actor, word, at, words, below(WORDS + 1));
+    default: return hg_free_all(core, w, actor, number());
     }
 }
 
-enum { KINDS = 18 };
+enum { KINDS = 21 };
 
 static void try_closed(hg_core core)
 {
@@ -99,7 +103,7 @@ static void try_closed(hg_core core)
     for (unsigned n = 0; n < ROUNDS / 10; n++) {
         unsigned kind = n % KINDS;
         hg_reply reply = any_call(&core, kind, room);
-        int unnamed = kind == 1 || kind == 5 || kind == 6 || kind == 7;
+        int unnamed = kind == 1 || (kind >= 5 && kind <= 7) || kind == 18 || kind == 19;
         int is_right = kind == 16 ? is_nobody(reply, HG_CLOSED)
             : kind == 12 || kind == 13
             ? is_nobody(reply, HG_CLOSED) || is_nobody(reply, HG_NO_NAME)
@@ -163,6 +167,11 @@ static void try_wide(hg_core *core, hg_handle block)
         CHECK(is_plain(hg_look(core, wide, 0, hg_place_of(block)), HG_NO_WORKER));
         CHECK(is_plain(hg_abandon(core, wide, 0), HG_NO_WORKER));
         CHECK(is_plain(hg_refill(core, wide, 0), HG_NO_WORKER));
+        CHECK(is_plain(hg_read_words(core, wide, 0, block, 0, NULL, 0), HG_NO_WORKER));
+        CHECK(is_plain(hg_write_words(core, wide, 0, block, 0, NULL, 0), HG_NO_WORKER));
+        CHECK(is_plain(hg_free_all(core, wide, 0, 0), HG_NO_WORKER));
+        CHECK(is_plain(hg_free_all(core, 0, 0, wide), HG_DONE));
+        CHECK(is_plain(hg_free_all(core, 0, wide, 0), HG_DONE));
         CHECK(is_plain(hg_alloc(core, 0, wide, 0, 8), HG_STRANGER));
         CHECK(is_plain(hg_free(core, 0, wide, block), HG_STRANGER));
         CHECK(is_plain(hg_read(core, 0, wide, block, 0), HG_STRANGER));
@@ -216,6 +225,7 @@ static void try_open(void)
         char room[ROOM];
         unsigned kind = n % KINDS;
         if (kind == 8) continue; /* the worker of segment 0 is to keep it */
+        if (kind == 20 && below(32)) continue; /* it looks at each place */
         seed ^= n;
         hg_reply reply = any_call(&core, kind, room);
         checks++;
@@ -259,6 +269,85 @@ static void try_large(void)
     CHECK(is_plain(hg_close(&core), HG_DONE));
 }
 
+/* Many words: all, those up to a block's end, none; and a block whose owner lets the actor read it
+ * and not write it. */
+static void try_words(void)
+{
+    static const char SHARED[] =
+        "version = 1\nworkers = 2\n"
+        "tenant = [ {name = \"ann\", limit = 65536}, {name = \"bob\", limit = 64} ]\n"
+        "arena = [ {name = \"main\", segments = 1} ]\n"
+        "grant = [ {owner = \"ann\", to = \"bob\", rights = [\"read\"]} ]\n";
+    enum { SIZE = 512, MORE = 8 };
+    static uint64_t words[SIZE + MORE], room[SIZE + MORE];
+    hg_core core = HG_CORE_INIT;
+    CHECK(hg_open(&core, SHARED, sizeof SHARED - 1, NULL, 0).status == HG_DONE);
+    unsigned long opened = asked;
+    CHECK(hg_refill(&core, 0, 0).status == HG_REFILLED);
+    hg_handle block = hg_alloc(&core, 0, 0, 0, SIZE * 8).value;
+    for (unsigned at = 0; at < SIZE + MORE; at++) words[at] = next();
+    hg_reply all = hg_write_words(&core, 0, 0, block, 0, words, SIZE);
+    CHECK(all.status == HG_DONE && all.value == SIZE && !all.owner && !all.detail);
+    for (uint32_t at = 0; at < SIZE; at++)
+        CHECK(hg_read(&core, 0, 0, block, at).value == words[at]);
+    memset(room, 0x5a, sizeof room);
+    CHECK(hg_read_words(&core, 0, 1, block, 0, room, SIZE).value == SIZE);
+    CHECK(memcmp(room, words, SIZE * 8) == 0 && room[SIZE] == UINT64_C(0x5a5a5a5a5a5a5a5a));
+    for (uint32_t first = 0; first < SIZE + MORE; first += 7) {
+        uint64_t left = first < SIZE ? SIZE - first : 0;
+        memset(room, 0x5a, sizeof room);
+        hg_reply some = hg_read_words(&core, 0, 0, block, first, room, SIZE + MORE);
+        CHECK(some.status == HG_OUT_OF_BLOCK && some.value == left);
+        CHECK(memcmp(room, words + first, (size_t)left * 8) == 0);
+        CHECK(room[left] == UINT64_C(0x5a5a5a5a5a5a5a5a));
+    }
+    CHECK(is_plain(hg_read_words(&core, 0, 0, block, 0, NULL, 0), HG_DONE));
+    CHECK(is_plain(hg_write_words(&core, 0, 0, block, UINT32_MAX, words, 2), HG_OUT_OF_BLOCK));
+    CHECK(is_plain(hg_write_words(&core, 0, 1, block, 0, words, 2), HG_NOT_GRANTED));
+    CHECK(is_plain(hg_read_words(&core, 1, 1, block, 0, room, 2), HG_ELSEWHERE));
+    hg_reply stale = hg_read_words(&core, 0, 1, block + 1, 0, room, 2);
+    CHECK(stale.status == HG_STALE && stale.detail == hg_generation_of(block) && !stale.value);
+    CHECK(hg_read_words(&core, 0, 0, block, 0, room, SIZE).value == SIZE);
+    CHECK(memcmp(room, words, SIZE * 8) == 0);
+    CHECK(asked == opened);
+    CHECK(is_plain(hg_close(&core), HG_DONE));
+}
+
+/* Blocks of two owners: one's go at once, by itself or by who may free them; the other's stay. */
+static void try_unloads(void)
+{
+    static const char TWO[] =
+        "version = 1\nworkers = 2\n"
+        "tenant = [ {name = \"ann\", limit = 65536}, {name = \"bob\", limit = 65536},\n"
+        "           {name = \"cat\", limit = 64} ]\n"
+        "arena = [ {name = \"main\", segments = 2} ]\n"
+        "grant = [ {owner = \"bob\", to = \"cat\", rights = [\"free\", \"list\"]},\n"
+        "          {owner = \"ann\", to = \"bob\", rights = [\"free\", \"list\"]} ]\n";
+    enum { EACH = 300 };
+    static hg_handle blocks[2 * EACH];
+    hg_core core = HG_CORE_INIT;
+    CHECK(hg_open(&core, TWO, sizeof TWO - 1, NULL, 0).status == HG_DONE);
+    unsigned long opened = asked;
+    CHECK(hg_refill(&core, 0, 0).status == HG_REFILLED);
+    CHECK(hg_refill(&core, 1, 0).status == HG_REFILLED);
+    for (unsigned at = 0; at < 2 * EACH; at++)
+        CHECK((blocks[at] = hg_alloc(&core, 0, at % 2, 0, 8 + below(56)).value) != 0);
+    hg_handle away = hg_alloc(&core, 1, 1, 0, 8).value;
+    CHECK(is_plain(hg_free_all(&core, 0, 0, 1), HG_DONE)); /* ann may not */
+    hg_reply gone = hg_free_all(&core, 0, 2, 1);           /* cat may */
+    CHECK(gone.status == HG_DONE && gone.value == EACH && !gone.owner && !gone.detail);
+    CHECK(is_plain(hg_free_all(&core, 0, 2, 1), HG_DONE));
+    CHECK(is_plain(hg_free_all(&core, 0, 2, 0), HG_DONE));
+    for (unsigned at = 0; at < 2 * EACH; at++)
+        CHECK(hg_read(&core, 0, at % 2, blocks[at], 0).status
+              == (at % 2 ? HG_ALREADY_FREED : HG_VALUE));
+    CHECK(hg_charge(&core, 0, 1).value == 0 && hg_read(&core, 1, 1, away, 0).status == HG_VALUE);
+    CHECK(hg_free_all(&core, 0, 0, 0).value == EACH && hg_charge(&core, 0, 0).value == 0);
+    CHECK(hg_free_all(&core, 1, 1, 1).value == 1);
+    CHECK(asked == opened);
+    CHECK(is_plain(hg_close(&core), HG_DONE));
+}
+
 int main(void)
 {
     hg_core zeros = HG_CORE_INIT, garbage;
@@ -270,6 +359,8 @@ int main(void)
     try_opening();
     try_open();
     try_large();
+    try_words();
+    try_unloads();
     printf("misuse: %u checks, %u failed\n", checks, failed);
     return failed != 0;
 }

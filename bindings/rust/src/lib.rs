@@ -53,6 +53,13 @@ pub enum Freed {
     InHand,
 }
 
+/// How many words were read or written, and why the next wasn't, if one wasn't.
+#[derive(Clone, Copy, Debug, PartialEq, Eq)]
+pub struct Progress {
+    pub done: usize,
+    pub refused: Option<Refusal>,
+}
+
 /// A block that is listed.
 #[derive(Clone, Copy, Debug, PartialEq, Eq)]
 pub struct Row {
@@ -187,6 +194,67 @@ impl Core {
         Ok(Segment(self.serve(raw::REFILLED, call)?.value as u32))
     }
 
+    /// Reads as many words of a block as the room has, from the word of an index on, until one is
+    /// refused.
+    pub fn read_words(
+        &mut self,
+        worker: Worker,
+        actor: Tenant,
+        block: Handle,
+        first: u32,
+        room: &mut [u64],
+    ) -> Progress {
+        let (word, count) = (block.to_u64(), room.len());
+        // SAFETY: the core is open and this call's alone; pointer and length are those of a slice
+        // that is borrowed for the call. So in the next.
+        progress(unsafe {
+            raw::hg_read_words(
+                &mut self.raw,
+                worker.0,
+                actor.0,
+                word,
+                first,
+                room.as_mut_ptr(),
+                count,
+            )
+        })
+    }
+
+    /// Writes words into a block, from the word of an index on, until one is refused.
+    pub fn write_words(
+        &mut self,
+        worker: Worker,
+        actor: Tenant,
+        block: Handle,
+        first: u32,
+        words: &[u64],
+    ) -> Progress {
+        let (word, count) = (block.to_u64(), words.len());
+        progress(unsafe {
+            raw::hg_write_words(
+                &mut self.raw,
+                worker.0,
+                actor.0,
+                word,
+                first,
+                words.as_ptr(),
+                count,
+            )
+        })
+    }
+
+    /// Frees all blocks of the owner that the worker holds and the actor may free, and tells how
+    /// many.
+    pub fn free_all(
+        &mut self,
+        worker: Worker,
+        actor: Tenant,
+        owner: Tenant,
+    ) -> Result<u64, Refusal> {
+        let call = |core| unsafe { raw::hg_free_all(core, worker.0, actor.0, owner.0) };
+        Ok(self.serve(raw::DONE, call)?.value)
+    }
+
     /// How many workers there are.
     pub fn workers(&self) -> u32 {
         // SAFETY: the core is open, and nothing writes it while it is borrowed. So in each question.
@@ -261,6 +329,13 @@ fn handle_of(raw: RawReply) -> Result<Handle, Refusal> {
     Handle::from_u64(raw.value).ok_or(Refusal::Other(raw.status))
 }
 
+fn progress(told: RawReply) -> Progress {
+    Progress {
+        done: told.value as usize,
+        refused: (told.status != raw::DONE).then(|| Refusal::of(told)),
+    }
+}
+
 fn named(told: RawReply) -> Option<u32> {
     (told.status == raw::VALUE).then_some(told.value as u32)
 }
@@ -299,6 +374,30 @@ mod tests {
         assert_eq!(charge(&core, 1, 0), Some(0));
         core.abandon(Worker(1), Segment(0)).unwrap();
         assert_eq!(core.holder(Segment(0)), None);
+    }
+
+    #[test]
+    fn many_words_and_all_blocks() {
+        let policy = "version = 1
+            workers = 1
+            tenant = [ {name = \"alice\", limit = 640}, {name = \"bob\", limit = 64} ]
+            arena = [ {name = \"main\", segments = 1} ]";
+        let mut core = Core::open(policy).unwrap();
+        let (worker, alice, bob) = (Worker(0), Tenant(0), Tenant(1));
+        core.refill(worker, Arena(0)).unwrap();
+        let block = core.alloc(worker, alice, Arena(0), 24).unwrap();
+        let all = |done| Progress { done, refused: None };
+        assert_eq!(core.write_words(worker, alice, block, 1, &[7, 8]), all(2));
+        let mut room = [1; 5];
+        let past = core.read_words(worker, alice, block, 0, &mut room);
+        assert_eq!((past.done, past.refused), (3, Some(Refusal::OutOfBlock)));
+        assert_eq!(room, [0, 7, 8, 1, 1]);
+        let denied = core.write_words(worker, bob, block, 0, &room);
+        assert_eq!(denied.refused, Some(Refusal::Denied(Rule::NotGranted)));
+        core.alloc(worker, alice, Arena(0), 8).unwrap();
+        assert_eq!(core.free_all(worker, bob, alice), Ok(0));
+        assert_eq!(core.free_all(worker, alice, alice), Ok(2));
+        assert_eq!(core.charge(worker, alice), Some(0));
     }
 
     #[test]

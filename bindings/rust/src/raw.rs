@@ -68,6 +68,25 @@ extern "C" {
     pub fn hg_look(core: *mut RawCore, worker: u32, actor: u32, place: u32) -> RawReply;
     pub fn hg_abandon(core: *mut RawCore, worker: u32, segment: u32) -> RawReply;
     pub fn hg_refill(core: *mut RawCore, worker: u32, arena: u32) -> RawReply;
+    pub fn hg_read_words(
+        core: *mut RawCore,
+        worker: u32,
+        actor: u32,
+        block: u64,
+        first: u32,
+        room: *mut u64,
+        count: usize,
+    ) -> RawReply;
+    pub fn hg_write_words(
+        core: *mut RawCore,
+        worker: u32,
+        actor: u32,
+        block: u64,
+        first: u32,
+        words: *const u64,
+        count: usize,
+    ) -> RawReply;
+    pub fn hg_free_all(core: *mut RawCore, worker: u32, actor: u32, owner: u32) -> RawReply;
     pub fn hg_workers(core: *const RawCore) -> RawReply;
     pub fn hg_segments(core: *const RawCore) -> RawReply;
     pub fn hg_holds(core: *const RawCore, worker: u32, segment: u32) -> RawReply;

@@ -7,7 +7,9 @@ use Rattle.hg_place.specs.Places.{number_of}
 use Rattle.hg_place.specs.HandleWords.{handle_word, is_handle, is_place}
 use Rattle.hg_c.specs.declared.reply.Reply.{Reply}
 use Rattle.hg_c.specs.declared.host_core.HostCore.{HostCore}
+use Rattle.hg_machine.specs.Lists.{Kept}
 use Rattle.hg_c.specs.Calls.{Serves, ServesOn, ServesAt}
+use Rattle.hg_c.specs.AtOnce.{DoesAtOnce, DoesOn}
 
 both_ways : {X : Type 0} {b : Bool} → b ≡ true → b ≡ false → X
 both_ways is isnt = absurd (subst T (sym is ∙ isnt) tt)
@@ -23,5 +25,12 @@ pub at_place : {old new : HostCore} {worker number : ℕ} {event : Place → Eve
     → (is_place number ≡ true) × (number ≡ number_of place) → Serves old worker (event place) reply new → ServesAt old worker number event reply new
 at_place place is serves = record {
   named = λ _. (place, is.1, serves);
+  unnamed = λ no. both_ways is.0 no;
+}
+
+pub on_handle_at_once : {old new : HostCore} {worker word : ℕ} {does : Handle → Kept → Kept → Type 0} {stays : Type 0} {reply : Reply} (handle : Handle)
+    → (is_handle word ≡ true) × (word ≡ handle_word handle) → DoesAtOnce old worker (does handle) stays reply new → DoesOn old worker word does stays reply new
+on_handle_at_once handle is done = record {
+  named = λ _. (handle, is.1, done);
   unnamed = λ no. both_ways is.0 no;
 }

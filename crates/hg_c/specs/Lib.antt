@@ -9,3 +9,4 @@ pub mod Asking
 pub mod Naming
 pub mod Holding
 pub mod Version
+pub mod AtOnce

@@ -5,6 +5,8 @@
 
 mod answering;
 mod asking;
+mod at_once;
+mod at_once_exports;
 mod box_pointer;
 mod exports;
 mod holding;

@@ -1,0 +1,6 @@
+mod Reached
+mod WordEventLemmas
+mod WordRuns
+mod Later
+mod OwnBlockLemmas
+mod Frees
