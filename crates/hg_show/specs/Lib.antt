@@ -1,0 +1,6 @@
+pub mod Matrix
+pub mod Parts
+pub mod Pieces
+pub mod Rows
+pub mod Shown
+pub mod Warnings

@@ -1,0 +1,35 @@
+-- The rows of a document, by key.
+use Rattle.std.specs.Prelude.{ℕ, List, [], Option, Some, None, map, codes, unwrap_or}
+use Rattle.toml.specs.Data.{Data, Items, Members, as_array, as_str, as_table, get_member}
+use Rattle.hg_policy.specs.Values.{elements}
+
+abbrev pub elements_or_none : Option Items → List Data
+elements_or_none None = []
+elements_or_none (Some items) = elements items
+
+-- the elements of the array at a key, which are none where no array is there
+abbrev pub rows_in : Option Data → List Data
+rows_in None = []
+rows_in (Some value) = elements_or_none (as_array value)
+
+abbrev pub rows_at : List ℕ → Members → List Data
+rows_at key document = rows_in (get_member key document)
+
+-- the text at a key of a row, which is empty where none is there
+abbrev pub text_in : Option Data → List ℕ
+text_in None = []
+text_in (Some value) = unwrap_or (as_str value) []
+
+abbrev pub field_in : List ℕ → Option Members → Option Data
+field_in key None = None
+field_in key (Some row) = get_member key row
+
+abbrev pub text_at : List ℕ → Data → List ℕ
+text_at key row = text_in (field_in key (as_table row))
+
+-- the names of rows, and those of arenas, in the order of their rows
+abbrev pub names_in : List Data → List (List ℕ)
+names_in rows = map (text_at (codes "name")) rows
+
+abbrev pub arena_names : Members → List (List ℕ)
+arena_names document = names_in (rows_at (codes "arena") document)
