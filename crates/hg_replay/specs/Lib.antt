@@ -9,6 +9,7 @@ pub mod Writes
 pub mod Served
 pub mod Looked
 pub mod Replays
+pub mod Tellings
 pub mod ReplayLaws
 pub mod WrittenValues
 pub mod Numbers

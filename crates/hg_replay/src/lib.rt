@@ -9,6 +9,7 @@ pub use replaying::fault::ReplayFault;
 pub use replaying::known::Meant;
 pub use replaying::put::{WriteStopped, put};
 pub use replaying::sink::Sink;
+pub use replaying::told::Told;
 pub use replaying::{Ready, replay, start};
 pub use run::check::run_check;
 pub use run::fault::RunFault;

@@ -9,6 +9,7 @@ ghost use Rattle.hg_replay.specs.Text.{answer_line};
 ghost use Rattle.hg_replay.specs.Writes.{Emits, IsGiven, Wrote};
 ghost use Rattle.hg_replay.specs.Replays.{Progress, handle_in, handles_after, starting};
 ghost use Rattle.hg_replay.specs.Replays.{Answered, Replays, StopsAt, EndsReplay};
+ghost use Rattle.hg_replay.specs.Tellings.{IsTold};
 ghost use Rattle.hg_replay.specs.KnownNames.{meanings};
 ghost use Rattle.hg_replay.specs.StoredLabels.{binds};
 ghost use Rattle.hg_trace.specs.Labels.{label_count};
@@ -24,6 +25,7 @@ pub(crate) mod put;
 mod serving;
 pub(crate) mod sink;
 pub(crate) mod text;
+pub(crate) mod told;
 
 use events::{Meaning, actor_at, handle_named, meaning_of, meant_at};
 use fault::ReplayFault;
@@ -39,6 +41,7 @@ use put::WriteStopped;
 use serving::{serve_alloc, serve_free, serve_read, serve_write};
 use sink::Sink;
 use std::alloc::{AllocError, Global};
+use told::Told;
 
 /// Serves an event, and gives the line of its answer to be written.
 fn serve<W: Sink>(
@@ -82,7 +85,7 @@ fn note(handles: &mut Vec<Option<Handle>>, command: StoredCommand, answer: Answe
     }
 }
 
-/// Answers a line, whatever it says: its meaning here is made first.
+/// Answers a line, whatever it says: its meaning here is made first. Tells what the line came to.
 fn replay_other<W: Sink>(
     core: &mut Core,
     meant: &[Meant],
@@ -90,7 +93,7 @@ fn replay_other<W: Sink>(
     line: &StoredLine,
     output: &mut Output,
     out: &mut W,
-)
+) -> Told
     requires worker { line.now.worker < core.old.state.policy.workers }
     requires room { binds line.now.command ≡ true
         → vec_len handles.old < vec_capacity handles.old }
@@ -102,6 +105,11 @@ fn replay_other<W: Sink>(
         (line_in names labels line.now)
         (record { kept = core.new; handles = handles.new.items }) text
         × Emits (W.seen out.old) output.old (W.seen out.new) output.new text }
+    ensures told { (names labels : List (List ℕ))
+        → meant.now ≡ meanings core.old.state.policy names
+        → IsNumbered names labels line.now.command
+        → IsTold (record { kept = core.old; handles = handles.old.items })
+        (line_in names labels line.now) result core.new }
     ensures count { vec_len handles.new
         ≡ vec_len handles.old + (if binds line.now.command then 1 else 0) }
     ensures room { vec_capacity handles.new ≡ vec_capacity handles.old }
@@ -110,9 +118,16 @@ fn replay_other<W: Sink>(
         Meaning::One(event) => {
             let answer = serve(core, line.worker, event, output, out);
             note(handles, line.command, answer);
+            Told::One(event, answer)
         }
-        Meaning::Listing(actor) => list(core, line.worker, actor, output, out),
-        Meaning::Unbound => output.put(out, b"unbound\n"),
+        Meaning::Listing(actor) => {
+            list(core, line.worker, actor, output, out);
+            Told::Listing
+        }
+        Meaning::Unbound => {
+            output.put(out, b"unbound\n");
+            Told::Unbound
+        }
     }
 }
 
@@ -185,7 +200,9 @@ fn replay_line<W: Sink>(
             }
             None => output.put(out, b"unbound\n"),
         },
-        _ => replay_other(core, meant, handles, line, output, out),
+        _ => {
+            replay_other(core, meant, handles, line, output, out);
+        }
     }
 }
 

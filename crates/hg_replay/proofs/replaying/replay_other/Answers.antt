@@ -48,3 +48,25 @@ returns-in-Listing-clause-count g c = none_counted _ _ (λ given. let one = (c.i
 
 pub returns-in-Unbound-clause-count : goal.returns-in-Unbound-clause-count
 returns-in-Unbound-clause-count g c = none_counted _ _ (λ given. let one = (c.in-Unbound.ensures.labelled given).1 in absurd (cc))
+
+pub returns-in-One-clause-told : goal.returns-in-One-clause-told
+returns-in-One-clause-told g c = λ names labels known numbered.
+    let s = c.args.core.now.state in
+    let line = line_in names labels c.args.line.now in (
+      sym (c.in-One.ensures.meaning s.policy names labels known numbered ∙ ap (λ hs. meaning_of s.policy hs line.command) c.deref.ensures.value),
+      c.serve-answer.ensures.chosen,
+    )
+
+pub returns-in-Listing-clause-told : goal.returns-in-Listing-clause-told
+returns-in-Listing-clause-told g c = λ names labels known numbered.
+    let s = c.args.core.now.state in
+    let line = line_in names labels c.args.line.now in (
+      c.in-Listing.actor,
+      sym (c.in-Listing.ensures.meaning s.policy names labels known numbered ∙ ap (λ hs. meaning_of s.policy hs line.command) c.deref.ensures.value),
+    )
+
+pub returns-in-Unbound-clause-told : goal.returns-in-Unbound-clause-told
+returns-in-Unbound-clause-told g c = λ names labels known numbered.
+    let s = c.args.core.now.state in
+    let line = line_in names labels c.args.line.now in
+    sym (c.in-Unbound.ensures.meaning s.policy names labels known numbered ∙ ap (λ hs. meaning_of s.policy hs line.command) c.deref.ensures.value)
