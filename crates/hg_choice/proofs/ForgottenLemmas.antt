@@ -17,23 +17,15 @@ use Rattle.hg_choice.specs.WordLaws.{without_value, without_answer, without_valu
 use Rattle.hg_choice.specs.WordLaws.{without_words, WordsMayBeForgotten, ValuesShowInValues}
 use Rattle.hg_choice.proofs.MaskedServes.{masked_event, masked_answer}
 use Rattle.hg_choice.proofs.MaskedSteps.{masked_step}
-use Rattle.hg_choice.proofs.Refusing.{of_refusal, answer_kept}
+use Rattle.hg_choice.proofs.Refusing.{answer_kept}
 use Rattle.hg_choice.proofs.ChoiceLemmas.{choices_are_determined}
 
 abbrev all : ℕ → Bool
 all place = true
 
 same_event : (e : Event) → masked_event all e ≡ without_value e
-same_event (event.Alloc actor arena bytes) = refl
-same_event (event.Free actor handle) = refl
-same_event event.Deliver = refl
-same_event (event.Take segment) = refl
-same_event event.Collect = refl
-same_event (event.Read actor handle index) = refl
 same_event (event.Write actor handle index value) = refl
-same_event (event.Look actor place) = refl
-same_event (event.Abandon segment) = refl
-same_event (event.Refill arena) = refl
+same_event e = refl
 
 abbrev IsForgotten : Event → Answer → Type 0
 IsForgotten e a = masked_answer all e a ≡ without_answer a
@@ -49,34 +41,15 @@ served_forgotten s w (event.Alloc actor arena bytes) a g =
     subst (IsForgotten (event.Alloc actor arena bytes)) (sym g.1) refl
 served_forgotten s w (event.Free actor handle) a is =
     free_forgotten (event.Free actor handle) (holds s w handle.place.segment) a is refl refl
-served_forgotten s w event.Deliver a is = subst (IsForgotten event.Deliver) (sym is) refl
-served_forgotten s w (event.Take segment) a is =
-    subst (IsForgotten (event.Take segment)) (sym is) refl
-served_forgotten s w event.Collect a is = subst (IsForgotten event.Collect) (sym is) refl
-served_forgotten s w (event.Read actor handle index) a is =
-    subst (IsForgotten (event.Read actor handle index)) (sym is) refl
-served_forgotten s w (event.Write actor handle index value) a is =
-    subst (IsForgotten (event.Write actor handle index value)) (sym is) refl
 served_forgotten s w (event.Look actor place) a g =
     subst (IsForgotten (event.Look actor place)) (sym g.1) refl
-served_forgotten s w (event.Abandon segment) a is =
-    subst (IsForgotten (event.Abandon segment)) (sym is) refl
 served_forgotten s w (event.Refill arena) a g =
     subst (IsForgotten (event.Refill arena)) (sym g.1) refl
+served_forgotten s w e a is = subst (IsForgotten e) (sym is) refl
 
 refusal_forgotten : (a : Answer) → is_refusal a ≡ true → without_answer a ≡ a
-refusal_forgotten = of_refusal (λ a. without_answer a ≡ a)
-    (record {
-      denied = λ rule. refl;
-      too_large = refl;
-      no_room = refl;
-      elsewhere = refl;
-      out_of_block = refl;
-      busy = refl;
-      nothing_in_hand = refl;
-      not_held = refl;
-      no_segment = refl;
-    })
+refusal_forgotten (answer.Value value) is = absurd (cc)
+refusal_forgotten a is = refl
 
 same_answer : (k : Kept) (w : ℕ) (e : Event) (a : Answer) (new : Kept) → ChosenStep k w e a new
     → masked_answer all e a ≡ without_answer a

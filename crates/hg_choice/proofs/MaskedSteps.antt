@@ -46,15 +46,7 @@ module _ (hides : ℕ → ℕ → Bool) where
       subst (IsChosen (masked_kept hides k) w (event.Alloc actor arena bytes)) (sym g.1)
       (same_choice hides k w arena (size_of bytes)
       ∙ subst (IsChosen k w (event.Alloc actor arena bytes)) g.1 is)
-  same_chosen k w (event.Free actor handle) a g is = is
-  same_chosen k w event.Deliver a g is = is
-  same_chosen k w (event.Take segment) a g is = is
-  same_chosen k w event.Collect a g is = is
-  same_chosen k w (event.Read actor handle index) a g is = is
-  same_chosen k w (event.Write actor handle index value) a g is = is
-  same_chosen k w (event.Look actor place) a g is = is
-  same_chosen k w (event.Abandon segment) a g is = is
-  same_chosen k w (event.Refill arena) a g is = is
+  same_chosen k w e a g is = is
 
   served_masked : (k : Kept) (w : ℕ) (e : Event) (a : Answer) (new : Kept) → ChosenStep k w e a new
       → Served k.state w e a new.state

@@ -92,16 +92,6 @@ module _ (hides : ℕ → ℕ → Bool) where
         )
         (chosen_is w arena (size_of bytes)
         ∙ subst (IsChosen old w (event.Alloc actor arena bytes)) g.1 is)
-    second_serves w (event.Free actor handle) a none g is =
-        serves other w (event.Free actor handle) _ none refl tt
-    second_serves w event.Deliver a none g is = serves other w event.Deliver _ none refl tt
-    second_serves w (event.Take segment) a none g is =
-        serves other w (event.Take segment) _ none refl tt
-    second_serves w event.Collect a none g is = serves other w event.Collect _ none refl tt
-    second_serves w (event.Read actor handle index) a none g is =
-        serves other w (event.Read actor handle index) _ none refl tt
-    second_serves w (event.Write actor handle index value) a none g is =
-        serves other w (event.Write actor handle index value) _ none refl tt
     second_serves w (event.Look actor place) a none g is =
         let p = number_of place in
         serves other w (event.Look actor place) (answer.Listed g.0) none (
@@ -124,11 +114,10 @@ module _ (hides : ℕ → ℕ → Bool) where
           },
         )
         tt
-    second_serves w (event.Abandon segment) a none g is =
-        serves other w (event.Abandon segment) _ none refl tt
     second_serves w (event.Refill arena) a none g is =
         serves other w (event.Refill arena) (answer.Refilled g.0) none
         (g.0, refl, by_mask (λ s. next_of s arena) (λ s. refl) ∙ g.2) tt
+    second_serves w e a none g is = serves other w e _ none refl tt
 
     refuses : (w : ℕ) (e : Event) (a : Answer) → refusal other.state w e ≡ Some a
         → StepsFrom other w e
