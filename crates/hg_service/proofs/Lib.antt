@@ -3,3 +3,4 @@ pub mod Places
 pub mod Behind
 pub mod Leaving
 pub mod ListsBack
+pub mod Lost

@@ -1,6 +1,7 @@
 -- Why a service doesn't close.
 use Rattle.std.specs.Prelude.{◌≡◌, ◌<◌, false, List, length}
 use Rattle.std.specs.Box.{boxed_slice_items}
+use Rattle.hg_audit.specs.declared.parts.Parts.{Parts}
 use Rattle.hg_machine.specs.Policy.{Policy}
 use Rattle.hg_pool.specs.Pooled.{Pooled}
 use Rattle.hg_table.specs.declared.segment.UnnamedSegment.{UnnamedSegment}
@@ -20,6 +21,12 @@ use Rattle.hg_service.specs.declared.unclosed.UnclosedParts.TheVariants as parts
 use Rattle.hg_service.specs.Back.{AreBack, IsFirstOut}
 use Rattle.hg_service.specs.GivenBack.{AreListsOf}
 use Rattle.hg_service.specs.Ready.{is_ready}
+
+module _ {N : _} {own : _} {table : _} where
+  -- these parts of a core, in which a place is lost
+  abbrev pub IsLostOf : Parts → UnclosedParts N own table → Type 0
+  IsLostOf made (parts.Running same why) = ⊥
+  IsLostOf made (parts.Lost place lost) = AreLost made.policy place lost × (lost ≡ made)
 
 module _ {N : _} {own : _} {table : _} (policy : Policy) where
   -- the first, where memory is there: a segment before a worker

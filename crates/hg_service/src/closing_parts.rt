@@ -2,14 +2,16 @@
 
 ghost use Rattle.std.specs.Prelude.{◌≡◌, length, replicate, IfOk, IfErr, IfSome, IfNone};
 ghost use Rattle.std.specs.List.{list_any};
+ghost use Rattle.hg_agreement.specs.Parts.{kept_of};
+ghost use Rattle.hg_audit.specs.Handed.{parts_in};
 ghost use Rattle.hg_close.specs.Closed.{IsQuiet};
-ghost use Rattle.hg_close.specs.Rooms.{IsUnfilled};
+ghost use Rattle.hg_close.specs.Rooms.{IsFilled, IsUnfilled};
 ghost use Rattle.hg_remote.specs.Remote.{nothing_sent};
 ghost use Rattle.hg_worker.specs.Missing.{HasAll};
 ghost use Rattle.hg_worker.specs.Seats.{number_in};
 ghost use Rattle.hg_service.specs.Back.{AreBack, IsFirstOut, is_back};
 ghost use Rattle.hg_service.specs.GivenBack.{AreListsOf, IsMadeOfParts};
-ghost use Rattle.hg_service.specs.Unclosed.{IsFault, AreUnclosed};
+ghost use Rattle.hg_service.specs.Unclosed.{IsFault, IsLostOf, AreUnclosed};
 
 use crate::caller_locked::CallerLocked;
 use crate::unclosed::UnclosedParts;
@@ -30,6 +32,19 @@ fn one_is_back<N: ServiceName>(workers: &[Worker<N>], number: u8) -> bool
     ensures { result ≡ list_any (is_back number) workers.now }
 {
     workers.iter().any(|worker| is_back(worker, number))
+}
+
+/// The core of what has come, or the place that is lost with the parts of a core.
+fn core_of<N: ServiceName>(room: CloseRoom) -> Result<Core, UnclosedParts<N>>
+    requires { IsFilled room }
+    ensures core { IfOk result (λ core. core ≡ kept_of (parts_in room.parts)) }
+    ensures quiet { IfOk result (IsQuiet room.parts.policy) }
+    ensures lost { IfErr result (IsLostOf room.parts) }
+{
+    match room.into_core() {
+        Ok(core) => Ok(core),
+        Err((place, lost)) => Err(UnclosedParts::Lost(place, lost)),
+    }
 }
 
 impl<N: ServiceName> CallerLocked<N> {
@@ -60,10 +75,7 @@ impl<N: ServiceName> CallerLocked<N> {
         }
         parts.give_lists(&mut room);
         room.take_segments(&mut parts.pool);
-        match room.into_core() {
-            Ok(core) => Ok(core),
-            Err((place, lost)) => Err(UnclosedParts::Lost(place, lost)),
-        }
+        core_of(room)
     }
 
     /// Why they can't close, if memory is there.

@@ -1,4 +1,4 @@
-use Rattle.std.proofs.Common.{◌≡◌, ◌+◌, ◌<◌, ◌∙◌, ap, arith, drop, get_or, length, set, subst}
+use Rattle.std.proofs.Common.{◌+◌, ◌<◌, ◌∙◌, ap, arith, drop, length, set, subst}
 use Rattle.std.proofs.Common.{sym, take}
 use Rattle.hg_close.specs.Rooms.{IsUnfilled}
 use Rattle.hg_close.specs.declared.room.CloseRoom.{CloseRoom}
