@@ -20,9 +20,9 @@ unproved() {
     guard
     scratch=$(mktemp -d)
     case ${1-}/$# in
-        check/2)
+        check/2 | show/2)
             lend policy "$2"
-            set -- check policy
+            set -- "$1" policy
             ;;
         replay/3)
             lend policy "$2"

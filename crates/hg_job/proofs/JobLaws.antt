@@ -8,22 +8,29 @@ use Rattle.clap.specs.declared.error.kind.ErrorKind.TheVariants as kind
 use Rattle.hg_job.specs.CommandLine.{heapguard}
 use Rattle.hg_job.specs.Jobs.{IsDecimal, IsNumber, RefusedBy}
 use Rattle.hg_job.specs.JobLaws.{WordsAreJobs, RequestsArePrinted, IsPrinted, IsTold}
-use Rattle.hg_job.specs.declared.job.Job.TheVariants.{Joined, Check, Replay, Race, Test}
+use Rattle.hg_job.specs.declared.job.Job.TheVariants.{Joined, Check, Replay, Race, Test, Show}
 use Rattle.hg_job.specs.declared.job.JobFault.{JobFault}
 use Rattle.hg_job.specs.declared.job.JobFault.TheVariants.{Print, Line, Memory}
 
 is_1000 : IsDecimal (codes "1000")
 is_1000 = ((omega arith, (omega arith, (omega arith, (omega arith, (omega arith, tt))))), omega arith)
 
+race_is_no_show : codes "race" ≡ codes "show" → ⊥
+race_is_no_show e = let first : 114 ≡ 115 = ap (λ text. slice_index text 0) e in omega (arith, first)
+
+test_is_no_show : codes "test" ≡ codes "show" → ⊥
+test_is_no_show e = let first : 116 ≡ 115 = ap (λ text. slice_index text 0) e in omega (arith, first)
+
 test_is_no_race : codes "test" ≡ codes "race" → ⊥
 test_is_no_race e = let first : 116 ≡ 114 = ap (λ text. slice_index text 0) e in omega (arith, first)
 
 pub words_are_jobs : WordsAreJobs
 unfolding walked
-words_are_jobs Joined = ((λ e. e), (λ h. h), (λ h. h), (λ h. h), (λ h. h))
+words_are_jobs Joined = ((λ e. e), (λ h. h), (λ h. h), (λ h. h), (λ h. h), (λ h. h))
 words_are_jobs (Check policy) = (
   (λ e. e),
   (λ h. h.1),
+  (λ h. let e = h.0 in absurd (cc)),
   (λ h. let e = h.0 in absurd (cc)),
   (λ h. let e = h.0 in absurd (cc)),
   (λ h. let e = h.0 in absurd (cc)),
@@ -34,6 +41,7 @@ words_are_jobs (Replay policy trace) = (
   (λ h. (h.1, h.2)),
   (λ h. let e = h.0 in absurd (cc)),
   (λ h. let e = h.0 in absurd (cc)),
+  (λ h. let e = h.0 in absurd (cc)),
 )
 words_are_jobs (Race policy rounds) = (
   (λ e. e),
@@ -41,6 +49,7 @@ words_are_jobs (Race policy rounds) = (
   (λ h. let e = h.0 in absurd (cc)),
   (λ h. let read : IsNumber (Some (codes "1000")) rounds = h.2 in (h.1, read.0 is_1000)),
   (λ h. absurd (test_is_no_race h.0)),
+  (λ h. absurd (race_is_no_show (sym h.0))),
 )
 words_are_jobs (Test policy traces) = (
   (λ e. e),
@@ -48,6 +57,15 @@ words_are_jobs (Test policy traces) = (
   (λ h. let e = h.0 in absurd (cc)),
   (λ h. absurd (test_is_no_race (sym h.0))),
   (λ h. (h.1, h.2)),
+  (λ h. absurd (test_is_no_show (sym h.0))),
+)
+words_are_jobs (Show policy) = (
+  (λ e. e),
+  (λ h. let e = h.0 in absurd (cc)),
+  (λ h. let e = h.0 in absurd (cc)),
+  (λ h. absurd (race_is_no_show h.0)),
+  (λ h. absurd (test_is_no_show h.0)),
+  (λ h. h.1),
 )
 
 -- where a request is all that the words may be refused for

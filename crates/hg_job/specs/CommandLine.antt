@@ -36,6 +36,9 @@ test =
     with_rule (with_rule (new_app (codes "test")) (required (codes "POLICY")))
     (several (codes "TRACE"))
 
+abbrev pub show : App
+show = with_rule (new_app (codes "show")) (required (codes "POLICY"))
+
 -- the program alone: its words come without its own name, and help and the version are asked for by
 -- flags
 abbrev pub alone : App
@@ -47,12 +50,16 @@ alone = record (new_app (codes "heapguard")) {
   };
 }
 
--- the program with the commands that read a policy or a trace once, and with all its commands
+-- the program with the commands that read a policy or a trace once, with those that run traces and
+-- races too, and with all its commands
 abbrev pub reader : App
 reader = with_subcommand (with_subcommand alone check.top) replay.top
 
+abbrev pub runner : App
+runner = with_subcommand (with_subcommand reader race.top) test.top
+
 abbrev pub heapguard : App
-heapguard = with_subcommand (with_subcommand reader race.top) test.top
+heapguard = with_subcommand runner show.top
 
 -- the names of the commands
 abbrev pub command_names : List Text

@@ -4,7 +4,7 @@ use Rattle.clap.specs.Words.{Text, subcommand_of, fault_of}
 use Rattle.hg_job.specs.CommandLine.{heapguard}
 use Rattle.hg_job.specs.Jobs.{IsJobAt, RefusedBy}
 use Rattle.hg_job.specs.declared.job.Job.{Job}
-use Rattle.hg_job.specs.declared.job.Job.TheVariants.{Joined, Check, Replay, Race, Test}
+use Rattle.hg_job.specs.declared.job.Job.TheVariants.{Joined, Check, Replay, Race, Test, Show}
 use Rattle.hg_job.specs.declared.job.JobFault.{JobFault}
 use Rattle.hg_job.specs.declared.job.JobFault.TheVariants.{Print, Line}
 
@@ -29,6 +29,11 @@ IsTestOf file files (Test policy traces) =
     (policy.now ≡ file) × (map (λ trace. trace.now) traces.items ≡ files)
 IsTestOf file files _ = ⊥
 
+-- the policy of this file is to be shown
+abbrev pub IsShowOf : Text → Job → Type 0
+IsShowOf file (Show policy) = policy.now ≡ file
+IsShowOf file _ = ⊥
+
 -- where there are no words, and where these words are given, this and no other job is asked for
 abbrev pub WordsAreJobs : Type 0
 WordsAreJobs =
@@ -43,6 +48,8 @@ WordsAreJobs =
     × (IsJobAt
     (subcommand_of heapguard (codes "test" ∷ codes "p" ∷ codes "t" ∷ codes "u" ∷ [])) job
     → IsTestOf (codes "p") (codes "t" ∷ codes "u" ∷ []) job)
+    × (IsJobAt (subcommand_of heapguard (codes "show" ∷ codes "p" ∷ [])) job
+    → IsShowOf (codes "p") job)
 
 -- a text to print, or want of memory
 abbrev pub IsPrinted : JobFault → Type 0

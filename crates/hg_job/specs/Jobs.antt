@@ -8,7 +8,7 @@ use Rattle.clap.specs.declared.error.kind.ErrorKind.{ErrorKind}
 use Rattle.clap.specs.declared.error.kind.ErrorKind.TheVariants as kind
 use Rattle.hg_job.specs.CommandLine.{heapguard, command_names}
 use Rattle.hg_job.specs.declared.job.Job.{Job}
-use Rattle.hg_job.specs.declared.job.Job.TheVariants.{Joined, Check, Replay, Race, Test}
+use Rattle.hg_job.specs.declared.job.Job.TheVariants.{Joined, Check, Replay, Race, Test, Show}
 use Rattle.hg_job.specs.declared.job.JobFault.{JobFault}
 use Rattle.hg_job.specs.declared.job.JobFault.TheVariants.{Print, Line, Memory}
 
@@ -47,6 +47,8 @@ IsJobOf name rows (Race policy rounds) =
 IsJobOf name rows (Test policy traces) =
     (name ≡ codes "test") × (policy.now ≡ operand (codes "POLICY") rows)
     × (map (λ trace. trace.now) traces.items ≡ operands (codes "TRACE") rows)
+IsJobOf name rows (Show policy) =
+    (name ≡ codes "show") × (policy.now ≡ operand (codes "POLICY") rows)
 
 -- the job of the command that was entered, if any was
 abbrev pub IsJobAt : Option (Text × List Row) → Job → Type 0

@@ -3,7 +3,7 @@ ghost use Rattle.std.specs.Prelude.{◌≡◌, codes, false, IfOk};
 ghost use Rattle.clap.specs.Words.{app_of, rule_of};
 ghost use Rattle.clap.specs.declared.builder.command.Command.TheViews.{out-Command};
 ghost use Rattle.hg_job.specs.CommandLine.{alone, check, counted, heapguard, race, reader};
-ghost use Rattle.hg_job.specs.CommandLine.{replay, required, several, test};
+ghost use Rattle.hg_job.specs.CommandLine.{replay, required, runner, several, show, test};
 
 use clap::{Arg, Command, value_parser};
 use std::alloc::{AllocError, Global};
@@ -14,8 +14,7 @@ const ABOUT: &str =
     "Replays traces of a memory service that several tenants share under a written policy.";
 
 const MORE: &str = "\
-Without a command the policy, a line `---` and the trace are read from standard input, and
-answered as by `replay`. No file or input may be longer than 16777216 bytes.
+Alone it replays standard input: a policy, a line `---`, a trace. No file above 16777216 bytes.
 
 Exit status:
   0  done
@@ -78,6 +77,20 @@ Exit status:
   3  reading or writing failed, or memory was refused
   4  the command line is wrong
   5  some answer differs";
+
+const SHOW_ABOUT: &str = "Prints what a policy says";
+
+const SHOW_MORE: &str = "\
+Prints how many workers and generations there are; of each tenant its limit and the arenas
+that it may be in; of each arena its segments and the tenants that it admits; and in a row
+for each tenant what it may do with the blocks of each: `-` isn't granted, `!` is denied.
+Then it warns of each tenant and arena that can't be of use.
+
+Exit status:
+  0  the policy has no fault
+  1  the policy has a fault, told in one line on standard error
+  3  reading or writing failed, or memory was refused
+  4  the command line is wrong";
 
 /// An operand that has to be there.
 fn operand<'a>(alloc: Global, name: &'a str, help: &'a str) -> Arg<'a>
@@ -164,6 +177,16 @@ fn test_command<'a>(alloc: Global) -> Result<Command<'a>, AllocError>
         .arg(traces(alloc))
 }
 
+fn show_command<'a>(alloc: Global) -> Result<Command<'a>, AllocError>
+    ensures app { IfOk result (λ c. app_of c ≡ show) }
+    ensures local { IfOk result (λ c. (out-Command c).has_globals ≡ false) }
+{
+    Command::new(alloc, "show")
+        .about(SHOW_ABOUT)
+        .after_help(SHOW_MORE)
+        .arg(policy(alloc))
+}
+
 /// The program with no command yet.
 fn program<'a>(alloc: Global) -> Result<Command<'a>, AllocError>
     ensures { IfOk result (λ c. app_of c ≡ alone) }
@@ -186,11 +209,19 @@ fn reader<'a>(alloc: Global) -> Result<Command<'a>, AllocError>
     program(alloc)?.subcommand(check)?.subcommand(replay)
 }
 
-/// The program's command line.
-pub(crate) fn command<'a>(alloc: Global) -> Result<Command<'a>, AllocError>
-    ensures { IfOk result (λ c. app_of c ≡ heapguard) }
+/// The same, with the commands that run traces and races.
+fn runner<'a>(alloc: Global) -> Result<Command<'a>, AllocError>
+    ensures { IfOk result (λ c. app_of c ≡ runner) }
 {
     let race = race_command(alloc)?;
     let test = test_command(alloc)?;
     reader(alloc)?.subcommand(race)?.subcommand(test)
+}
+
+/// The program's command line.
+pub(crate) fn command<'a>(alloc: Global) -> Result<Command<'a>, AllocError>
+    ensures { IfOk result (λ c. app_of c ≡ heapguard) }
+{
+    let show = show_command(alloc)?;
+    runner(alloc)?.subcommand(show)
 }

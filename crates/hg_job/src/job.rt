@@ -26,6 +26,8 @@ pub enum Job<'a> {
     /// Compare the answers to the traces of these files under the policy of the first file with
     /// those that they state.
     Test(&'a str, Vec<&'a str>),
+    /// Print what the policy of this file says.
+    Show(&'a str),
 }
 
 /// Why there is nothing to do.

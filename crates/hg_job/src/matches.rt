@@ -60,6 +60,7 @@ fn job_named<'a>(alloc: Global, name: &str, matches: &ArgMatches<'a>) -> Result<
             let traces = operands_in(alloc, matches, "TRACE")?;
             Ok(Job::Test(policy, traces))
         }
+        "show" => Ok(Job::Show(policy)),
         _ => unreachable!(),
     }
 }

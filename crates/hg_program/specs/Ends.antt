@@ -13,6 +13,7 @@ use Rattle.hg_replay.specs.declared.run.status.Status.TheVariants as status
 use Rattle.hg_race.specs.Races.{EndsRace}
 use Rattle.hg_expect.specs.Tests.{EndsTests}
 use Rattle.hg_expect.specs.declared.source.Source.{Source}
+use Rattle.hg_program.specs.ShowEnds.{EndsShow}
 use Rattle.hg_job.specs.Jobs.{IsAnswerTo}
 use Rattle.hg_job.specs.declared.job.Job.{Job}
 use Rattle.hg_job.specs.declared.job.Job.TheVariants as job
@@ -59,6 +60,11 @@ EndsOnTests holds file names ended old new =
     ⊎ ((policy : List ℕ) × (sources : List Source) × IsOf (holds file) policy
     × AreOf holds names sources × EndsTests ended policy sources old new)
 
+-- the file is not read, or what its bytes say is shown so
+abbrev pub EndsOnShow : Option (List ℕ) → Status → Seen → Seen → Type 0
+EndsOnShow held ended old new =
+    ReadsNone ended old new ⊎ ((bytes : List ℕ) × IsOf held bytes × EndsShow ended bytes old new)
+
 -- a job ends so, where these are what the file of a path holds and what the input has left
 abbrev pub EndsJob
     : (List ℕ → Option (List ℕ)) → Option (List ℕ) → Job → Status → Seen → Seen → Type 0
@@ -70,6 +76,7 @@ EndsJob holds input (job.Race policy rounds) ended old new =
     EndsOnRace (holds policy.now) rounds ended old new
 EndsJob holds input (job.Test policy traces) ended old new =
     EndsOnTests holds policy.now (map (λ trace. trace.now) traces.items) ended old new
+EndsJob holds input (job.Show policy) ended old new = EndsOnShow (holds policy.now) ended old new
 
 -- the text is written, or its writing stopped
 abbrev pub Tries : Seen → Seen → List ℕ → Type 0

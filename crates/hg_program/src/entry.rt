@@ -11,6 +11,7 @@ ghost use Rattle.hg_program.specs.Ends.{EndsJob, EndsProgram, EndsWordless};
 use crate::files::{check_file, race_file, replay_files, test_files};
 use crate::host::Host;
 use crate::refusal::{fails, refuse};
+use crate::showing::show_file;
 use hg_job::{Job, job_of};
 use hg_replay::{ReadFault, Sink, Status, run_joined};
 use std::alloc::{AllocError, Global};
@@ -62,6 +63,7 @@ fn do_job<T: Threads + Wait, H: Host, R: Read, W: Sink, E: Write>(
         Job::Test(policy, traces) => {
             test_files(alloc, host, policy, traces.as_slice(), out, err)
         }
+        Job::Show(policy) => show_file(alloc, host, policy, out, err),
     }
 }
 

@@ -6,6 +6,7 @@ mod files;
 mod host;
 pub mod laws;
 mod refusal;
+mod showing;
 
 pub use entry::{program, start};
 pub use host::Host;

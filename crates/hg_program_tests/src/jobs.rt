@@ -18,6 +18,7 @@ fn job_told<'a>(job: &Job<'a>) -> Told<'a> {
             let first = traces.first().map_or("", |trace| *trace);
             ("test", policy, first, traces.len().min(99) as u32)
         }
+        Job::Show(policy) => ("show", policy, "", 0),
     }
 }
 
@@ -79,7 +80,7 @@ fn tells(rt: &impl Abort, alloc: Global, words: &[&str], parts: &[&str]) {
 }
 
 /// Command lines that are refused by a line.
-static NO_JOBS: [&str; 19] = [
+static NO_JOBS: [&str; 21] = [
     "check",
     "check p q",
     "check -p",
@@ -93,6 +94,8 @@ static NO_JOBS: [&str; 19] = [
     "race p 1 2",
     "test p",
     "test p t --u",
+    "show",
+    "show p q",
     "jump",
     "Check p",
     "--jump",
@@ -112,7 +115,7 @@ static HELPS: [&str; 6] = [
 ];
 
 /// Command lines that come to a job.
-static JOBS: [(&[&str], Told<'static>); 12] = [
+static JOBS: [(&[&str], Told<'static>); 13] = [
     (&[], ("joined", "", "", 0)),
     (&["check", "p"], ("check", "p", "", 0)),
     (&["check", "--", "-p"], ("check", "-p", "", 0)),
@@ -128,6 +131,7 @@ static JOBS: [(&[&str], Told<'static>); 12] = [
     (&["test", "p", "t"], ("test", "p", "t", 1)),
     (&["test", "p", "t", "u", "t"], ("test", "p", "t", 3)),
     (&["test", "--", "-p", "-t"], ("test", "-p", "-t", 1)),
+    (&["show", "p"], ("show", "p", "", 0)),
 ];
 
 #[test]
@@ -145,13 +149,14 @@ fn job_words(rt: HostRuntime) {
 }
 
 /// Parts of the program's help.
-static HELP: [&str; 16] = [
+static HELP: [&str; 17] = [
     "out\nReplays traces",
     "\nUsage: heapguard [COMMAND]\n",
     "\n  check   ",
     "\n  replay  ",
     "\n  race    ",
     "\n  test    ",
+    "\n  show    ",
     "standard input",
     "`---`",
     "16777216 bytes",
@@ -227,12 +232,24 @@ static HELP_OF_TEST: [&str; 12] = [
     "\n  5  ",
 ];
 
+static HELP_OF_SHOW: [&str; 8] = [
+    "out\nPrints what a policy says",
+    "\nUsage: heapguard show <POLICY>\n",
+    "\n  <POLICY>  ",
+    "\nExit status:\n",
+    "\n  0  ",
+    "\n  1  ",
+    "\n  3  ",
+    "\n  4  ",
+];
+
 #[test]
 fn help_of_each_command(rt: HostRuntime) {
     tells(&rt, rt.alloc(), &["check", "--help"], &HELP_OF_CHECK);
     tells(&rt, rt.alloc(), &["replay", "--help"], &HELP_OF_REPLAY);
     tells(&rt, rt.alloc(), &["race", "--help"], &HELP_OF_RACE);
     tells(&rt, rt.alloc(), &["test", "--help"], &HELP_OF_TEST);
+    tells(&rt, rt.alloc(), &["show", "--help"], &HELP_OF_SHOW);
 }
 
 #[test]

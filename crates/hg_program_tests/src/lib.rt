@@ -10,3 +10,5 @@ mod files;
 mod jobs;
 #[cfg(test)]
 mod races;
+#[cfg(test)]
+mod shows;
