@@ -8,3 +8,4 @@ pub mod AskedLemmas
 pub mod CountedLemmas
 pub mod Searches
 pub mod PlacingLemmas
+pub mod LawLemmas

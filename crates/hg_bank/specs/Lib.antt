@@ -8,3 +8,4 @@ pub mod Kept
 pub mod Choosing
 pub mod Answers
 pub mod Charges
+pub mod Laws

@@ -4,6 +4,7 @@
 
 mod allocating;
 mod bank;
+pub mod laws;
 mod naming;
 mod opening;
 mod refilling;
