@@ -1,0 +1,11 @@
+pub mod ChargeLemmas
+pub mod SumLemmas
+pub mod BankLemmas
+pub mod OpeningLemmas
+pub mod CallLemmas
+pub mod AllocLemmas
+pub mod AskedLemmas
+pub mod CountedLemmas
+pub mod Searches
+pub mod PlacingLemmas
+pub mod LawLemmas

@@ -1,0 +1,59 @@
+use Rattle.std.proofs.Common.{refl, arith}
+use Rattle.std.specs.Vec.{with_item}
+use Rattle.hg_core.specs.Answers.{abandon_answer}
+use Rattle.hg_machine.specs.declared.Event.TheVariants as Event
+use Rattle.hg_bank.proofs.CallLemmas.{IsAfter, found, inside_worker, covered, row_small}
+use Rattle.hg_bank.proofs.CallLemmas.{counted_call}
+use Rattle.hg_bank.proofs.ChargeLemmas.{charge_small}
+use Rattle.hg_bank.proofs.bank.Bank.abandon.Goals as goal
+
+pub index_mut-row-requires : goal.index_mut-row-requires
+index_mut-row-requires c =
+    let f = found c.self.invariant c.self.view_is c.index_mut-core.ensures.value
+    (omega (arith, c.self.inside.cores.ok.0)) c.requires.worker in
+    let inside = inside_worker f in
+    omega (arith, c.self.invariant.sums.workers, c.self.inside.sums.ok.0)
+
+pub withdraw-requires-clause-covered : goal.withdraw-requires-clause-covered
+withdraw-requires-clause-covered c tenant less =
+    let f = found c.self.invariant c.self.view_is c.index_mut-core.ensures.value
+    (omega (arith, c.self.inside.cores.ok.0)) c.requires.worker in
+    covered f c.from-3.result c.index_mut-row.result.now c.from-3.ensures
+    c.index_mut-row.ensures.value tenant (omega arith)
+
+pub deposit-requires-clause-room : goal.deposit-requires-clause-room
+deposit-requires-clause-room c tenant less =
+    let f = found c.self.invariant c.self.view_is c.index_mut-core.ensures.value
+    (omega (arith, c.self.inside.cores.ok.0)) c.requires.worker in
+    let few = row_small f c.from-3.result c.index_mut-row.result.now c.from-3.ensures
+    c.index_mut-row.ensures.value tenant (omega arith) in
+    let out = c.withdraw.ensures tenant less in
+    let more = charge_small c.abandon-given_up.new.self.state c.args.worker tenant
+    c.abandon-given_up.ensures.kept.0 in
+    omega arith
+
+after : (c : goal.After-self-2-1) → IsAfter c.args.self.now c.args.worker c.args.segment.core
+    (Event.Abandon c.args.segment.segment) (abandon_answer c.abandon-given_up.result)
+    (record c.self.inside {
+      cores = with_item c.self.inside.cores c.from-2.result c.abandon-given_up.new.self;
+      sums = with_item c.self.inside.sums c.from-3.result c.deposit.new.row;
+    })
+after c =
+    counted_call
+    (found c.self.invariant c.self.view_is c.index_mut-core.ensures.value
+    (omega (arith, c.self.inside.cores.ok.0)) c.requires.worker)
+    (record { step = c.abandon-given_up.ensures.chosen; kept = c.abandon-given_up.ensures.kept })
+    c.args.segment.core c.from-3.result c.index_mut-row.result.now c.withdraw.new.row
+    c.deposit.new.row
+    refl c.from-2.ensures c.from-3.ensures c.index_mut-row.ensures.value
+    (λ tenant less. c.withdraw.ensures tenant (omega arith))
+    (λ tenant less. c.deposit.ensures tenant (omega arith))
+
+pub invariant_of-self : goal.invariant_of-self
+invariant_of-self c = (after c).kept
+
+pub returns-clause-step : goal.returns-clause-step
+returns-clause-step c = (after c).step
+
+pub returns-clause-kept : goal.returns-clause-kept
+returns-clause-kept c = (after c).kept.sound

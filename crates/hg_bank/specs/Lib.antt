@@ -1,0 +1,11 @@
+pub mod State
+pub mod Order
+pub mod Requests
+pub mod Steps
+pub mod Sound
+pub mod Opening
+pub mod Kept
+pub mod Choosing
+pub mod Answers
+pub mod Charges
+pub mod Laws

@@ -1,0 +1,31 @@
+-- What a bank opens with, and how it grows.
+use Rattle.std.specs.Prelude.{ℕ, [], ◌∷◌, ◌++◌, replicate}
+use Rattle.hg_core.specs.Opening.{opened}
+use Rattle.hg_machine.specs.Lists.{IsPartition}
+use Rattle.hg_machine.specs.Policy.{Policy}
+use Rattle.hg_machine.specs.Soundness.{IsSound}
+use Rattle.hg_bank.specs.declared.bank.TheConstants.{ARENAS}
+use Rattle.hg_bank.specs.State.{BankState}
+
+-- a core of the policy that opens is sound, with lists that are a partition
+pub record IsOpenCore (p : Policy) : Type 0 where
+  pub sound : IsSound (opened p).state
+  pub lists : IsPartition (opened p)
+
+-- one core, which is the current one of each worker in each arena
+abbrev pub opened_bank : Policy → ℕ → BankState
+opened_bank policy room = record {
+  policy = policy;
+  room = room;
+  cores = opened policy ∷ [];
+  currents = replicate policy.workers (replicate ARENAS 0);
+}
+
+-- one more core, the last
+abbrev pub grown : BankState → BankState
+grown b = record {
+  policy = b.policy;
+  room = b.room;
+  cores = b.cores ++ opened b.policy ∷ [];
+  currents = b.currents;
+}

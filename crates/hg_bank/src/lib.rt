@@ -1,0 +1,13 @@
+//! A bank: many cores under one policy, as one service. Each call is a step of the bank's written
+//! machine, and the bank stays sound.
+#![tactic(auto)]
+
+mod allocating;
+mod bank;
+pub mod laws;
+mod naming;
+mod opening;
+mod refilling;
+mod sums;
+
+pub use bank::{Bank, BankHandle, BankSegment, MAX_CORES};
