@@ -1,17 +1,16 @@
 -- A Free changes the record of its place, and of the others nothing that a Look goes by.
-use Rattle.std.proofs.Common.{◌≡◌, ◌≢◌, ℕ, ◌+◌, ◌<◌, ◌≤◌, inl, inr, Bool, true, false, if◌then◌else◌, length, Option, Some, None, refl, sym, ap, subst, ◌∙◌, arith, ◌&&◌, is_none}
+use Rattle.std.proofs.Common.{◌≡◌, ◌≢◌, ℕ, ◌+◌, ◌≤◌, inl, inr, Bool, true, false, if◌then◌else◌, refl, sym, ap, subst, ◌∙◌, arith}
 use Rattle.std.proofs.lemmas.List.{length-set, get_or-set_other}
 use Rattle.hg_place.specs.declared.Actor.{Actor}
 use Rattle.hg_place.specs.declared.Handle.{Handle}
-use Rattle.hg_place.specs.declared.Right.TheVariants as right
-use Rattle.hg_place.specs.Places.{number_of, segment_of}
+use Rattle.hg_place.specs.Places.{number_of}
 use Rattle.hg_machine.specs.declared.Answer.{Answer}
 use Rattle.hg_machine.specs.declared.Answer.TheVariants as answer
 use Rattle.hg_machine.specs.declared.Event.TheVariants as event
 use Rattle.hg_machine.specs.Life.{Life, Record, home, never_used}
-use Rattle.hg_machine.specs.State.{State, record_at, with_record}
+use Rattle.hg_machine.specs.State.{State, record_at}
 use Rattle.hg_machine.specs.Holders.{holds}
-use Rattle.hg_machine.specs.Changes.{part, with_life, with_hand}
+use Rattle.hg_machine.specs.Changes.{part, with_life}
 use Rattle.hg_machine.specs.Listing.{is_listed, line_at}
 use Rattle.hg_machine.specs.Steps.{Step, successor}
 use Rattle.hg_machine.proofs.Cases.{step_cases}

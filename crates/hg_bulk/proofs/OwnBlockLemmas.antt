@@ -1,5 +1,5 @@
 -- What a Look by an owner tells of its own blocks.
-use Rattle.std.proofs.Common.{◌≡◌, ℕ, ◌+◌, ◌*◌, ◌<◌, ◌≤◌, ◌==◌, inl, inr, Bool, true, false, cond, not, List, [], ◌∷◌, ◌++◌, Option, Some, None, map, filter, is_none, max, refl, sym, ap, ◌∙◌, arith}
+use Rattle.std.proofs.Common.{◌≡◌, ℕ, ◌+◌, ◌*◌, ◌<◌, ◌==◌, inl, inr, Bool, true, false, cond, not, List, [], ◌∷◌, ◌++◌, Option, Some, None, map, filter, is_none, max, refl, sym, ap, ◌∙◌, arith}
 use Rattle.std.specs.List.{range_with_len}
 use Rattle.std.proofs.lemmas.Bool.{true≢false}
 use Rattle.std.proofs.lemmas.Option.{none-some}
@@ -24,7 +24,7 @@ use Rattle.hg_machine.specs.declared.Answer.TheVariants as answer
 use Rattle.hg_machine.proofs.Cases.{step_cases}
 use Rattle.hg_machine.proofs.Looks.{looks_are_listed}
 use Rattle.hg_bulk.specs.Later.{IsSameFrom}
-use Rattle.hg_bulk.specs.OwnBlocks.{own_lines, life_of, life_of_line, IsOwnBlock}
+use Rattle.hg_bulk.specs.OwnBlocks.{own_lines, life_of_line, IsOwnBlock}
 use Rattle.hg_bulk.proofs.Later.{listed_same, line_same}
 
 abbrev pub is_row : Answer → Bool

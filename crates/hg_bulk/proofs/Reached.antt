@@ -1,5 +1,5 @@
 -- A word that was read or written is one of a block, and a block has few words.
-use Rattle.std.proofs.Common.{◌≡◌, ℕ, ◌<◌, ◌≤◌, inl, inr, Bool, true, false, not, nat_lt, [], ◌∷◌, length, Option, Some, None, refl, sym, ap, ◌∙◌, arith}
+use Rattle.std.proofs.Common.{◌≡◌, ℕ, ◌<◌, inl, inr, Bool, true, false, not, nat_lt, [], ◌∷◌, length, Option, Some, None, refl, sym, ap, arith}
 use Rattle.std.proofs.lemmas.Bool.{not-false, ltb-true, true≢false}
 use Rattle.std.proofs.lemmas.Option.{none-some}
 use Rattle.hg_place.specs.declared.Actor.{Actor}

@@ -1,5 +1,5 @@
 -- Runs of Reads and of Writes go on by one word, or end.
-use Rattle.std.proofs.Common.{◌≡◌, ℕ, ◌+◌, ◌<◌, List, [], ◌∷◌, ◌++◌, length, take, set, get_or, map, replicate, refl, sym, ap, subst, ◌∙◌, arith, append-nil, add-zero}
+use Rattle.std.proofs.Common.{◌≡◌, ℕ, ◌+◌, ◌<◌, List, [], ◌∷◌, ◌++◌, length, take, set, get_or, map, replicate, refl, sym, ap, subst, ◌∙◌, append-nil, add-zero}
 use Rattle.std.proofs.lemmas.List.{map_push, take_more_set, replicate_more}
 use Rattle.hg_place.specs.declared.Actor.{Actor}
 use Rattle.hg_place.specs.declared.Handle.{Handle}

@@ -1,4 +1,4 @@
-use Rattle.std.proofs.Common.{◌≡◌, ◌≤◌}
+use Rattle.std.proofs.Common.{◌≤◌}
 use Rattle.std.specs.List.{range_with_len}
 use Rattle.hg_machine.specs.Lists.{IsPartition}
 use Rattle.hg_machine.specs.Soundness.{IsSound}

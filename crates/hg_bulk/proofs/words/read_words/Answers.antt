@@ -1,4 +1,4 @@
-use Rattle.std.proofs.Common.{◌≡◌, ◌+◌, ◌<◌, length, take, drop, map, sym, ap, ◌∙◌, arith}
+use Rattle.std.proofs.Common.{◌+◌, ◌<◌, length, take, drop, map, sym, ap, ◌∙◌, arith}
 use Rattle.std.proofs.lemmas.List.{length-set, drop-set-lt, drop-drop}
 use Rattle.hg_heap.specs.Answers.{refused_answer}
 use Rattle.hg_machine.specs.declared.Answer.TheVariants as answer
