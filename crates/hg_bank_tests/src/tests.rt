@@ -1,3 +1,0 @@
-mod asked;
-mod refused;
-mod worked;
