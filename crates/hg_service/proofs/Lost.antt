@@ -23,8 +23,7 @@ pub unclosed_as : {N : _} {own : _} {table : _} {policy : Policy} (given : Calle
     → IsLostOf made left → AreUnclosed policy given left
 unclosed_as given made (parts.Running same why) of all back over lists is = absurd is
 unclosed_as {policy = policy} given made (parts.Lost place lost) of all back over lists is =
-    let same = sym is.1 in
-    (
+    let same = sym is.1 in (
       subst (λ policy. AreLost policy place lost) of is.0,
       all,
       back,

@@ -60,13 +60,13 @@ returns-clause-back g c = IfOk-weaker c.core_of.result _ _
 pub returns-clause-unclosed : goal.returns-clause-unclosed
 returns-clause-unclosed g c = IfErr-weaker c.core_of.result _ _ (λ left is.
     unclosed_as c.args.self c.take_segments.new.self.parts left
-        (c.take_segments.ensures.policy ∙ c.give_lists.ensures.policy)
-        c.in_default-first_fault.ensures.pooled
-        c.in_default-first_fault.ensures.back
-        (subst (λ kept. AreOver number_in records_in kept.pool
-            c.take_segments.new.self.parts.pool) c.give_lists.ensures.pool
-            c.take_segments.ensures.over)
-        (subst (λ remotes. AreListsOf c.args.self.lists.items
-            (length g.N.ServiceName.policy.segments) remotes.items)
-            (sym c.take_segments.ensures.lists) c.give_lists.ensures.lists)
-        is) c.core_of.ensures.lost
+    (c.take_segments.ensures.policy ∙ c.give_lists.ensures.policy)
+    c.in_default-first_fault.ensures.pooled
+    c.in_default-first_fault.ensures.back
+    (subst (λ kept. AreOver number_in records_in kept.pool
+    c.take_segments.new.self.parts.pool) c.give_lists.ensures.pool
+    c.take_segments.ensures.over)
+    (subst (λ remotes. AreListsOf c.args.self.lists.items
+    (length g.N.ServiceName.policy.segments) remotes.items)
+    (sym c.take_segments.ensures.lists) c.give_lists.ensures.lists)
+    is) c.core_of.ensures.lost
