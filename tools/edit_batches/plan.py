@@ -8,6 +8,7 @@ misses, as a call that an edit gives another type, the verdict tells.
 """
 
 import collections
+import functools
 import itertools
 import os
 import re
@@ -153,7 +154,14 @@ class Edit:
             self.function is not other.function
             and self.known not in other.reached
             and other.known not in self.reached
+            and (self.file != other.file or are_apart(*sorted((self, other), key=id)))
         )
+
+
+@functools.lru_cache(maxsize=None)
+def are_apart(one, other):
+    """Whether each of two edits of a file can be made where the other is."""
+    return texts_of([one, other]) is not None and texts_of([other, one]) is not None
 
 
 def batches_of(edits):

@@ -19,7 +19,7 @@ OWN_GOALS = re.compile(
 WAITS = re.compile(
     r"(?:not proved|no proof)[:;].* it (?:calls|passes the block|waits for the proof of) "
 )
-OPEN = "it is not proved that"
+OPEN = ("it is not proved that", "`search` found no proof")
 # What a proof file says of a name that an edit took away: it says little of the contract.
 GONE = re.compile(r"has no field|is not in scope|has no `|is no name")
 # How a check ends that was told which functions to prove: how many those are with all that they
@@ -79,7 +79,7 @@ class Failed:
         # What cites an unproved part says so: that part may be another function's.
         if any("was not admitted" in what for _, _, what in own):
             return False, "its function cites what isn't proved"
-        goals = [it for it in own if it[2].startswith(("error: ", OPEN))]
+        goals = [it for it in own if it[2].startswith(("error: ", *OPEN))]
         goals = [it for it in goals if not GONE.search(it[2])]
         if not goals:
             return False, "no goal of its function is told, but for a name that is gone"
@@ -102,7 +102,7 @@ def why_none(said, failed, texts, known):
         if name not in edited and state != "proved" and not WAITS.match(state):
             return f"its batch also says '{kind} {name}: {state[:60]}'"
     for place in said.places:
-        if place[2].startswith(("error", OPEN)) and not any(it.holds(place) for it in failed):
+        if place[2].startswith(("error", *OPEN)) and not any(it.holds(place) for it in failed):
             return f"its batch also has an error or an open goal in {place[0]}"
     return None
 
