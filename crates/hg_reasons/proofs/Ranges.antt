@@ -1,5 +1,6 @@
 -- The numbers that are left.
-use Rattle.std.proofs.Common.{◌≡◌, ℕ, ◌+◌, ◌-◌, ◌<◌, Bool, true, false, List, [], ◌∷◌, count_by, refl, ap, ◌∙◌, suc, arith}
+use Rattle.std.proofs.Common.{◌≡◌, ℕ, ◌+◌, ◌-◌, ◌<◌, Bool, cond, List, [], ◌∷◌, count_by, ap, ◌∙◌, suc, arith}
+use Rattle.std.proofs.lemmas.List.Sums.{sum_by-cons}
 use Rattle.std.specs.List.{range_with_len}
 
 -- the first of those that are left, and the others
@@ -7,11 +8,11 @@ pub range_more : (a n : ℕ) → a < n → range_with_len a (n - a) ≡ a ∷ ra
 range_more a n below = let e : n - a ≡ suc (n - (a + 1)) = omega arith in ap (range_with_len a) e
 
 count_one : (p : ℕ → Bool) (x : ℕ) (xs : List ℕ) → count_by p (x ∷ xs) ≡ count_by p (x ∷ []) + count_by p xs
-count_one p x xs = by_case (p x) refl
-  where
-    by_case : (b : Bool) → p x ≡ b → count_by p (x ∷ xs) ≡ count_by p (x ∷ []) + count_by p xs
-    by_case true e = rw e (omega arith)
-    by_case false e = rw e (omega arith)
+count_one p x xs =
+    let f : ℕ → ℕ = λ y. cond (p y) 1 0 in
+    let all = sum_by-cons f x xs in
+    let one = sum_by-cons f x [] in
+    omega (arith, all, one)
 
 -- how many of those that are left pass: the first, where it does, and how many of the others
 pub count_left : (p : ℕ → Bool) (a n : ℕ) → a < n

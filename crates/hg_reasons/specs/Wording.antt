@@ -166,11 +166,14 @@ admits_text said arena =
     arena_text said.policy said.names arena ++ codes " admits" ++ admitted_text said.policy arena
 
 unfoldable pub left_text : Said → ℕ → List ℕ
-left_text said arena =
-    codes "each segment of " ++ arena_text said.policy said.names arena ++ codes " is held"
+left_text said arena = arena_text said.policy said.names arena ++ codes " has no segment left"
 
 unfoldable pub holds_text : ℕ → Option ℕ → List ℕ
 holds_text segment holder = holder_text holder ++ codes " holds segment " ++ decimal segment
+
+unfoldable pub no_segment_text : ℕ → List ℕ
+no_segment_text segment =
+    codes "segment " ++ decimal segment ++ codes " isn't in the policy"
 
 unfoldable pub freed_text : ℕ → List ℕ
 freed_text line = codes "line " ++ decimal line ++ codes " freed the block"
@@ -191,7 +194,7 @@ unserved_text bound =
 abbrev pub reason_text : Said → Reason → List ℕ
 reason_text said reason.NoTenant = codes "the policy has no tenant " ++ said.actor
 reason_text said reason.NoArena = codes "the policy has no arena " ++ said.arena
-reason_text said (reason.NoSegment segment) = codes "the policy has no segment " ++ decimal segment
+reason_text said (reason.NoSegment segment) = no_segment_text segment
 reason_text said (reason.Admits arena) = admits_text said arena
 reason_text said (reason.Limit charged) = limit_text said charged
 reason_text said (reason.Generation generation) = generation_text generation

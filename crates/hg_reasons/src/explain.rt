@@ -5,7 +5,7 @@ ghost use Rattle.std.specs.Prelude.{OnOk, option_map, vec_len, vec_capacity, if�
 ghost use Rattle.hg_labels.specs.Indexes.{texts};
 ghost use Rattle.hg_machine.specs.Policy.{Policy};
 ghost use Rattle.hg_trace.specs.Labels.{label_count};
-ghost use Rattle.hg_trace.specs.Stored.{line_in, lines_in, AreNumbered, IsNumbered};
+ghost use Rattle.hg_trace.specs.Stored.{command_in, line_in, lines_in, AreNumbered, IsNumbered};
 ghost use Rattle.hg_replay.specs.KnownNames.{meanings};
 ghost use Rattle.hg_replay.specs.Replays.{Answered, Progress, starting};
 ghost use Rattle.hg_replay.specs.StoredLabels.{binds};
@@ -13,9 +13,10 @@ ghost use Rattle.hg_replay.specs.Tellings.{IsTold};
 ghost use Rattle.hg_reasons.specs.Explaining.{beginning, line_text, reply_text, story_after};
 ghost use Rattle.hg_reasons.specs.Explaining.{text_of, texts_of, words_of, Explains};
 ghost use Rattle.hg_reasons.specs.Shown.{shown};
+ghost use Rattle.hg_reasons.specs.Wording.{reason_text, said_by};
 
 use crate::past::Past;
-use crate::reason::reason_of;
+use crate::reason::{Reason, reason_of};
 use crate::wording::{Said, push, push_count};
 use hg_core::Core;
 use hg_policy::Policy;
@@ -104,6 +105,38 @@ fn push_reply(out: &mut Vec<u8>, reply: &[u8], reason: Option<Vec<u8>>) -> Resul
     }
 }
 
+/// Appends a line with its number, and its answer with its reason, if it has one.
+fn push_told(
+    out: &mut Vec<u8>,
+    number: u32,
+    text: &[u8],
+    reply: &[u8],
+    reason: Option<Vec<u8>>,
+) -> Result<(), AllocError>
+    ensures { OnOk result (out.new.items ≡ out.old.items ++ line_text number text.now
+        ++ reply_text reply.now (option_map (λ words. words.items) reason)) }
+{
+    push_line(out, number, text)?;
+    push_reply(out, reply, reason)
+}
+
+/// A reason for what a line came to, in words.
+fn in_words(
+    alloc: Global,
+    policy: &Policy,
+    names: &[&str],
+    line: &StoredLine,
+    reason: Reason,
+) -> Result<Vec<u8>, AllocError>
+    ensures { IfOk result (λ words. (labels : List (List ℕ)) → words.items
+        ≡ reason_text (said_by policy.now (texts names.now) line.now.worker
+        (command_in (texts names.now) labels line.now.command)) reason) }
+{
+    let mut words = Vec::new(alloc);
+    Said::by(policy, names, line).push_reason(&mut words, reason)?;
+    Ok(words)
+}
+
 /// The reason for what a line came to, in words, if it has one.
 fn words_of(
     alloc: Global,
@@ -117,12 +150,10 @@ fn words_of(
         → option_map (λ w. w.items) words ≡ words_of (texts names.now) core.now.state past.now
         (line_in (texts names.now) labels line.now) told) }
 {
-    let Some(reason) = reason_of(core, past, line, told) else {
-        return Ok(None);
-    };
-    let mut words = Vec::new(alloc);
-    Said::by(core.policy(), names, line).push_reason(&mut words, reason)?;
-    Ok(Some(words))
+    match reason_of(core, past, line, told) {
+        None => Ok(None),
+        Some(reason) => Ok(Some(in_words(alloc, core.policy(), names, line, reason)?)),
+    }
 }
 
 impl Story {
@@ -160,8 +191,7 @@ impl Story {
             (line_in (texts names.now) labels line.now) told text.now reply.now) }
     {
         let words = words_of(alloc, core, &self.past, names, line, told)?;
-        push_line(&mut self.text, line.number, text)?;
-        push_reply(&mut self.text, reply, words)?;
+        push_told(&mut self.text, line.number, text, reply, words)?;
         self.past.note(line, told)
     }
 }

@@ -2,22 +2,21 @@
 
 ghost use Rattle.std.specs.Prelude.{◌≡◌, ◌≤◌, ◌&&◌, ◌∷◌, ℕ, List, [], count_by};
 ghost use Rattle.hg_machine.specs.Holders.{holds, is_in_arena};
-ghost use Rattle.hg_machine.specs.Policy.{arena_of};
 ghost use Rattle.hg_trace.specs.Stored.{block_in, command_in};
-ghost use Rattle.hg_reasons.specs.Reasons.{alloc_reason, arena_reason, asked, block_bytes};
-ghost use Rattle.hg_reasons.specs.Reasons.{block_reason, denial_reason, elsewhere_reason};
-ghost use Rattle.hg_reasons.specs.Reasons.{event_reason, held_in, held_reason, holder_reason};
-ghost use Rattle.hg_reasons.specs.Reasons.{label_reason, large_reason, left_reason, limit_reason};
-ghost use Rattle.hg_reasons.specs.Reasons.{range_reason, reason_of, room_reason, segment_reason};
-ghost use Rattle.hg_reasons.specs.Reasons.{stale_reason, unbound_reason};
+ghost use Rattle.hg_reasons.specs.Reasons.{asked, elsewhere_reason, event_reason, held_in};
+ghost use Rattle.hg_reasons.specs.Reasons.{held_reason, holder_reason, label_reason, large_reason};
+ghost use Rattle.hg_reasons.specs.Reasons.{left_reason, range_reason, reason_of, room_reason};
+ghost use Rattle.hg_reasons.specs.Reasons.{unbound_reason};
+
+mod denials;
 
 use crate::past::{Bound, Past};
+use denials::{asked_by, block_bytes, denial_reason};
 use hg_core::Core;
-use hg_machine::{Answer, Event, Rule};
-use hg_place::{Actor, Place, Right, WORD_BYTES};
+use hg_machine::{Answer, Event};
+use hg_place::{Place, Right};
 use hg_policy::Policy;
 use hg_replay::Told;
-use hg_size::{block_words, class_of, words_of};
 use hg_trace::{StoredBlock, StoredCommand, StoredLine};
 
 /// Who asks for which right on the block of which place.
@@ -89,54 +88,6 @@ pub(crate) enum Reason {
     Unserved(Bound),
 }
 
-/// Who asks for which right on the block of which place, where an event asks for one.
-fn asked_by(event: Event) -> Option<Asked>
-    ensures { result ≡ asked event }
-{
-    let (actor, right, place) = match event {
-        Event::Free { actor, handle } => (actor, Right::Free, handle.place),
-        Event::Read { actor, handle, .. } => (actor, Right::Read, handle.place),
-        Event::Write { actor, handle, .. } => (actor, Right::Write, handle.place),
-        Event::Look { actor, place } => (actor, Right::List, place),
-        _ => return None,
-    };
-    Some(Asked {
-        actor: actor.0,
-        right,
-        place,
-    })
-}
-
-/// Whom an arena admits, if there is such an arena.
-fn arena_reason(policy: &Policy, arena: u8) -> Reason
-    ensures { result ≡ arena_reason policy.now arena }
-{
-    if arena < policy.arenas() {
-        return Reason::Admits(arena);
-    }
-    Reason::NoArena
-}
-
-/// Whom the arena of a segment admits, if there is such a segment.
-fn segment_reason(policy: &Policy, segment: u8) -> Reason
-    ensures { result ≡ segment_reason policy.now segment (arena_of policy.now segment) }
-{
-    match policy.arena_of(segment) {
-        Some(arena) => arena_reason(policy, arena),
-        None => Reason::NoSegment(segment),
-    }
-}
-
-/// Which generation a place of a segment is in, if there is such a segment.
-fn stale_reason(policy: &Policy, segment: u8, generation: u32) -> Reason
-    ensures { result ≡ stale_reason policy.now segment generation }
-{
-    match policy.arena_of(segment) {
-        Some(_) => Reason::Generation(generation),
-        None => Reason::NoSegment(segment),
-    }
-}
-
 /// Who holds a segment, if there is such a segment.
 fn holder_reason(core: &Core, segment: u8) -> Reason
     ensures { result ≡ holder_reason core.now.state segment }
@@ -147,88 +98,6 @@ fn holder_reason(core: &Core, segment: u8) -> Reason
             worker: core.holder(segment),
         },
         None => Reason::NoSegment(segment),
-    }
-}
-
-/// Why a right on a block is denied.
-fn block_reason(policy: &Policy, past: &Past, asked: Asked, rule: Rule) -> Option<Reason>
-    ensures { result ≡ block_reason policy.now past.now asked rule }
-{
-    let segment = asked.place.segment;
-    let life = past.life(asked.place);
-    let between = Between {
-        owner: life.owner,
-        actor: asked.actor,
-        right: asked.right,
-    };
-    match rule {
-        Rule::Stranger => Some(Reason::NoTenant),
-        Rule::Stale(generation) => Some(stale_reason(policy, segment, generation)),
-        Rule::AlreadyFreed => Some(Reason::Freed(life.freed)),
-        Rule::ForeignArena => Some(segment_reason(policy, segment)),
-        Rule::Forbidden => Some(Reason::Denies(between)),
-        Rule::NotGranted => Some(Reason::Lets(between)),
-        Rule::OverLimit => None,
-    }
-}
-
-/// How many bytes the block for a request has, 0 where no block has as many.
-fn block_bytes(bytes: u64) -> u64
-    ensures { result ≡ block_bytes bytes }
-{
-    match class_of(words_of(bytes)) {
-        Some(class) => WORD_BYTES as u64 * u64::from(block_words(class)),
-        None => 0,
-    }
-}
-
-/// What a tenant has of its limit with a worker, and what it asks for.
-fn limit_reason(core: &Core, worker: u8, tenant: u8, bytes: u64) -> Reason
-    ensures { result ≡ limit_reason core.now.state worker tenant bytes }
-{
-    Reason::Limit(Charged {
-        tenant,
-        charge: core.charge(worker, tenant),
-        limit: core.policy().limit(tenant).unwrap_or(0),
-        bytes,
-        block: block_bytes(bytes),
-    })
-}
-
-/// Why an allocation is denied.
-fn alloc_reason(
-    core: &Core,
-    worker: u8,
-    actor: Actor,
-    arena: u8,
-    bytes: u64,
-    rule: Rule,
-) -> Option<Reason>
-    ensures { result ≡ alloc_reason core.now.state worker actor.0 arena bytes rule }
-{
-    match rule {
-        Rule::Stranger => Some(Reason::NoTenant),
-        Rule::ForeignArena => Some(arena_reason(core.policy(), arena)),
-        Rule::OverLimit => Some(limit_reason(core, worker, actor.0, bytes)),
-        _ => None,
-    }
-}
-
-/// Why an event is denied.
-fn denial_reason(core: &Core, past: &Past, worker: u8, event: Event, rule: Rule) -> Option<Reason>
-    ensures { result ≡ denial_reason core.now.state past.now worker event rule }
-{
-    if let Event::Alloc {
-        actor,
-        arena,
-        bytes,
-    } = event
-    {
-        return alloc_reason(core, worker, actor, arena, bytes, rule);
-    }
-    match asked_by(event) {
-        Some(asked) => block_reason(core.policy(), past, asked, rule),
-        None => None,
     }
 }
 

@@ -94,7 +94,7 @@ elsewhere: worker 0 holds segment 0
 18: w1 take 0
 notheld: worker 0 holds segment 0
 19: w1 abandon 9
-notheld: the policy has no segment 9
+notheld: segment 9 isn't in the policy
 20: w1 deliver
 empty: worker 1 has nothing in hand
 21: w0 list alice
@@ -115,11 +115,11 @@ denied stale: no block was given out there
 28: w0 read alice @0.0.0.3 0
 denied stale: the place is in generation 1
 29: w0 free alice @9.0.0.1
-denied stale: the policy has no segment 9
+denied stale: segment 9 isn't in the policy
 30: w0 refill vault
 segment 2
 31: w1 refill vault
-nosegment: each segment of vault is held
+nosegment: vault has no segment left
 32: w1 refill nowhere
 nosegment: the policy has no arena nowhere
 33: w0 alloc alice vault 8 as z

@@ -3,11 +3,12 @@ use Rattle.std.specs.Prelude.{if◌then◌else◌}
 use Rattle.hg_trace.specs.Labels.{label_count}
 use Rattle.hg_trace.specs.Stored.{line_in, lines_in}
 use Rattle.hg_replay.specs.KnownNames.{meanings}
+use Rattle.hg_replay.specs.Replays.{Progress}
 use Rattle.hg_replay.specs.StoredLabels.{binds}
 use Rattle.hg_replay.proofs.GoingOn.{answered_keeps_policy}
 use Rattle.hg_replay.proofs.LinesSaid.{label_count_more, label_within, binds_said, said_within}
 use Rattle.hg_replay.proofs.LinesSaid.{said_here, numbered_here}
-use Rattle.hg_reasons.specs.Explaining.{story_after, text_of}
+use Rattle.hg_reasons.specs.Explaining.{story_after, text_of, Explained}
 use Rattle.hg_reasons.proofs.Explaining.{explains_next}
 use Rattle.hg_reasons.proofs.explain.explain.Goals as goal
 
@@ -59,7 +60,9 @@ loop-line-preserved c =
     ∙ ap (λ ns. story_after ns here core.state (line_in ns store.labels line) told c.text_of-text.result.now c.deref.result.now) c.names.ensures
     ∙ ap (λ t. story_after store.names here core.state says told t c.deref.result.now) c.text_of-text.ensures
     ∙ ap (λ r. story_after store.names here core.state says told (text_of texts line.number) r) c.deref.ensures.value in
-    let more = record { told = told; reply = reply; answered = answered; comes_to = comes_to; is = is } in
+    let now : Progress = record { kept = core; handles = c.told_by.new.ready.handles.items } in
+    let more : Explained store.names (text_of texts line.number) (record { kept = c.loop-line.ready.core; handles = c.loop-line.ready.handles.items }) here says now c.tell.new.self =
+    record { told = told; reply = reply; answered = answered; comes_to = comes_to; is = is } in
     record {
       policy = answered_keeps_policy _ _ says reply answered ∙ c.loop-line.invariant.policy;
       meant = c.told_by.ensures.meant ∙ c.loop-line.invariant.meant;

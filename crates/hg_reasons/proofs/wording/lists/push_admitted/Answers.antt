@@ -2,7 +2,7 @@ use Rattle.std.proofs.Common.{◌≡◌, ◌++◌, ◌+◌, ◌-◌, ◌<◌, le
 use Rattle.std.specs.List.{range_with_len}
 use Rattle.hg_reasons.specs.Wording.{admitted_from}
 use Rattle.hg_reasons.proofs.Ranges.{range_more}
-use Rattle.hg_reasons.proofs.wording.push_admitted.Goals as goal
+use Rattle.hg_reasons.proofs.wording.lists.push_admitted.Goals as goal
 
 pub loop-tenant-preserved : goal.loop-tenant-preserved
 loop-tenant-preserved c =

@@ -1,6 +1,6 @@
 use Rattle.std.proofs.Common.{◌≡◌, ◌++◌, drop, true}
 use Rattle.hg_reasons.specs.Wording.{rights_from}
-use Rattle.hg_reasons.proofs.wording.push_lets_of.Given as goal
+use Rattle.hg_reasons.proofs.wording.lists.push_lets_of.Given as goal
 
 -- what is left goes behind the rights so far
 abbrev pub invariant-loop-right : goal.invariant-loop-right
