@@ -1,5 +1,6 @@
 mod checks;
 mod deny_rows;
+mod explained;
 mod fakes;
 mod hostile;
 mod inputs;

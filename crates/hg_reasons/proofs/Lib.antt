@@ -1,0 +1,3 @@
+mod Ranges
+mod Naming
+pub mod Explaining

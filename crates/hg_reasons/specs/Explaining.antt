@@ -1,0 +1,107 @@
+-- The lines of a trace, each with its answer and the reason for that.
+use Rattle.std.specs.Prelude.{◌≡◌, ⊤, ℕ, ◌-◌, List, [], ◌∷◌, ◌++◌, Option, Some, None, Result, Ok, Err}
+use Rattle.std.specs.Prelude.{codes, decimal, length, map, option_map, slice_get, take, unwrap_or}
+use Rattle.std.specs.List.{slice_split}
+use Rattle.hg_machine.specs.Policy.{Policy}
+use Rattle.hg_machine.specs.State.{State}
+use Rattle.hg_trace.specs.Lines.{ends_line}
+use Rattle.hg_trace.specs.Stored.{Store, lines_in, AreNumbered}
+use Rattle.hg_trace.specs.declared.line.Line.{Line}
+use Rattle.hg_core.specs.Opening.{opened}
+use Rattle.hg_replay.specs.declared.replaying.fault.ReplayFault.{ReplayFault}
+use Rattle.hg_replay.specs.declared.replaying.fault.ReplayFault.TheVariants as fault
+use Rattle.hg_replay.specs.declared.replaying.told.Told.{Told}
+use Rattle.hg_replay.specs.Events.{unknown_worker}
+use Rattle.hg_replay.specs.Replays.{Progress, Answered, starting}
+use Rattle.hg_replay.specs.Tellings.{IsTold}
+use Rattle.hg_replay.specs.Statuses.{Means}
+use Rattle.hg_reasons.specs.Past.{Past, no_past, past_after}
+use Rattle.hg_reasons.specs.Reasons.{reason_of}
+use Rattle.hg_reasons.specs.Shown.{shown}
+use Rattle.hg_reasons.specs.Wording.{reason_text, said_by}
+
+-- the lines of a trace's bytes, without their ends, and the one with this number, from 1
+abbrev pub texts_of : List ℕ → List (List ℕ)
+texts_of bytes = slice_split ends_line bytes
+
+abbrev pub text_of : List (List ℕ) → ℕ → List ℕ
+text_of texts number = unwrap_or (slice_get texts (number - 1)) []
+
+-- a line with its number
+unfoldable pub line_text : ℕ → List ℕ → List ℕ
+line_text number text = decimal number ++ codes ": " ++ map shown text ++ codes "\n"
+
+-- an answer with its reason, if it has one
+unfoldable pub reply_text : List ℕ → Option (List ℕ) → List ℕ
+reply_text reply None = reply
+reply_text reply (Some reason) =
+    take (length reply - 1) reply ++ codes ": " ++ reason ++ codes "\n"
+
+-- what was told of the lines so far, and what they have done
+pub record Story : Type 0 where
+  pub past : Past
+  pub text : List ℕ
+
+abbrev pub beginning : Policy → Story
+beginning policy = record { past = no_past policy; text = [] }
+
+-- the reason for what a line came to, in words, if it has one
+abbrev pub words_of : List (List ℕ) → State → Past → Line → Told → Option (List ℕ)
+words_of names s past line told =
+    option_map (reason_text (said_by s.policy names line.worker line.command))
+    (reason_of s past line.worker line.command told)
+
+-- what is told with a line of this text, which leaves this state and printed this reply
+abbrev pub story_after
+    : List (List ℕ) → Story → State → Line → Told → List ℕ → List ℕ → Story
+story_after names from s line told text reply = record {
+  past = past_after from.past line.number line.command told;
+  text =
+      from.text ++ line_text line.number text
+      ++ reply_text reply (words_of names s from.past line told);
+}
+
+-- a line is answered as in a replay, which leaves this, and told with its answer and the reason
+pub record Explained (names : List (List ℕ)) (text : List ℕ) (from : Progress) (story : Story)
+    (line : Line) (mid : Progress) (next : Story) : Type 0 where
+  pub told : Told
+  pub reply : List ℕ
+  pub answered : Answered from line mid reply
+  pub comes_to : IsTold from line told mid.kept
+  pub is : next ≡ story_after names story mid.kept.state line told text reply
+
+-- the lines are answered one after another, as in a replay, which leaves this, and told so
+abbrev pub Explains
+    : List (List ℕ) → List (List ℕ) → Progress → Story → List Line → Progress → Story → Type 0
+Explains names texts from story [] end last = (end ≡ from) × (last ≡ story)
+Explains names texts from story (line ∷ lines) end last =
+    (mid : Progress) × (next : Story)
+    × Explained names (text_of texts line.number) from story line mid next
+    × Explains names texts mid next lines end last
+
+-- the same, from what a core opens with under the policy, where the lines are kept so: the names in
+-- the trace are those that their numbers stand for
+pub record ExplainsAll (trace_bytes : List ℕ) (policy : Policy) (lines : List Line)
+    (last : Story) : Type 0 where
+  pub store : Store
+  pub kept : lines ≡ lines_in store
+  pub numbered : AreNumbered store
+  pub end : Progress
+  pub explained :
+      Explains store.names (texts_of trace_bytes) (starting (opened policy)) (beginning policy)
+      lines end last
+
+-- the same, where no line's worker is unknown; or the first such line, or want of memory
+abbrev pub ExplainedAs : List ℕ → Policy → List Line → Result Story ReplayFault → Type 0
+ExplainedAs trace_bytes policy lines (Ok last) =
+    (unknown_worker policy.workers lines ≡ None) × ExplainsAll trace_bytes policy lines last
+ExplainedAs trace_bytes policy lines (Err (fault.Worker line)) =
+    unknown_worker policy.workers lines ≡ Some line
+ExplainedAs trace_bytes policy lines (Err fault.Memory) = ⊤
+ExplainedAs trace_bytes policy lines (Err fault.Write) = ⊥
+
+-- the bytes mean a policy and a trace for it, and this is told of its lines
+abbrev pub IsStoryOf : List ℕ → List ℕ → Story → Type 0
+IsStoryOf policy_bytes trace_bytes last =
+    (policy : Policy) × (lines : List Line) × Means policy_bytes trace_bytes policy lines
+    × ExplainsAll trace_bytes policy lines last

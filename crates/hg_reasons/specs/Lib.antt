@@ -1,0 +1,6 @@
+pub mod Shown
+pub mod Past
+pub mod Reasons
+pub mod Wording
+pub mod Explaining
+pub mod Endings

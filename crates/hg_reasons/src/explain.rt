@@ -1,0 +1,254 @@
+//! The lines of a trace, each with its answer and the reason for that.
+
+ghost use Rattle.std.specs.Prelude.{◌≡◌, ◌+◌, ◌≤◌, ◌<◌, ◌++◌, ℕ, List, [], All, true, map, IfOk};
+ghost use Rattle.std.specs.Prelude.{OnOk, option_map, vec_len, vec_capacity, if◌then◌else◌};
+ghost use Rattle.hg_labels.specs.Indexes.{texts};
+ghost use Rattle.hg_machine.specs.Policy.{Policy};
+ghost use Rattle.hg_trace.specs.Labels.{label_count};
+ghost use Rattle.hg_trace.specs.Stored.{command_in, line_in, lines_in, AreNumbered, IsNumbered};
+ghost use Rattle.hg_replay.specs.KnownNames.{meanings};
+ghost use Rattle.hg_replay.specs.Replays.{Answered, Progress, starting};
+ghost use Rattle.hg_replay.specs.StoredLabels.{binds};
+ghost use Rattle.hg_replay.specs.Tellings.{IsTold};
+ghost use Rattle.hg_reasons.specs.Explaining.{beginning, line_text, reply_text, story_after};
+ghost use Rattle.hg_reasons.specs.Explaining.{text_of, texts_of, words_of, Explains};
+ghost use Rattle.hg_reasons.specs.Shown.{shown};
+ghost use Rattle.hg_reasons.specs.Wording.{reason_text, said_by};
+
+use crate::past::Past;
+use crate::reason::{Reason, reason_of};
+use crate::wording::{Said, push, push_count};
+use hg_core::Core;
+use hg_policy::Policy;
+use hg_replay::{Ready, Told};
+use hg_trace::{StoredLine, Trace};
+use std::alloc::{AllocError, Global};
+use std::marker::Model;
+
+/// What was told of the lines so far, and what they have done.
+#[derive(Drop)]
+pub(crate) struct Story {
+    past: Past,
+    text: Vec<u8>,
+}
+
+impl Model for Story {
+    ghost use Rattle.hg_reasons.specs.Explaining as explaining;
+
+    ghost Value = { explaining.Story };
+
+    ghost view = { λ story. record { past = story.past; text = story.text.items } };
+}
+
+/// The lines of a trace's bytes, without their ends.
+pub(crate) fn texts_of(alloc: Global, bytes: &[u8]) -> Result<Vec<&[u8]>, AllocError>
+    ensures { IfOk result (λ texts. map (λ text. text.now) texts.items ≡ texts_of bytes.now) }
+{
+    bytes.split(|b| *b == b'\n').collect(alloc)
+}
+
+/// The text of the line with this number, from 1.
+fn text_of<'a>(texts: &[&'a [u8]], number: u32) -> &'a [u8]
+    ensures { result.now ≡ text_of (map (λ text. text.now) texts.now) number }
+{
+    match texts.get((number as usize).saturating_sub(1)) {
+        Some(text) => *text,
+        None => &[],
+    }
+}
+
+/// A byte as it is shown: no control byte but a tab is.
+fn shown(b: u8) -> u8
+    ensures { result ≡ shown b }
+{
+    if (b < b' ' && b != b'\t') || b == 127 {
+        return b'?';
+    }
+    b
+}
+
+/// Appends a text as it is shown.
+fn push_shown(out: &mut Vec<u8>, text: &[u8]) -> Result<(), AllocError>
+    ensures { OnOk result (out.new.items ≡ out.old.items ++ map shown text.now) }
+{
+    for b in text {
+        out.push(shown(*b))?;
+    }
+    Ok(())
+}
+
+/// Appends a line with its number.
+#[tactic(auto, unfolding(crate::specs::Explaining::line_text))]
+fn push_line(out: &mut Vec<u8>, number: u32, text: &[u8]) -> Result<(), AllocError>
+    ensures { OnOk result (out.new.items ≡ out.old.items ++ line_text number text.now) }
+{
+    push_count(out, "", u64::from(number))?;
+    push(out, ": ")?;
+    push_shown(out, text)?;
+    push(out, "\n")
+}
+
+/// Appends an answer with its reason, if it has one.
+#[tactic(auto, unfolding(crate::specs::Explaining::reply_text))]
+fn push_reply(out: &mut Vec<u8>, reply: &[u8], reason: Option<Vec<u8>>) -> Result<(), AllocError>
+    ensures { OnOk result (out.new.items ≡ out.old.items
+        ++ reply_text reply.now (option_map (λ words. words.items) reason)) }
+{
+    match reason {
+        None => out.extend_from_slice(reply),
+        Some(words) => {
+            out.extend_from_slice(&reply[..reply.len().saturating_sub(1)])?;
+            push(out, ": ")?;
+            out.extend_from_slice(&words)?;
+            push(out, "\n")
+        }
+    }
+}
+
+/// Appends a line with its number, and its answer with its reason, if it has one.
+fn push_told(
+    out: &mut Vec<u8>,
+    number: u32,
+    text: &[u8],
+    reply: &[u8],
+    reason: Option<Vec<u8>>,
+) -> Result<(), AllocError>
+    ensures { OnOk result (out.new.items ≡ out.old.items ++ line_text number text.now
+        ++ reply_text reply.now (option_map (λ words. words.items) reason)) }
+{
+    push_line(out, number, text)?;
+    push_reply(out, reply, reason)
+}
+
+/// A reason for what a line came to, in words.
+fn in_words(
+    alloc: Global,
+    policy: &Policy,
+    names: &[&str],
+    line: &StoredLine,
+    reason: Reason,
+) -> Result<Vec<u8>, AllocError>
+    ensures { IfOk result (λ words. (labels : List (List ℕ)) → words.items
+        ≡ reason_text (said_by policy.now (texts names.now) line.now.worker
+        (command_in (texts names.now) labels line.now.command)) reason) }
+{
+    let mut words = Vec::new(alloc);
+    Said::by(policy, names, line).push_reason(&mut words, reason)?;
+    Ok(words)
+}
+
+/// The reason for what a line came to, in words, if it has one.
+fn words_of(
+    alloc: Global,
+    core: &Core,
+    past: &Past,
+    names: &[&str],
+    line: &StoredLine,
+    told: Told,
+) -> Result<Option<Vec<u8>>, AllocError>
+    ensures { IfOk result (λ words. (labels : List (List ℕ))
+        → option_map (λ w. w.items) words ≡ words_of (texts names.now) core.now.state past.now
+        (line_in (texts names.now) labels line.now) told) }
+{
+    match reason_of(core, past, line, told) {
+        None => Ok(None),
+        Some(reason) => Ok(Some(in_words(alloc, core.policy(), names, line, reason)?)),
+    }
+}
+
+impl Story {
+    /// No line was told yet.
+    pub(crate) fn new(alloc: Global, policy: &Policy) -> Result<Story, AllocError>
+        ensures { IfOk result (λ story. story ≡ beginning policy.now) }
+    {
+        let past = Past::new(alloc, policy)?;
+        Ok(Story {
+            past,
+            text: Vec::new(alloc),
+        })
+    }
+
+    /// What was told.
+    pub(crate) fn text(&self) -> &[u8]
+        ensures { result.now ≡ self.now.text }
+    {
+        &self.text
+    }
+
+    /// Tells a line of this text, which left this core and printed this reply.
+    fn tell(
+        &mut self,
+        alloc: Global,
+        core: &Core,
+        names: &[&str],
+        line: &StoredLine,
+        told: Told,
+        text: &[u8],
+        reply: &[u8],
+    ) -> Result<(), AllocError>
+        ensures { OnOk result ((labels : List (List ℕ)) → self.new ≡ story_after
+            (texts names.now) self.old core.now.state
+            (line_in (texts names.now) labels line.now) told text.now reply.now) }
+    {
+        let words = words_of(alloc, core, &self.past, names, line, told)?;
+        push_told(&mut self.text, line.number, text, reply, words)?;
+        self.past.note(line, told)
+    }
+}
+
+/// What the next line comes to, and what a replay prints for it.
+fn told_by(
+    alloc: Global,
+    ready: &mut Ready,
+    line: &StoredLine,
+) -> Result<(Told, Vec<u8>), AllocError>
+    requires worker { line.now.worker < ready.old.core.state.policy.workers }
+    requires room { binds line.now.command ≡ true
+        → vec_len ready.old.handles < vec_capacity ready.old.handles }
+    ensures told { IfOk result (λ told. (names labels : List (List ℕ))
+        → ready.old.meant.items ≡ meanings ready.old.core.state.policy names
+        → IsNumbered names labels line.now.command
+        → Answered (record { kept = ready.old.core; handles = ready.old.handles.items })
+        (line_in names labels line.now)
+        (record { kept = ready.new.core; handles = ready.new.handles.items }) told.1.items
+        × IsTold (record { kept = ready.old.core; handles = ready.old.handles.items })
+        (line_in names labels line.now) told.0 ready.new.core) }
+    ensures meant { ready.new.meant ≡ ready.old.meant }
+    ensures count { vec_len ready.new.handles
+        ≡ vec_len ready.old.handles + (if binds line.now.command then 1 else 0) }
+    ensures room { vec_capacity ready.new.handles ≡ vec_capacity ready.old.handles }
+{
+    let mut reply = Vec::new(alloc);
+    match ready.tell(line, &mut reply) {
+        Ok(told) => Ok((told, reply)),
+        Err(_) => Err(AllocError),
+    }
+}
+
+/// Answers the lines one after another, and tells each with its answer.
+pub(crate) fn explain(
+    alloc: Global,
+    ready: &mut Ready,
+    trace: &Trace,
+    texts: &[&[u8]],
+    story: &mut Story,
+) -> Result<(), AllocError>
+    requires workers { All (λ line. line.worker < ready.old.core.state.policy.workers)
+        (lines_in trace.now) }
+    requires meant { ready.old.meant.items
+        ≡ meanings ready.old.core.state.policy trace.now.names }
+    requires none { ready.old.handles.items ≡ [] }
+    requires count { vec_len ready.old.handles ≡ 0 }
+    requires room { label_count (lines_in trace.now) ≤ vec_capacity ready.old.handles }
+    ensures numbered { AreNumbered trace.now }
+    ensures told { OnOk result ((end : Progress)
+        × Explains trace.now.names (map (λ text. text.now) texts.now) (starting ready.old.core)
+        story.old (lines_in trace.now) end story.new) }
+{
+    for line in trace.stored() {
+        let (told, reply) = told_by(alloc, ready, line)?;
+        let text = text_of(texts, line.number);
+        story.tell(alloc, &ready.core, trace.names(), line, told, text, &reply)?;
+    }
+    Ok(())
+}
