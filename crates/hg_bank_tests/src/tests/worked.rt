@@ -1,0 +1,210 @@
+//! Worked calls.
+
+use crate::tests::asked::{
+    ALICE, BOB, MAIN, STRANGER, VAULT, abandon, alloc, free, grow, opened, refill,
+};
+use hg_bank::{Bank, BankHandle, BankSegment};
+use hg_core::{Freed, NoSegment, NotFreed, NotHeld, NothingInHand, Refused};
+use hg_machine::Rule;
+use hg_place::Actor;
+use std::alloc::Global;
+use std::process::Abort;
+
+/// The bytes of a whole segment.
+const SEGMENT: u64 = 65_536;
+
+fn bank(rt: &impl Abort, memory: Global) -> Bank {
+    opened(memory, 3).expect(rt, "a bank")
+}
+
+/// The number of the core that a block is of.
+fn core_of(told: Result<BankHandle, Refused>) -> Option<u16> {
+    told.ok().map(|block| block.core)
+}
+
+// Cores are asked from the current one on, round and round; no room is told only where none has
+// any.
+#[test]
+fn asked_round_and_round(rt: HostRuntime) {
+    let mut bank = bank(&rt, rt.alloc());
+    assert_eq!(&rt;
+        refill(&rt, &mut bank, 0, MAIN),
+        Ok(BankSegment {
+            core: 0,
+            segment: 0
+        })
+    );
+    assert_eq!(&rt; refill(&rt, &mut bank, 0, MAIN), Err(NoSegment));
+    let first = alloc(&rt, &mut bank, 0, ALICE, MAIN, SEGMENT).expect(&rt, "a block");
+    assert_eq!(&rt; first.core, 0);
+    assert_eq!(&rt;
+        alloc(&rt, &mut bank, 0, BOB, MAIN, 8),
+        Err(Refused::NoRoom)
+    );
+    assert_eq!(&rt; grow(&rt, &mut bank, rt.alloc()), Some(1));
+    assert_eq!(&rt;
+        refill(&rt, &mut bank, 0, MAIN),
+        Ok(BankSegment {
+            core: 1,
+            segment: 0
+        })
+    );
+    assert_eq!(&rt;
+        core_of(alloc(&rt, &mut bank, 0, ALICE, MAIN, SEGMENT)),
+        Some(1)
+    );
+    assert_eq!(&rt;
+        alloc(&rt, &mut bank, 0, BOB, MAIN, 8),
+        Err(Refused::NoRoom)
+    );
+    assert_eq!(&rt; free(&rt, &mut bank, 0, ALICE, first), Ok(Freed::Here));
+    let again = alloc(&rt, &mut bank, 0, ALICE, MAIN, SEGMENT).expect(&rt, "a block");
+    assert_eq!(&rt; again.core, 0);
+    assert_eq!(&rt; again.handle.generation, 2);
+    drop(bank);
+}
+
+// A limit counts over all cores.
+#[test]
+fn limit_over_all_cores(rt: HostRuntime) {
+    let mut bank = bank(&rt, rt.alloc());
+    assert_eq!(&rt; grow(&rt, &mut bank, rt.alloc()), Some(1));
+    assert_eq!(&rt; grow(&rt, &mut bank, rt.alloc()), Some(2));
+    assert!(&rt; bank.is_full());
+    for core in 0..3 {
+        assert_eq!(&rt;
+            refill(&rt, &mut bank, 0, MAIN),
+            Ok(BankSegment { core, segment: 0 })
+        );
+    }
+    assert_eq!(&rt;
+        core_of(alloc(&rt, &mut bank, 0, ALICE, MAIN, SEGMENT)),
+        Some(2)
+    );
+    assert_eq!(&rt;
+        core_of(alloc(&rt, &mut bank, 0, ALICE, MAIN, SEGMENT)),
+        Some(0)
+    );
+    assert_eq!(&rt; bank.charge(0, 0), Some(2 * SEGMENT));
+    assert_eq!(&rt;
+        alloc(&rt, &mut bank, 0, ALICE, MAIN, 16),
+        Err(Refused::Denied(Rule::OverLimit))
+    );
+    assert_eq!(&rt; core_of(alloc(&rt, &mut bank, 0, ALICE, MAIN, 8)), Some(1));
+    assert_eq!(&rt; bank.charge(0, 0), Some(2 * SEGMENT + 8));
+    assert_eq!(&rt; bank.charge(1, 0), Some(0));
+    assert_eq!(&rt; bank.charge(2, 0), None);
+    assert_eq!(&rt; bank.charge(0, 2), None);
+    assert_eq!(&rt;
+        alloc(&rt, &mut bank, 0, STRANGER, MAIN, 8),
+        Err(Refused::Denied(Rule::Stranger))
+    );
+    assert_eq!(&rt;
+        alloc(&rt, &mut bank, 0, BOB, VAULT, 8),
+        Err(Refused::Denied(Rule::ForeignArena))
+    );
+    assert_eq!(&rt;
+        alloc(&rt, &mut bank, 0, ALICE, MAIN, SEGMENT + 1),
+        Err(Refused::TooLarge)
+    );
+    drop(bank);
+}
+
+// What is adopted counts with the worker that adopts, whatever its limit.
+#[test]
+fn adopted_is_counted(rt: HostRuntime) {
+    let mut bank = bank(&rt, rt.alloc());
+    assert_eq!(&rt; grow(&rt, &mut bank, rt.alloc()), Some(1));
+    let zero = refill(&rt, &mut bank, 0, MAIN).expect(&rt, "a segment");
+    let one = refill(&rt, &mut bank, 1, MAIN).expect(&rt, "a segment");
+    assert_eq!(&rt; one.core, 1);
+    let block = alloc(&rt, &mut bank, 0, ALICE, MAIN, SEGMENT).expect(&rt, "a block");
+    assert_eq!(&rt; abandon(&rt, &mut bank, 1, zero), Err(NotHeld));
+    assert_eq!(&rt; abandon(&rt, &mut bank, 0, zero), Ok(()));
+    assert_eq!(&rt; bank.charge(0, 0), Some(0));
+    assert_eq!(&rt; refill(&rt, &mut bank, 1, MAIN), Ok(zero));
+    assert_eq!(&rt; bank.charge(1, 0), Some(SEGMENT));
+    assert_eq!(&rt; free(&rt, &mut bank, 0, BOB, block), Ok(Freed::InHand));
+    assert_eq!(&rt; bank.charge(1, 0), Some(SEGMENT));
+    assert!(&rt; 1 < bank.policy().workers());
+    assert_eq!(&rt; bank.deliver(0, 1), Err(NothingInHand));
+    assert!(&rt; 1 < bank.policy().workers());
+    assert_eq!(&rt; bank.deliver(0, 0), Ok(()));
+    assert!(&rt; 1 < bank.policy().workers());
+    assert_eq!(&rt; bank.take(1, zero), Ok(1));
+    assert_eq!(&rt; bank.charge(1, 0), Some(0));
+    drop(bank);
+}
+
+/// What is told of a core that isn't there.
+fn is_absent(rt: &impl Abort, bank: &mut Bank, actor: Actor, block: BankHandle, rule: Rule) {
+    let denied = Refused::Denied(rule);
+    assert!(rt; 0 < bank.policy().workers());
+    assert_eq!(rt; bank.read(0, actor, block, 0), Err(denied));
+    assert!(rt; 0 < bank.policy().workers());
+    assert_eq!(rt; bank.write(0, actor, block, 0, 1), Err(denied));
+    assert!(rt; 0 < bank.policy().workers());
+    assert_eq!(rt;
+        bank.look(0, actor, block.core, block.handle.place),
+        Err(denied)
+    );
+    assert_eq!(rt;
+        free(rt, bank, 0, actor, block),
+        Err(NotFreed::Denied(rule))
+    );
+}
+
+// A core that isn't there is answered as a place that isn't.
+#[test]
+fn absent_core(rt: HostRuntime) {
+    let mut bank = bank(&rt, rt.alloc());
+    let segment = refill(&rt, &mut bank, 0, MAIN).expect(&rt, "a segment");
+    let block = alloc(&rt, &mut bank, 0, ALICE, MAIN, 8).expect(&rt, "a block");
+    let away = BankHandle { core: 1, ..block };
+    is_absent(&rt, &mut bank, ALICE, away, Rule::Stale(0));
+    is_absent(&rt, &mut bank, STRANGER, away, Rule::Stranger);
+    assert_eq!(&rt;
+        abandon(&rt, &mut bank, 0, BankSegment { core: 1, ..segment }),
+        Err(NotHeld)
+    );
+    assert!(&rt; 0 < bank.policy().workers());
+    assert_eq!(&rt;
+        bank.take(0, BankSegment { core: 1, ..segment }),
+        Err(NotHeld)
+    );
+    assert!(&rt; 0 < bank.policy().workers());
+    assert_eq!(&rt; bank.deliver(0, 1), Err(NothingInHand));
+    assert!(&rt; 0 < bank.policy().workers());
+    assert_eq!(&rt; bank.collect(0, 1), 0);
+    drop(bank);
+}
+
+// Words are read and written in the block's own core.
+#[test]
+fn words_of_a_core(rt: HostRuntime) {
+    let mut bank = bank(&rt, rt.alloc());
+    assert_eq!(&rt; grow(&rt, &mut bank, rt.alloc()), Some(1));
+    let zero = refill(&rt, &mut bank, 0, MAIN).expect(&rt, "a segment");
+    let block = alloc(&rt, &mut bank, 0, ALICE, MAIN, SEGMENT).expect(&rt, "a block");
+    let one = refill(&rt, &mut bank, 0, MAIN).expect(&rt, "a segment");
+    let other = alloc(&rt, &mut bank, 0, ALICE, MAIN, SEGMENT).expect(&rt, "a block");
+    assert_eq!(&rt; (zero.core, block.core, one.core, other.core), (0, 0, 1, 1));
+    assert_eq!(&rt; block.handle, other.handle);
+    assert!(&rt; 0 < bank.policy().workers());
+    assert_eq!(&rt; bank.write(0, ALICE, other, 5, 77), Ok(()));
+    assert!(&rt; 0 < bank.policy().workers());
+    assert_eq!(&rt; bank.read(0, ALICE, block, 5), Ok(0));
+    assert!(&rt; 0 < bank.policy().workers());
+    assert_eq!(&rt; bank.read(0, BOB, other, 5), Ok(77));
+    assert!(&rt; 0 < bank.policy().workers());
+    let row = bank
+        .look(0, ALICE, 1, other.handle.place)
+        .expect(&rt, "a row");
+    assert_eq!(&rt; row.bytes, 65_536);
+    assert_eq!(&rt; free(&rt, &mut bank, 0, BOB, other), Ok(Freed::Here));
+    assert!(&rt; 0 < bank.policy().workers());
+    assert_eq!(&rt; bank.collect(0, 0), 0);
+    assert!(&rt; 0 < bank.policy().workers());
+    assert_eq!(&rt; bank.collect(0, 1), 1);
+    drop(bank);
+}
