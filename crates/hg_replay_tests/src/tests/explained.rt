@@ -160,10 +160,22 @@ fn faults_are_told(rt: HostRuntime) {
     let ended = (Status::BadPolicy, "", fault);
     ends(&rt, rt.alloc(), "version = 1\n", TRACE, ended);
     let fault = "trace fault 2 at line 1: command\n";
-    ends(&rt, rt.alloc(), POLICY, "w0 jump\n", (Status::BadTrace, "", fault));
+    ends(
+        &rt,
+        rt.alloc(),
+        POLICY,
+        "w0 jump\n",
+        (Status::BadTrace, "", fault),
+    );
     let fault = "trace fault 6 at line 2: worker\n";
     let trace = "w0 deliver\nw2 deliver\n";
-    ends(&rt, rt.alloc(), POLICY, trace, (Status::BadTrace, "", fault));
+    ends(
+        &rt,
+        rt.alloc(),
+        POLICY,
+        trace,
+        (Status::BadTrace, "", fault),
+    );
 }
 
 /// A write that stops is a fault.
