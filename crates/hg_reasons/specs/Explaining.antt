@@ -1,5 +1,6 @@
 -- The lines of a trace, each with its answer and the reason for that.
-use Rattle.std.specs.Prelude.{◌≡◌, ⊤, ℕ, ◌-◌, List, [], ◌∷◌, ◌++◌, Option, Some, None, Result, Ok, Err}
+use Rattle.std.specs.Prelude.{◌≡◌, ⊤, ℕ, ◌-◌, List, [], ◌∷◌, ◌++◌}
+use Rattle.std.specs.Prelude.{Option, Some, None, Result, Ok, Err}
 use Rattle.std.specs.Prelude.{codes, decimal, length, map, option_map, slice_get, take, unwrap_or}
 use Rattle.std.specs.List.{slice_split}
 use Rattle.hg_machine.specs.Policy.{Policy}

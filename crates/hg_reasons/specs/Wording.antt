@@ -1,6 +1,7 @@
 -- The words of a reason.
 use Rattle.std.specs.Prelude.{ℕ, ◌-◌, ◌==◌, Bool, true, false, nat_lt, List, [], ◌∷◌, ◌++◌, length}
-use Rattle.std.specs.Prelude.{Option, Some, None, unwrap_or, codes, decimal, if◌then◌else◌, map, find}
+use Rattle.std.specs.Prelude.{Option, Some, None, unwrap_or, codes, decimal, if◌then◌else◌}
+use Rattle.std.specs.Prelude.{map, find}
 use Rattle.std.specs.Prelude.{take}
 use Rattle.std.specs.List.{range_with_len}
 use Rattle.hg_place.specs.declared.Right.{Right}
@@ -111,8 +112,8 @@ abbrev pub by_text : Answer → List ℕ
 by_text (answer.Denied rule) = rule_text rule
 by_text _ = []
 
--- what the words of a reason are about: the policy, the names in the trace, the worker of a line, and
--- who asks and which arena, as the line names them
+-- what the words of a reason are about: the policy, the names in the trace, the worker of a line,
+-- and who asks and which arena, as the line names them
 pub record Said : Type 0 where
   pub policy : Policy
   pub names : List (List ℕ)

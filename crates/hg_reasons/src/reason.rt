@@ -27,7 +27,8 @@ pub(crate) struct Asked {
     pub place: Place,
 }
 
-/// What a tenant has of its limit with the worker, what it asks for, and the block for that, in bytes.
+/// What a tenant has of its limit with the worker, what it asks for, and the block for that, in
+/// bytes.
 #[derive(Clone, Copy)]
 pub(crate) struct Charged {
     pub tenant: u8,

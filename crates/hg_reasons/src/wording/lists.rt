@@ -105,7 +105,8 @@ fn push_if_let(
     Ok(false)
 }
 
-/// Appends those of these rights that an owner lets an actor have, and tells whether there are none.
+/// Appends those of these rights that an owner lets an actor have, and tells whether there are
+/// none.
 fn push_lets_of(
     out: &mut Vec<u8>,
     policy: &Policy,
