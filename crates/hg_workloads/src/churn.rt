@@ -89,18 +89,22 @@ impl Host<'_> {
     fn give(&mut self, worker: u8, owner: u8) -> Option<Live> {
         let bytes = self.numbers.bytes();
         let arena = u8::from(owner < 2 && bytes & 3 == 0);
-        let event = Event::Alloc {
-            actor: Actor(owner),
-            arena,
-            bytes,
-        };
-        match self.ask(worker, event) {
-            Answer::Block(handle) => Some(Live {
-                handle,
-                worker,
-                owner,
-            }),
-            _ => None,
+        if worker >= self.core.policy().workers() {
+            return None;
+        }
+        match self.core.alloc(worker, Actor(owner), arena, bytes) {
+            Ok(handle) => {
+                self.digest.handle(handle);
+                Some(Live {
+                    handle,
+                    worker,
+                    owner,
+                })
+            }
+            Err(_) => {
+                self.digest.number(bytes);
+                None
+            }
         }
     }
 
@@ -127,6 +131,15 @@ impl Host<'_> {
         Ok(())
     }
 
+    /// Frees a block for its owner.
+    fn free(&mut self, worker: u8, owner: u8, handle: Handle) {
+        if worker >= self.core.policy().workers() {
+            return;
+        }
+        let freed = self.core.free(worker, Actor(owner), handle);
+        self.digest.number(u64::from(freed.is_ok()));
+    }
+
     /// Frees a block, mostly where it was given out, and gives out another in its stead.
     fn replace(&mut self, at: usize, live: Live, number: u64) {
         let Live {
@@ -134,21 +147,17 @@ impl Host<'_> {
             worker,
             owner,
         } = live;
-        let event = Event::Free {
-            actor: Actor(owner),
-            handle,
-        };
         if number & 7 == 0 {
-            let apart = drawn(number >> 8, WORKERS - 1).wrapping_add(1);
+            let apart = (number >> 8 & 3) as u8 | 1;
             let other = worker.wrapping_add(apart) % WORKERS;
-            self.ask(other, event);
+            self.free(other, owner, handle);
             self.ask(other, Event::Deliver);
             self.sent = self.sent.wrapping_add(1);
             if self.sent >= SENT {
                 self.take_all();
             }
         } else {
-            self.ask(worker, event);
+            self.free(worker, owner, handle);
         }
         if let Some(given) = self.give(worker, owner) {
             if let Some(slot) = self.live.get_mut(at) {
@@ -169,24 +178,21 @@ impl Host<'_> {
 
     /// A read or a write of a word.
     fn touch(&mut self, live: Live, actor: u8, number: u64) {
-        let actor = Actor(actor);
-        let handle = live.handle;
+        let Live {
+            handle,
+            worker,
+            owner: _,
+        } = live;
         let index = (number >> 8 & 1) as u32;
+        if worker >= self.core.policy().workers() {
+            return;
+        }
         if number & 1 == 0 {
-            let event = Event::Read {
-                actor,
-                handle,
-                index,
-            };
-            self.ask(live.worker, event);
+            let read = self.core.read(worker, Actor(actor), handle, index);
+            self.digest.number(read.unwrap_or(1));
         } else {
-            let event = Event::Write {
-                actor,
-                handle,
-                index,
-                value: number,
-            };
-            self.ask(live.worker, event);
+            let written = self.core.write(worker, Actor(actor), handle, index, number);
+            self.digest.number(u64::from(written.is_ok()));
         }
     }
 

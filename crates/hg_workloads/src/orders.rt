@@ -32,8 +32,10 @@ const WORKERS: u8 = 4;
 /// On how many places of a shelf handles lie.
 const SHELF: u64 = 64;
 
-/// How many calls a log has.
-const CALLS: usize = 400;
+/// How many calls a log has at least, and how many more at most.
+const CALLS: u64 = 40;
+
+const MORE: u64 = 120;
 
 /// What blocks are asked for, in bytes.
 static SIZES: [u64; 8] = [8, 64, 1_024, 1_024, 2_048, 2_048, 4_096, 65_537];
@@ -145,7 +147,8 @@ fn log_of(alloc: Global, policy: &Policy, seed: u64) -> Result<Vec<Call>, anyhow
 
 /// Makes the calls of a log.
 fn make_calls(shelf: &mut Shelf, made: &mut Vec<Call>) -> Result<(), AllocFailed<Call>> {
-    for _ in 0..CALLS {
+    let more = shelf.numbers.below(MORE);
+    for _ in 0..CALLS + more {
         let worker = (shelf.numbers.next() >> 32 & 3) as u8;
         if let Some(call) = shelf.call(worker) {
             made.push(call)?;
