@@ -1,3 +1,4 @@
+mod CellLists
 pub mod HandleTexts
 pub mod LifeOrders
 pub mod NumberTexts

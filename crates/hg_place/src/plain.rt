@@ -1,30 +1,32 @@
 ghost use Rattle.std.specs.Prelude.{◌≡◌, ◌≢◌, ℕ, ◌-◌, ◌<◌, false, length, slice_set, slice_index};
-ghost use Rattle.std.specs.Prelude.{OnOk, IfErr, IfOk};
+ghost use Rattle.std.specs.Prelude.{map, OnOk, IfErr, IfOk};
 ghost use Rattle.hg_place.specs.declared.geometry.TheConstants.{MAX_SEGMENTS, SEGMENT_PLACES};
 ghost use Rattle.hg_place.specs.declared.geometry.TheConstants.{PAGE_PLACES};
 ghost use Rattle.hg_place.specs.Lives.{IsLiveWord, IsSlotWord};
+ghost use Rattle.hg_place.specs.Cells.{word_in, standing_in};
 ghost use Rattle.hg_place.specs.Standings.{standing_at, slot_of, is_home, Fits};
 ghost use Rattle.hg_place.specs.declared.standing.Standing.TheVariants.{Home};
 
+use crate::cells::{cell_of, standing_in, word_in};
 use crate::geometry::{PAGE_PLACES, SEGMENT_PLACES};
-use crate::{Handle, PackedStanding, Place, SlotWords, Standing, pack, word_generation};
+use crate::{Handle, Place, SlotWords, Standing, pack, word_generation};
 use hg_reserved::Reserved;
 use std::alloc::{AllocError, Global};
 
 /// The slot words of a segment for one thread alone: a step finds the word that stands. A place's
-/// word and its record take 8 bytes each, in memory that is touched when the place, or one of a
-/// greater number, is first given out.
+/// word and its record take 8 bytes, in memory that is touched when the place, or one of a greater
+/// number, is first given out.
 #[derive(Drop)]
 pub struct PlainWords {
     segment: u8,
-    words: Reserved<u64>,
-    records: Reserved<PackedStanding>,
+    // by place, its word and its record in one
+    cells: Reserved<u64>,
     ghost segment_below: { segment < MAX_SEGMENTS },
-    ghost all_words: { length words ≡ SEGMENT_PLACES },
-    ghost all_records: { length records ≡ SEGMENT_PLACES },
+    ghost all_words: { length (map word_in cells) ≡ SEGMENT_PLACES },
+    ghost all_records: { length (map standing_in cells) ≡ SEGMENT_PLACES },
     ghost fit: { (at : ℕ) → at < SEGMENT_PLACES
-        → IsSlotWord (slice_index words at)
-        × Fits (standing_at records at) (slice_index words at) },
+        → IsSlotWord (slice_index (map word_in cells) at)
+        × Fits (standing_at (map standing_in cells) at) (slice_index (map word_in cells) at) },
 }
 
 impl SlotWords for PlainWords {
@@ -66,7 +68,7 @@ impl SlotWords for PlainWords {
     }
 
     fn standing(&self, place: Place) -> Standing {
-        self.records.get(slot(place)).standing()
+        standing_in(self.cells.get(slot(place)))
     }
 
     fn look(&mut self, place: Place) -> u64 {
@@ -116,13 +118,8 @@ impl PlainWords {
         ensures words { IfOk result (λ s. (at : ℕ) → slice_index (plain_words s) at ≡ 0) }
         ensures home { IfOk result (λ s. (at : ℕ) → standing_at (plain_records s) at ≡ Home 0) }
     {
-        let words = Reserved::new(alloc, SEGMENT_PLACES)?;
-        let records = Reserved::new(alloc, SEGMENT_PLACES)?;
-        Ok(PlainWords {
-            segment,
-            words,
-            records,
-        })
+        let cells = Reserved::new(alloc, SEGMENT_PLACES)?;
+        Ok(PlainWords { segment, cells })
     }
 
     /// The word of a place.
@@ -130,7 +127,7 @@ impl PlainWords {
         requires { place.segment ≡ self.now.segment }
         ensures { result ≡ slice_index (plain_words self.now) (slot_of place) }
     {
-        self.words.get(slot(place))
+        word_in(self.cells.get(slot(place)))
     }
 
     /// Ends the life of the live word that is expected, and leaves the place open. An error has the
@@ -153,7 +150,8 @@ impl PlainWords {
         if found != expected {
             return Err(found);
         }
-        self.words.set(slot(place), found - 1);
+        let standing = self.standing(place);
+        self.put(place, standing, found - 1);
         Ok(())
     }
 
@@ -169,8 +167,7 @@ impl PlainWords {
         ensures records { plain_records self.new
             ≡ slice_set (plain_records self.old) (slot_of place) standing }
     {
-        self.words.set(slot(place), word);
-        self.records.set(slot(place), PackedStanding::of(standing));
+        self.cells.set(slot(place), cell_of(standing, word));
     }
 }
 
