@@ -2,7 +2,7 @@
 
 ghost use Rattle.std.specs.Prelude.{◌≡◌, ◌<◌, ◌+◌, ◌*◌, ℕ, false, None, Some, slice_index_or};
 ghost use Rattle.std.specs.Prelude.{slice_set, IsTrue, IsFalse, true};
-ghost use Rattle.hg_place.specs.declared.geometry.TheConstants.{SEGMENT_PAGES, PAGE_PLACES};
+ghost use Rattle.hg_place.specs.declared.geometry.TheConstants.{SEGMENT_PAGES};
 ghost use Rattle.hg_place.specs.Standings.{standing_at};
 ghost use Rattle.hg_size.specs.Sizes.{places_of};
 ghost use Rattle.hg_size.specs.Runs.{may_begin};
@@ -14,8 +14,8 @@ ghost use Rattle.hg_segment.specs.Blocks.{KeepsBlocks};
 
 use crate::Segment;
 use hg_page::Worn;
-use hg_place::{PAGE_PLACES, Place, SEGMENT_PAGES, SlotWords, Standing};
-use hg_size::{Class, block_words};
+use hg_place::{Place, SEGMENT_PAGES, SlotWords, Standing};
+use hg_size::{Class, block_words, per_page};
 
 impl<S: SlotWords> Segment<S> {
     /// Gives a page this class, where it and the other pages of its blocks are without one. Its
@@ -32,7 +32,7 @@ impl<S: SlotWords> Segment<S> {
         ensures blocks { KeepsBlocks (S.records self.old.slots) self.old.classes
             self.old.words self.new.words }
     {
-        let worn = worn_in(&self.slots, page, self.greatest);
+        let worn = worn_in(&self.slots, page, class, self.greatest);
         // a class's size is one of the table's, as what is kept says
         let _size = block_words(class);
         let lists = &mut self.pages[page as usize];
@@ -72,14 +72,14 @@ impl<S: SlotWords> Segment<S> {
     }
 }
 
-/// The places of a page that are worn.
-fn worn_in<S: SlotWords>(slots: &S, page: u8, greatest: u32) -> Worn
+/// The places of a page that are worn, of those that blocks of the class have there.
+fn worn_in<S: SlotWords>(slots: &S, page: u8, class: Class, greatest: u32) -> Worn
     requires { page < SEGMENT_PAGES }
-    ensures worn { (index : ℕ) → index < PAGE_PLACES → slice_index_or result index false
+    ensures worn { (index : ℕ) → index < places_of class → slice_index_or result index false
         ≡ is_worn greatest (standing_at (S.records slots.now) (slot page index)) }
 {
     let mut worn = Worn::none();
-    for index in 0..PAGE_PLACES as u16 {
+    for index in 0..per_page(class) {
         let place = Place {
             segment: slots.segment(),
             page,
