@@ -1,14 +1,63 @@
--- The words and records of a list of cells, of which one is set.
-use Rattle.std.proofs.Common.{◌≡◌, ℕ, ◌<◌, inl, inr, List, length, map, slice_index, slice_set, sym, ap, ◌∙◌, arith}
-use Rattle.std.proofs.lemmas.Bool.{cases_eq}
+-- The words and records of cells, of which one is set.
+use Rattle.std.proofs.Common.{◌≡◌, ℕ, ◌<◌, inl, inr, List, length, slice_index, slice_set, get_or, sym, ap, ◌∙◌, arith, zero-add}
+use Rattle.std.proofs.lemmas.Bool.{cases_eq, cases_lt}
 use Rattle.std.proofs.lemmas.Grind.{get_or-set_at}
-use Rattle.std.proofs.lemmas.List.{map-set, length-map, length-set, get_or-set_other}
-use Rattle.std.proofs.Math.ListN.{get_or-map}
+use Rattle.std.proofs.lemmas.List.{length-set, get_or-set_other, get_or_past, ext_get_or}
+use Rattle.std.proofs.lemmas.List.FromFn.{get_or-map-range_with_len, length-map-range_with_len}
 use Rattle.hg_place.specs.declared.standing.Standing.{Standing}
 use Rattle.hg_place.specs.declared.standing.Standing.TheVariants.{Home}
-use Rattle.hg_place.specs.Cells.{word_in, standing_in}
+use Rattle.hg_place.specs.Cells.{spot_of, seen}
 use Rattle.hg_place.specs.Lives.{IsSlotWord}
 use Rattle.hg_place.specs.Standings.{Fits, standing_at}
+
+-- no two places have one spot
+apart : (a b : ℕ) → a < 8192 → b < 8192 → spot_of a ≡ spot_of b → a ≡ b
+apart a b below under same = omega arith
+
+inside : (at : ℕ) → at < 8192 → spot_of at < 8192
+inside at below = omega arith
+
+module _ {X : Type 0} (says : ℕ → X) (cells : List ℕ) where
+  -- what the cell of a place says
+  abbrev cell_says : ℕ → X
+  cell_says at = says (slice_index cells (spot_of at))
+
+  pub seen_all : length (seen says cells) ≡ 8192
+  unfolding seen
+  seen_all = length-map-range_with_len cell_says 0 8192
+
+  pub seen_at : (at : ℕ) (d : X) → at < 8192 → get_or (seen says cells) at d ≡ says (slice_index cells (spot_of at))
+  unfolding seen
+  seen_at at d below = get_or-map-range_with_len cell_says 0 8192 at at d below (zero-add at)
+
+  -- where nothing was written
+  pub seen_blank : ((at : ℕ) → slice_index cells at ≡ 0) → (at : ℕ) → get_or (seen says cells) at (says 0) ≡ says 0
+  seen_blank blank at = elim (cases_lt at 8192) as (λ _. get_or (seen says cells) at (says 0) ≡ says 0) [
+    | inl below ↦ seen_at at (says 0) below ∙ ap says (blank (spot_of at))
+    | inr past ↦ get_or_past (seen says cells) at (says 0) (let all = seen_all in omega arith)
+  ]
+
+module _ {X : Type 0} (says : ℕ → X) (cells : List ℕ) (n cell : ℕ) (value d : X) (below : n < 8192) (all : length cells ≡ 8192) (is : says cell ≡ value) where
+  abbrev set_cells : List ℕ
+  set_cells = slice_set cells (spot_of n) cell
+
+  one_seen : (at : ℕ) → at < 8192 → get_or (seen says set_cells) at d ≡ get_or (slice_set (seen says cells) n value) at d
+  one_seen at under = elim (cases_eq at n) as (λ _. get_or (seen says set_cells) at d ≡ get_or (slice_set (seen says cells) n value) at d) [
+    | inl same ↦
+        seen_at says set_cells at d under
+        ∙ ap says (get_or-set_at cells (spot_of n) (spot_of at) cell 0 (ap spot_of same) (let low = inside n below in omega arith))
+        ∙ is ∙ sym (get_or-set_at (seen says cells) n at value d same (let long = seen_all says cells in omega arith))
+    | inr other ↦
+        seen_at says set_cells at d under
+        ∙ ap says (get_or-set_other cells (spot_of n) (spot_of at) cell 0 (λ one. other (apart at n under below one)))
+        ∙ sym (seen_at says cells at d under) ∙ sym (get_or-set_other (seen says cells) n at value d other)
+  ]
+
+  -- a cell that is set is one word, or one record, that is set
+  pub seen_with : seen says set_cells ≡ slice_set (seen says cells) n value
+  seen_with = ext_get_or d (seen says set_cells) (slice_set (seen says cells) n value)
+      (seen_all says set_cells ∙ sym (length-set (seen says cells) n value ∙ seen_all says cells))
+      (λ at under. one_seen at (let long = seen_all says set_cells in omega arith))
 
 -- each word is a slot word that fits its record
 abbrev pub AreFit : List ℕ → List Standing → Type 0
@@ -16,7 +65,7 @@ AreFit words records =
     (at : ℕ) → at < 8192
     → IsSlotWord (slice_index words at) × Fits (standing_at records at) (slice_index words at)
 
-fit_with : (words : List ℕ) (records : List Standing) (n word : ℕ) (standing : Standing)
+pub fit_with : (words : List ℕ) (records : List Standing) (n word : ℕ) (standing : Standing)
     → n < length words → n < length records → IsSlotWord word → Fits standing word
     → AreFit words records → AreFit (slice_set words n word) (slice_set records n standing)
 fit_with words records n word standing in_words in_records slot fits old at below =
@@ -26,33 +75,10 @@ fit_with words records n word standing in_words in_records slot fits old at belo
       | inr other ↦ rw (get_or-set_other words n at word 0 other, get_or-set_other records n at standing (Home 0) other) (old at below)
     ]
 
-module _ (cells : List ℕ) (n cell word : ℕ) (standing : Standing) (is_word : word_in cell ≡ word) (is_standing : standing_in cell ≡ standing) where
-  pub words_with : map word_in (slice_set cells n cell) ≡ slice_set (map word_in cells) n word
-  words_with = map-set word_in cells n cell ∙ ap (slice_set (map word_in cells) n) is_word
-
-  pub records_with : map standing_in (slice_set cells n cell) ≡ slice_set (map standing_in cells) n standing
-  records_with = map-set standing_in cells n cell ∙ ap (slice_set (map standing_in cells) n) is_standing
-
-  pub still_fit : n < length cells → IsSlotWord word → Fits standing word → AreFit (map word_in cells) (map standing_in cells)
-      → AreFit (map word_in (slice_set cells n cell)) (map standing_in (slice_set cells n cell))
-  still_fit below slot fits old =
-      rw (words_with, records_with)
-      (fit_with (map word_in cells) (map standing_in cells) n word standing
-      (rw (length-map cells word_in) below) (rw (length-map cells standing_in) below) slot fits old)
-
--- there are as many as before
-pub still_all : {Y : Type 0} (f : ℕ → Y) (cells : List ℕ) (n cell : ℕ) → length (map f cells) ≡ 8192
-    → length (map f (slice_set cells n cell)) ≡ 8192
-still_all f cells n cell all =
-    length-map (slice_set cells n cell) f ∙ length-set cells n cell ∙ sym (length-map cells f) ∙ all
-
-pub in_cells : (cells : List ℕ) (n : ℕ) → length (map word_in cells) ≡ 8192 → n < 8192 → n < length cells
-in_cells cells n all below = let same = length-map cells word_in in omega (arith, same, all, below)
-
--- cells of which nothing was written
-module _ (cells : List ℕ) (blank : (at : ℕ) → slice_index cells at ≡ 0) where
-  pub word_blank : (at : ℕ) → slice_index (map word_in cells) at ≡ 0
-  word_blank at = get_or-map word_in cells at 0 ∙ ap word_in (blank at)
-
-  pub standing_blank : (at : ℕ) → standing_at (map standing_in cells) at ≡ Home 0
-  standing_blank at = get_or-map standing_in cells at 0 ∙ ap standing_in (blank at)
+-- a place's cell is set, by its spot
+pub seen_then : {X : Type 0} (says : ℕ → X) (d : X) (cells new : List ℕ) (spot n cell : ℕ) (value : X)
+    → new ≡ slice_set cells spot cell → spot ≡ spot_of n → n < 8192 → length cells ≡ 8192 → says cell ≡ value
+    → seen says new ≡ slice_set (seen says cells) n value
+seen_then says d cells new spot n cell value set stands below all is =
+    ap (seen says) (set ∙ ap (λ at. slice_set cells at cell) stands)
+    ∙ seen_with says cells n cell value d below all is

@@ -1,32 +1,36 @@
 ghost use Rattle.std.specs.Prelude.{◌≡◌, ◌≢◌, ℕ, ◌-◌, ◌<◌, false, length, slice_set, slice_index};
-ghost use Rattle.std.specs.Prelude.{map, OnOk, IfErr, IfOk};
+ghost use Rattle.std.specs.Prelude.{OnOk, IfErr, IfOk};
 ghost use Rattle.hg_place.specs.declared.geometry.TheConstants.{MAX_SEGMENTS, SEGMENT_PLACES};
 ghost use Rattle.hg_place.specs.declared.geometry.TheConstants.{PAGE_PLACES};
 ghost use Rattle.hg_place.specs.Lives.{IsLiveWord, IsSlotWord};
-ghost use Rattle.hg_place.specs.Cells.{word_in, standing_in};
+ghost use Rattle.hg_place.specs.Cells.{word_in, standing_in, seen, spot_of};
 ghost use Rattle.hg_place.specs.Standings.{standing_at, slot_of, is_home, Fits};
 ghost use Rattle.hg_place.specs.declared.standing.Standing.TheVariants.{Home};
 
 use crate::cells::{cell_of, standing_in, word_in};
-use crate::geometry::{PAGE_PLACES, SEGMENT_PLACES};
+use crate::geometry::{SEGMENT_PAGES, SEGMENT_PLACES};
 use crate::{Handle, Place, SlotWords, Standing, pack, word_generation};
 use hg_reserved::Reserved;
 use std::alloc::{AllocError, Global};
 
+/// How many cells of a page stand together.
+const EIGHT: usize = 8;
+
 /// The slot words of a segment for one thread alone: a step finds the word that stands. A place's
-/// word and its record take 8 bytes, in memory that is touched when the place, or one of a greater
-/// number, is first given out.
+/// word and its record take 8 bytes, those of the first places of all pages side by side, in memory
+/// that is touched when the place, or one behind it, is first given out.
 #[derive(Drop)]
 pub struct PlainWords {
     segment: u8,
-    // by place, its word and its record in one
+    // of each place its word and its record in one, at the place's spot
     cells: Reserved<u64>,
     ghost segment_below: { segment < MAX_SEGMENTS },
-    ghost all_words: { length (map word_in cells) ≡ SEGMENT_PLACES },
-    ghost all_records: { length (map standing_in cells) ≡ SEGMENT_PLACES },
+    ghost all_cells: { length cells ≡ SEGMENT_PLACES },
+    ghost all_words: { length (seen word_in cells) ≡ SEGMENT_PLACES },
+    ghost all_records: { length (seen standing_in cells) ≡ SEGMENT_PLACES },
     ghost fit: { (at : ℕ) → at < SEGMENT_PLACES
-        → IsSlotWord (slice_index (map word_in cells) at)
-        × Fits (standing_at (map standing_in cells) at) (slice_index (map word_in cells) at) },
+        → IsSlotWord (slice_index (seen word_in cells) at)
+        × Fits (standing_at (seen standing_in cells) at) (slice_index (seen word_in cells) at) },
 }
 
 impl SlotWords for PlainWords {
@@ -68,7 +72,7 @@ impl SlotWords for PlainWords {
     }
 
     fn standing(&self, place: Place) -> Standing {
-        standing_in(self.cells.get(slot(place)))
+        standing_in(self.cells.get(spot(place)))
     }
 
     fn look(&mut self, place: Place) -> u64 {
@@ -127,7 +131,7 @@ impl PlainWords {
         requires { place.segment ≡ self.now.segment }
         ensures { result ≡ slice_index (plain_words self.now) (slot_of place) }
     {
-        word_in(self.cells.get(slot(place)))
+        word_in(self.cells.get(spot(place)))
     }
 
     /// Ends the life of the live word that is expected, and leaves the place open. An error has the
@@ -167,14 +171,18 @@ impl PlainWords {
         ensures records { plain_records self.new
             ≡ slice_set (plain_records self.old) (slot_of place) standing }
     {
-        self.cells.set(slot(place), cell_of(standing, word));
+        self.cells.set(spot(place), cell_of(standing, word));
     }
 }
 
-/// The number of a place in its segment.
-fn slot(place: Place) -> usize
-    ensures value { result ≡ slot_of place }
+/// Where the cell of a place stands. Eight of a page fill a line of a cache; those of all pages stand
+/// side by side, so that few lines and pages of memory serve pages that have few places.
+fn spot(place: Place) -> usize
+    ensures value { result ≡ spot_of (slot_of place) }
     ensures below { result < SEGMENT_PLACES }
 {
-    usize::from(place.page) * PAGE_PLACES + usize::from(place.index)
+    let index = usize::from(place.index);
+    let row = index / EIGHT;
+    let column = (usize::from(place.page) + row) % SEGMENT_PAGES;
+    row * (EIGHT * SEGMENT_PAGES) + column * EIGHT + index % EIGHT
 }

@@ -1,0 +1,12 @@
+use Rattle.std.proofs.Common.{◌∙◌, sym, ap, arith, slice_index}
+use Rattle.hg_place.specs.declared.standing.Standing.TheVariants.{Home}
+use Rattle.hg_place.specs.Cells.{standing_in}
+use Rattle.hg_place.specs.Standings.{slot_of}
+use Rattle.hg_place.proofs.CellLists.{seen_at}
+use Rattle.hg_place.proofs.plain.PlainWordsSlotWords.standing.Goals as goal
+
+pub returns : goal.returns
+returns c =
+    let s = c.args.self.now in
+    c.standing_in.ensures ∙ ap standing_in (c.get.ensures ∙ ap (λ n. slice_index s.cells n) c.spot.ensures.value)
+    ∙ sym (seen_at standing_in s.cells (slot_of c.args.place) (Home 0) (let page = c.args.place.page_below in let index = c.args.place.index_below in omega arith))
