@@ -1,5 +1,5 @@
 -- Frees of an owner's blocks, place by place.
-use Rattle.std.proofs.Common.{◌≡◌, ℕ, ◌+◌, true, false, List, [], ◌∷◌, ◌++◌, map, refl, sym, ap, subst, ◌∙◌, cond}
+use Rattle.std.proofs.Common.{◌≡◌, ℕ, ◌+◌, ◌-◌, ◌<◌, ◌≤◌, true, false, List, [], ◌∷◌, ◌++◌, map, refl, sym, ap, subst, ◌∙◌, cond, append-nil, arith}
 use Rattle.std.specs.List.{range_with_len, count_by}
 use Rattle.std.proofs.lemmas.List.{map-append}
 use Rattle.std.proofs.lemmas.List.Sums.{sum_by-append}
@@ -16,6 +16,7 @@ use Rattle.hg_core.specs.declared.refusals.NotFreed.TheVariants as not_freed
 use Rattle.hg_core.specs.Answers.{free_answer}
 use Rattle.std.specs.Prelude.{Ok, Err, Some}
 use Rattle.hg_machine.specs.Lists.{Kept}
+use Rattle.hg_machine.specs.Listing.{Line, is_listed}
 use Rattle.hg_machine.specs.declared.Event.{Event}
 use Rattle.hg_machine.specs.declared.Event.TheVariants as event
 use Rattle.hg_machine.specs.declared.Answer.{Answer}
@@ -25,7 +26,7 @@ use Rattle.hg_choice.proofs.ChoiceLemmas.{same_kept}
 use Rattle.hg_bulk.specs.Freeing.{FreesAmong, frees, is_freed}
 use Rattle.hg_bulk.specs.Later.{IsSameFrom}
 use Rattle.hg_bulk.specs.OwnBlocks.{own_lines, life_of, life_of_line, IsOwnBlock}
-use Rattle.hg_bulk.proofs.OwnBlockLemmas.{is_row, own_lines-append, own_lines_same, range_more}
+use Rattle.hg_bulk.proofs.OwnBlockLemmas.{is_row, no_lines, own_lines-append, own_lines_range, range_then}
 
 -- a Look leaves all that is kept
 pub look_leaves : (k new : Kept) (worker : ℕ) (actor : Actor) (place : Place) (a : Answer) → ChosenStep k worker (event.Look actor place) a new → new ≡ k
@@ -74,21 +75,50 @@ chosen_then [] more (a ∷ answers) rest old mid new run then = absurd run
 chosen_then (e ∷ es) more [] rest old mid new run then = absurd run
 chosen_then (e ∷ es) more (a ∷ answers) rest old mid new run then = (run.0, run.1, chosen_then es more answers rest run.0 mid new run.2 then)
 
--- those of the places before, and then that of the next
-pub frees_next : (old mid new : Kept) (worker : ℕ) (actor : Actor) (owner n m count : ℕ) → IsSameFrom old.state mid.state n
-    → FreesAmong old worker actor owner (range_with_len 0 n) m mid → FreesAmong mid worker actor owner (n ∷ []) count new
-    → FreesAmong old worker actor owner (range_with_len 0 (n + 1)) (m + count) new
-frees_next old mid new worker actor owner n m count later one two = record {
+-- those of the places before, and then those of the next
+pub frees_more : (old mid new : Kept) (worker : ℕ) (actor : Actor) (owner a n k at next m count : ℕ) → at ≡ a + n → next ≡ n + k
+    → IsSameFrom old.state mid.state at
+    → FreesAmong old worker actor owner (range_with_len a n) m mid → FreesAmong mid worker actor owner (range_with_len at k) count new
+    → FreesAmong old worker actor owner (range_with_len a next) (m + count) new
+frees_more old mid new worker actor owner a n k at next m count here then later one two = record {
   handles = one.handles ++ two.handles;
   named =
       map-append life_of one.handles two.handles
       ∙ ap (λ l. l ++ map life_of two.handles) one.named
-      ∙ ap (λ l. map life_of_line (own_lines old.state worker owner (range_with_len 0 n)) ++ l) (two.named ∙ ap (map life_of_line) (own_lines_same old.state mid.state worker owner n later))
-      ∙ sym (map-append life_of_line (own_lines old.state worker owner (range_with_len 0 n)) (own_lines old.state worker owner (n ∷ [])))
-      ∙ ap (map life_of_line) (sym (own_lines-append old.state worker owner (range_with_len 0 n) (n ∷ [])) ∙ ap (own_lines old.state worker owner) (sym (range_more n)));
+      ∙ ap (λ l. map life_of_line (lines (range_with_len a n)) ++ l) (two.named ∙ ap (map life_of_line) (own_lines_range old.state mid.state worker owner at k later))
+      ∙ sym (map-append life_of_line (lines (range_with_len a n)) (lines (range_with_len at k)))
+      ∙ ap (map life_of_line)
+      (sym (own_lines-append old.state worker owner (range_with_len a n) (range_with_len at k))
+      ∙ ap (λ p. lines (range_with_len a n ++ range_with_len p k)) here
+      ∙ ap lines (sym (range_then a n k)) ∙ ap (λ p. lines (range_with_len a p)) (sym then));
   answers = one.answers ++ two.answers;
   run =
       subst (λ events. Chosen old events (one.answers ++ two.answers) new) (sym (map-append (λ handle. (worker, event.Free actor handle)) one.handles two.handles))
       (chosen_then (frees worker actor one.handles) (frees worker actor two.handles) one.answers two.answers old mid new one.run two.run);
   counted = rw (one.counted, two.counted) (sym (sum_by-append (λ a. cond (is_freed a) 1 0) one.answers two.answers));
-}
+} where
+  lines : List ℕ → List Line
+  lines = own_lines old.state worker owner
+
+-- those of the first places of a range are all, where no other is listed
+pub frees_past : (old new : Kept) (worker : ℕ) (actor : Actor) (owner a n all m : ℕ) → n ≤ all
+    → ((place : ℕ) → a + n ≤ place → place < a + all → is_listed old.state worker owner place ≡ false)
+    → FreesAmong old worker actor owner (range_with_len a n) m new → FreesAmong old worker actor owner (range_with_len a all) m new
+frees_past old new worker actor owner a n all m low none freed =
+    let s = old.state in
+    let rest = all - n in
+    let split : n + rest ≡ all = omega arith in
+    let first = own_lines s worker owner (range_with_len a n) in
+    record {
+      handles = freed.handles;
+      named =
+          freed.named
+          ∙ ap (map life_of_line)
+          (sym (append-nil first)
+          ∙ ap (λ l. first ++ l) (sym (no_lines s worker owner (a + n) rest (λ place from below. none place from (omega arith))))
+          ∙ sym (own_lines-append s worker owner (range_with_len a n) (range_with_len (a + n) rest))
+          ∙ ap (own_lines s worker owner) (sym (range_then a n rest) ∙ ap (range_with_len a) split));
+      answers = freed.answers;
+      run = freed.run;
+      counted = freed.counted;
+    }

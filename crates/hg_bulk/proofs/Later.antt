@@ -58,6 +58,15 @@ same_then one two low = record {
   records = λ place after. two.records place after ∙ one.records place (omega arith);
 }
 
+-- further on too
+pub same_past : {s t : State} {first next : ℕ} → IsSameFrom s t first → first ≤ next → IsSameFrom s t next
+same_past same low = record {
+  policy = same.policy;
+  holders = same.holders;
+  places = same.places;
+  records = λ place after. same.records place (omega arith);
+}
+
 module _ {s t : State} {first : ℕ} (same : IsSameFrom s t first) (worker owner place : ℕ) (after : first ≤ place) where
   pub listed_same : is_listed t worker owner place ≡ is_listed s worker owner place
   listed_same = rw (same.policy, same.holders, same.records place after) refl

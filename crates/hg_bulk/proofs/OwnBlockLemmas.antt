@@ -1,17 +1,17 @@
 -- What a Look by an owner tells of its own blocks.
-use Rattle.std.proofs.Common.{◌≡◌, ℕ, ◌+◌, ◌*◌, ◌<◌, ◌==◌, inl, inr, Bool, true, false, cond, not, List, [], ◌∷◌, ◌++◌, Option, Some, None, map, filter, is_none, max, refl, sym, ap, ◌∙◌, arith}
+use Rattle.std.proofs.Common.{◌≡◌, ℕ, ◌+◌, ◌*◌, ◌<◌, ◌≤◌, ◌==◌, zero, suc, inl, inr, Bool, true, false, cond, not, List, [], ◌∷◌, ◌++◌, Option, Some, None, map, filter, is_none, max, refl, sym, ap, ◌∙◌, arith}
 use Rattle.std.specs.List.{range_with_len}
-use Rattle.std.proofs.lemmas.Bool.{true≢false}
+use Rattle.std.proofs.lemmas.Bool.{true≢false, and_left, and_right}
 use Rattle.std.proofs.lemmas.Option.{none-some}
-use Rattle.std.proofs.lemmas.List.{map-append, map-id}
+use Rattle.std.proofs.lemmas.List.{map-append}
 use Rattle.std.proofs.lemmas.List.Elements.{filter-append}
-use Rattle.std.proofs.lemmas.List.FromFn.{map-range_with_len_more}
 use Rattle.hg_place.specs.declared.Actor.{Actor}
 use Rattle.hg_place.specs.declared.Right.TheVariants as right
-use Rattle.hg_place.specs.Places.{place_at, number_of}
+use Rattle.hg_place.specs.Places.{place_at, number_of, segment_of}
+use Rattle.hg_machine.specs.Life.{home, is_live}
 use Rattle.hg_machine.specs.State.{State, record_at}
 use Rattle.hg_machine.specs.Holders.{holds}
-use Rattle.hg_machine.specs.Denial.{denial}
+use Rattle.hg_machine.specs.Denial.{denial, denial_on, slot_at}
 use Rattle.hg_machine.specs.Refusal.{denial_or, refusal}
 use Rattle.hg_machine.specs.Listing.{line_of, line_at, is_listed}
 use Rattle.hg_machine.specs.Soundness.{IsSound}
@@ -21,11 +21,12 @@ use Rattle.hg_machine.specs.declared.Row.{Row}
 use Rattle.hg_machine.specs.declared.Rule.{Rule}
 use Rattle.hg_machine.specs.declared.Answer.{Answer}
 use Rattle.hg_machine.specs.declared.Answer.TheVariants as answer
+use Rattle.hg_machine.proofs.Allowed.{parts}
 use Rattle.hg_machine.proofs.Cases.{step_cases}
 use Rattle.hg_machine.proofs.Looks.{looks_are_listed}
 use Rattle.hg_bulk.specs.Later.{IsSameFrom}
 use Rattle.hg_bulk.specs.OwnBlocks.{own_lines, life_of_line, IsOwnBlock}
-use Rattle.hg_bulk.proofs.Later.{listed_same, line_same}
+use Rattle.hg_bulk.proofs.Later.{same_past, listed_same, line_same}
 
 abbrev pub is_row : Answer → Bool
 is_row (answer.Listed row) = true
@@ -110,7 +111,52 @@ own_lines_same s t worker owner place same =
     ap (λ b. filter (λ line. line.owner == owner) (map (line_at t) (cond b (place ∷ []) []))) (listed_same same worker owner place (omega arith))
     ∙ one_line s t owner place (is_listed s worker owner place) (line_same same worker owner place (omega arith))
 
-pub range_more : (n : ℕ) → range_with_len 0 (n + 1) ≡ range_with_len 0 n ++ n ∷ []
-range_more n =
-    sym (map-id (range_with_len 0 (n + 1))) ∙ map-range_with_len_more (λ x. x) 0 n n (omega arith)
-    ∙ ap (λ l. l ++ n ∷ []) (map-id (range_with_len 0 n))
+pub own_lines_range : (s t : State) (worker owner a n : ℕ) → IsSameFrom s t a
+    → own_lines t worker owner (range_with_len a n) ≡ own_lines s worker owner (range_with_len a n)
+own_lines_range s t worker owner a zero same = refl
+own_lines_range s t worker owner a (suc n) same =
+    let rest = range_with_len (a + 1) n in
+    own_lines-append t worker owner (a ∷ []) rest
+    ∙ ap (λ l. l ++ own_lines t worker owner rest) (own_lines_same s t worker owner a same)
+    ∙ ap (λ l. own_lines s worker owner (a ∷ []) ++ l) (own_lines_range s t worker owner (a + 1) n (same_past same (omega arith)))
+    ∙ sym (own_lines-append s worker owner (a ∷ []) rest)
+
+pub range_then : (a m n : ℕ) → range_with_len a (m + n) ≡ range_with_len a m ++ range_with_len (a + m) n
+range_then a zero n = let d : 0 + n ≡ n = omega arith in let e : a + 0 ≡ a = omega arith in rw (d, e) refl
+range_then a (suc m) n =
+    let d : suc m + n ≡ suc (m + n) = omega arith in
+    let e : a + suc m ≡ (a + 1) + m = omega arith in
+    rw (d, e) (ap (λ l. a ∷ l) (range_then (a + 1) m n))
+
+some_is : (o : Option Rule) → (o ≡ None → ⊥) → is_none o ≡ false
+some_is None denied = absurd (denied refl)
+some_is (Some rule) denied = refl
+
+filter_passed : (p : ℕ → Bool) (a n : ℕ) → ((k : ℕ) → a ≤ k → k < a + n → p k ≡ false) → filter p (range_with_len a n) ≡ []
+filter_passed p a zero none = refl
+filter_passed p a (suc n) none =
+    rw (none a (omega arith) (omega arith)) (filter_passed p (a + 1) n (λ k from below. none k (omega arith) (omega arith)))
+
+module _ (s : State) (worker owner : ℕ) where
+  -- places that aren't listed have no lines
+  pub no_lines : (a n : ℕ) → ((k : ℕ) → a ≤ k → k < a + n → is_listed s worker owner k ≡ false) → own_lines s worker owner (range_with_len a n) ≡ []
+  no_lines a n none =
+      ap (λ places. filter (λ line. line.owner == owner) (map (line_at s) places)) (filter_passed (is_listed s worker owner) a n none)
+
+  -- one that is home isn't listed, nor is one that the worker doesn't hold
+  pub home_unlisted : (place : ℕ) → (record_at s place).life ≡ home → is_listed s worker owner place ≡ false
+  home_unlisted place is =
+      let r = record_at s place in
+      let denied = denial_on s.policy owner right.List (segment_of place) r.generation (slot_at s place) in
+      and_right (holds s worker (segment_of place)) (is_none denied)
+      (some_is denied
+      (λ none.
+      let p = parts s.policy owner right.List (segment_of place) r.generation (slot_at s place) none in
+      true≢false (sym p.2 ∙ ap is_live is)))
+
+  pub away_unlisted : (segment : ℕ) → holds s worker segment ≡ false → own_lines s worker owner (range_with_len (segment * 8192) 8192) ≡ []
+  away_unlisted segment away =
+      no_lines (segment * 8192) 8192
+      (λ k from below.
+      let in_it : segment_of k ≡ segment = omega arith in
+      and_left (holds s worker (segment_of k)) _ (ap (holds s worker) in_it ∙ away))

@@ -21,3 +21,4 @@ mod MadeOfParts
 mod Recorded
 mod Handed
 mod KindsTold
+pub mod PlacesTold

@@ -72,7 +72,7 @@ held_told true (Open g o) words = refl
 held_told false (Open g o) words = refl
 
 -- what is told of a segment where a worker holds it, and where nobody does
-plain_held : (core : Core) (n w : ℕ) → worker_of (parts_of core) n ≡ Some w
+pub plain_held : (core : Core) (n w : ℕ) → worker_of (parts_of core) n ≡ Some w
     → plain_of (parts_of core) n
     ≡ option_map plain_from (segment_in plain_number (heap_of core w).segments n)
 plain_held core n w e =
@@ -153,7 +153,7 @@ record_is_told parts right place lt st word kept =
     ∙ ap (λ (w : ℕ). standing_told st (w % 2 == 0)) (sym kept.word_is))
 
 -- a segment of the policy is held by the worker that the table names
-worker_is : (core : Core) (n : ℕ) → n < length core.policy.segments
+pub worker_is : (core : Core) (n : ℕ) → n < length core.policy.segments
     → worker_in (holder_at (state_in core) n) ≡ worker_of (parts_of core) n
 worker_is core n lt =
     ap worker_in (holder_is (parts_of core) n lt) ∙ worker_by (worker_of (parts_of core) n) _

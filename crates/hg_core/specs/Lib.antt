@@ -6,3 +6,4 @@ pub mod Opened
 pub mod Opening
 pub mod Records
 pub mod Kinds
+pub mod BlockPlaces

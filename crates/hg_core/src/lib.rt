@@ -16,6 +16,7 @@ mod hands;
 mod kinds;
 mod looking;
 mod opening;
+mod places;
 mod reaching;
 mod reading;
 mod records;

@@ -1,7 +1,9 @@
 mod allocating;
+mod block_places;
 mod cases;
 mod changing;
 mod draws;
+mod freed_at_once;
 mod machine;
 mod places;
 mod reached;

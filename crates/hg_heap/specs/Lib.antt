@@ -10,6 +10,7 @@ pub mod Idle
 pub mod Entering
 pub mod Releasing
 pub mod Policies
+pub mod BlockPlaces
 pub mod Ties
 pub mod Answers
 pub mod Freeing

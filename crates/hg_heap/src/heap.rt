@@ -1,12 +1,14 @@
-ghost use Rattle.std.specs.Prelude.{◌≡◌, ◌<◌, ◌↔◌, ℕ, true, false, [], None, Some, length, map};
+ghost use Rattle.std.specs.Prelude.{◌≡◌, ◌<◌, ◌≤◌, ◌↔◌, ℕ, true, false, [], None, Some, length, map};
 ghost use Rattle.std.specs.Prelude.{Contains, option_map, IfOk, IfSome, IfNone, IsTrue};
+ghost use Rattle.hg_place.specs.declared.geometry.TheConstants.{SEGMENT_PAGES, PAGE_PLACES};
 ghost use Rattle.hg_place.specs.declared.standing.Standing.{Standing};
 ghost use Rattle.hg_place.specs.Standings.{standing_at, slot_of};
 ghost use Rattle.hg_lists.specs.Repeats.{HasNoRepeats};
 ghost use Rattle.hg_queue.specs.declared.page_queues.TheConstants.{ARENAS};
 ghost use Rattle.hg_queue.specs.Queues.{queue_of};
 ghost use Rattle.hg_segment.specs.declared.charges.TheConstants.{TENANTS};
-ghost use Rattle.hg_segment.specs.Kept.{Kept};
+ghost use Rattle.hg_segment.specs.Kept.{Kept, class_at};
+ghost use Rattle.hg_heap.specs.BlockPlaces.{places_by};
 ghost use Rattle.hg_heap.specs.Charges.{charge_in};
 ghost use Rattle.hg_heap.specs.Found.{IsFoundAt};
 ghost use Rattle.hg_heap.specs.Held.{is_held, segment_in, lists_on, has_place};
@@ -18,6 +20,7 @@ use hg_place::{MAX_SEGMENTS, Place, SlotWords, Standing};
 use hg_policy::Policy;
 use hg_queue::PageQueues;
 use hg_segment::{Charges, Segment, TENANTS};
+use hg_size::per_page;
 use std::alloc::{AllocError, Global};
 use std::marker::Model;
 
@@ -120,6 +123,21 @@ impl<S: SlotWords> Heap<S> {
         self.segments[found as usize].standing(place.page, place.index)
     }
 
+    /// How many places the blocks of a page have, of a segment that is held: those of the page's
+    /// class, 0 where it has none. By `settled` each place at this index or behind it is home.
+    pub fn block_places(&self, segment: u8, page: u8) -> u16
+        requires held { is_held S.number self.now.segments segment ≡ true }
+        requires page { page < SEGMENT_PAGES }
+        ensures value { option_map (λ k. places_by (class_at k.classes page))
+            (segment_in S.number self.now.segments segment) ≡ Some result }
+        ensures few { result ≤ PAGE_PLACES }
+    {
+        let Some(found) = self.found(segment) else {
+            unreachable!()
+        };
+        places_on(&self.segments[found as usize], page)
+    }
+
     /// Whether a policy gives each held segment its arena and its greatest generation.
     pub fn is_of(&self, policy: &Policy) -> bool
         ensures { IsTrue result ↔ AreOf S.number policy.now self.now.segments }
@@ -165,4 +183,16 @@ fn is_given<S: SlotWords>(policy: &Policy, segment: &Segment<S>) -> bool
 {
     policy.arena_of(segment.number()) == Some(segment.arena())
         && segment.greatest() == policy.max_generation()
+}
+
+/// How many places the blocks of a page have: those of its class, 0 where it has none.
+fn places_on<S: SlotWords>(segment: &Segment<S>, page: u8) -> u16
+    requires { page < SEGMENT_PAGES }
+    ensures value { result ≡ places_by (class_at segment.now.classes page) }
+    ensures few { result ≤ PAGE_PLACES }
+{
+    match segment.class_of(page) {
+        Some(class) => per_page(class),
+        None => 0,
+    }
 }

@@ -1,9 +1,9 @@
 //! What a core tells of places, beside the plain machine: what is known of each, which are of a
-//! kind, and what workers have in hand.
+//! kind, how many block places each page has, and what workers have in hand.
 
-use crate::tests::machine::{Life, Machine, Record};
+use crate::tests::machine::{Holder, Life, Machine, Record, number_at};
 use hg_core::{Core, PlaceKind, PlaceLife, PlaceRecord};
-use hg_place::{MAX_SEGMENTS, PAGE_PLACES, SEGMENT_PLACES, place_at};
+use hg_place::{MAX_SEGMENTS, PAGE_PLACES, SEGMENT_PAGES, SEGMENT_PLACES, place_at};
 use std::process::Abort;
 
 /// Kinds of places, with tenants of the policies and one of none.
@@ -89,10 +89,38 @@ fn check_hands(rt: &impl Abort, core: &Core, machine: &Machine) {
     assert!(rt; core.hand(255).is_none());
 }
 
+/// Each page has as many block places as the machine's class of it, where a worker holds its
+/// segment, and else none; the other places of the page are home.
+fn check_block_places(rt: &impl Abort, core: &Core, machine: &Machine) {
+    for segment in 0..=u8::MAX {
+        let held = matches!(machine.holder(usize::from(segment)), Holder::Held(_));
+        for page in 0..=SEGMENT_PAGES as u8 {
+            let many = core.block_places(segment, page);
+            if held && usize::from(page) < SEGMENT_PAGES {
+                let number = usize::from(segment) * SEGMENT_PAGES + usize::from(page);
+                assert_eq!(rt; usize::from(many), machine.count_places(rt, number));
+                check_home(rt, machine, number, many);
+            } else {
+                assert_eq!(rt; many, 0);
+            }
+        }
+        assert_eq!(rt; core.block_places(segment, u8::MAX), 0);
+    }
+}
+
+/// The places of a page from an index on are home.
+fn check_home(rt: &impl Abort, machine: &Machine, page: usize, first: u16) {
+    for index in usize::from(first)..PAGE_PLACES {
+        let record = machine.record_at(rt, number_at(page, index));
+        assert_eq!(rt; record.life, Life::Home);
+    }
+}
+
 /// What a core tells of places is what the machine knows.
 pub fn check_places(rt: &impl Abort, core: &Core, machine: &Machine, page: usize) {
     check_records(rt, core, machine);
     check_hands(rt, core, machine);
+    check_block_places(rt, core, machine);
     for kind in &KINDS {
         check_kind(rt, core, machine, *kind, page);
     }

@@ -23,8 +23,8 @@ static WORKERS: [u8; 6] = [0, 1, 2, 3, 4, 255];
 
 /// Events and what they were answered.
 #[derive(Drop)]
-struct Told {
-    events: Vec<(u8, Event)>,
+pub struct Told {
+    pub events: Vec<(u8, Event)>,
     answers: Vec<Answer>,
 }
 
@@ -50,7 +50,7 @@ fn check_holders(rt: &impl Abort, core: &Core, machine: &Machine) {
 }
 
 /// Events drawn from a seed and served one by one; after each hundredth the core is asked.
-fn events_told(rt: &impl Abort, alloc: Global, policy: &str) -> Told {
+pub fn events_told(rt: &impl Abort, alloc: Global, policy: &str) -> Told {
     let mut run = Run::new(rt, alloc, policy, 5);
     let mut told = Told {
         events: Vec::new(alloc),
@@ -76,7 +76,7 @@ fn events_told(rt: &impl Abort, alloc: Global, policy: &str) -> Told {
 }
 
 /// Whether each event is one of a worker of the core.
-fn are_of_workers(core: &Core, events: &[(u8, Event)]) -> bool
+pub fn are_of_workers(core: &Core, events: &[(u8, Event)]) -> bool
     ensures { IsTrue result
         → All (λ event. event.0 < core.now.state.policy.workers) events.now }
 {
@@ -103,7 +103,7 @@ fn run(
 }
 
 /// A core that just opened.
-fn opened(alloc: Global, policy: &str) -> Result<Core, PolicyFault> {
+pub fn opened(alloc: Global, policy: &str) -> Result<Core, PolicyFault> {
     let policy = read_policy(alloc, policy.as_bytes())?;
     Ok(Core::open(alloc, policy)?)
 }

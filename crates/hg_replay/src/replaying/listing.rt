@@ -1,10 +1,13 @@
-//! A listing: a Look at each place of the segments that a worker holds.
+//! A listing: a Look at each place of the segments that a worker holds. Of a page its block places
+//! are looked at, since the others are home, and a Look at one of them gives no row.
 
-ghost use Rattle.std.specs.Prelude.{◌≡◌, ◌+◌, ◌*◌, ◌≤◌, ◌<◌, List, [], ◌∷◌, filter};
+ghost use Rattle.std.specs.Prelude.{◌≡◌, ◌+◌, ◌*◌, ◌≤◌, ◌<◌, true, List, [], ◌∷◌, filter};
 ghost use Rattle.std.specs.List.{range_with_len};
 ghost use Rattle.hg_choice.specs.ChosenSteps.{Chosen};
 ghost use Rattle.hg_machine.specs.declared.Answer.{Answer};
-ghost use Rattle.hg_place.specs.declared.geometry.TheConstants.{MAX_SEGMENTS};
+ghost use Rattle.hg_machine.specs.Holders.{holds};
+ghost use Rattle.hg_place.specs.declared.geometry.TheConstants.{MAX_SEGMENTS, SEGMENT_PAGES};
+ghost use Rattle.hg_place.specs.declared.geometry.TheConstants.{PAGE_PLACES};
 ghost use Rattle.hg_replay.specs.Listings.{held_among, held_places, looks};
 ghost use Rattle.hg_replay.specs.Looked.{Looked};
 ghost use Rattle.hg_replay.specs.Rows.{is_row};
@@ -15,7 +18,7 @@ use crate::replaying::output::Output;
 use crate::replaying::sink::Sink;
 use hg_core::Core;
 use hg_machine::{Answer, Event};
-use hg_place::{Actor, SEGMENT_PLACES, place_at};
+use hg_place::{Actor, PAGE_PLACES, SEGMENT_PAGES, SEGMENT_PLACES, place_at};
 
 fn is_row(answer: Answer) -> bool
     ensures { result ≡ is_row answer }
@@ -52,31 +55,39 @@ fn look<W: Sink>(
     1
 }
 
-/// Looks at each place of a segment, and tells how many rows it gave to be written.
-fn list_segment<W: Sink>(
+/// Looks at the block places of a page of a segment that the worker holds, and tells how many rows
+/// it gave to be written. A Look at any other place of the page is answered without a row, since
+/// the place is home.
+fn list_page<W: Sink>(
     core: &mut Core,
     worker: u8,
     actor: Actor,
     segment: u8,
+    page: u8,
     output: &mut Output,
     out: &mut W,
 ) -> u32
     requires worker { worker < core.old.state.policy.workers }
     requires segment { segment < MAX_SEGMENTS }
+    requires page { page < SEGMENT_PAGES }
+    requires held { holds core.old.state worker segment ≡ true }
     ensures same { core.new ≡ core.old }
     ensures looked { Looked core.old worker actor
-        (range_with_len (segment * SEGMENT_PLACES) SEGMENT_PLACES)
+        (range_with_len (segment * SEGMENT_PLACES + page * PAGE_PLACES) PAGE_PLACES)
         result (W.seen out.old) output.old (W.seen out.new) output.new }
-    ensures few { result ≤ SEGMENT_PLACES }
+    ensures few { result ≤ PAGE_PLACES }
 {
+    let first = usize::from(page) * PAGE_PLACES;
     let mut rows = 0;
-    for number in 0..SEGMENT_PLACES {
+    for index in 0..core.block_places(segment, page) {
+        let number = first + usize::from(index);
         rows += look(core, worker, actor, segment, number, output, out);
     }
     rows
 }
 
-/// The same, where the worker holds the segment, and else nothing.
+/// Looks at each place of a segment, page by page, where the worker holds it, and else at none; and
+/// tells how many rows it gave to be written.
 fn list_held<W: Sink>(
     core: &mut Core,
     worker: u8,
@@ -97,7 +108,11 @@ fn list_held<W: Sink>(
     if !core.holds(worker, segment) {
         return 0;
     }
-    list_segment(core, worker, actor, segment, output, out)
+    let mut rows = 0;
+    for page in 0..SEGMENT_PAGES as u8 {
+        rows += list_page(core, worker, actor, segment, page, output, out);
+    }
+    rows
 }
 
 /// Emits the rows of what the worker holds to be written, and tells how many there are.

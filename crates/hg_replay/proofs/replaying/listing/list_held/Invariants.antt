@@ -1,0 +1,16 @@
+use Rattle.std.proofs.Common.{◌≡◌, ◌*◌, ◌≤◌}
+use Rattle.std.specs.List.{range_with_len}
+use Rattle.hg_replay.specs.Looked.{Looked}
+use Rattle.hg_replay.proofs.replaying.listing.list_held.Given as goal
+
+-- the places of the pages so far are looked at
+abbrev pub invariant-loop-page : goal.invariant-loop-page
+invariant-loop-page g l =
+    let seen = g.W.Sink.seen in
+    record {
+      same : l.core ≡ l.fn.core;
+      looked :
+          Looked l.fn.core l.fn.worker l.fn.actor (range_with_len (l.fn.segment * 8192) (l.page * 512)) l.rows (seen l.fn.out) l.fn.output
+          (seen l.out) l.output;
+      few : l.rows ≤ l.page * 512;
+    }
