@@ -1,5 +1,4 @@
-mod Reached
-mod WordEventLemmas
+mod Refusals
 mod WordRuns
 mod Later
 mod OwnBlockLemmas

@@ -26,22 +26,19 @@ pub fn read_words(
     ensures kept { IsSound core.new.state × IsPartition core.new }
 {
     let _policy = core.policy(); // so that what holds of the core is known before the first word
-    let mut index = first;
-    for done in 0..room.len() {
-        match core.read(worker, actor, handle, index) {
-            Ok(word) => room[done] = word,
-            Err(refused) => {
-                return Progress {
-                    done,
-                    refused: Some(refused),
-                };
-            }
-        }
-        index += 1;
+    let done = core.read_words(worker, actor, handle, first, room);
+    if done == room.len() {
+        return Progress {
+            done,
+            refused: None,
+        };
     }
-    Progress {
-        done: room.len(),
-        refused: None,
+    match core.read(worker, actor, handle, first + done as u32) {
+        Ok(_) => unreachable!(),
+        Err(refused) => Progress {
+            done,
+            refused: Some(refused),
+        },
     }
 }
 
@@ -60,18 +57,18 @@ pub fn write_words(
     ensures kept { IsSound core.new.state × IsPartition core.new }
 {
     let _policy = core.policy(); // so that what holds of the core is known before the first word
-    let mut index = first;
-    for done in 0..words.len() {
-        if let Err(refused) = core.write(worker, actor, handle, index, words[done]) {
-            return Progress {
-                done,
-                refused: Some(refused),
-            };
-        }
-        index += 1;
+    let done = core.write_words(worker, actor, handle, first, words);
+    if done == words.len() {
+        return Progress {
+            done,
+            refused: None,
+        };
     }
-    Progress {
-        done: words.len(),
-        refused: None,
+    match core.write(worker, actor, handle, first + done as u32, words[done]) {
+        Ok(()) => unreachable!(),
+        Err(refused) => Progress {
+            done,
+            refused: Some(refused),
+        },
     }
 }

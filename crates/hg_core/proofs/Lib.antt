@@ -16,9 +16,12 @@ mod Words
 mod FreedAway
 mod Kept
 mod Charged
-mod Runs
+pub mod Runs
 mod MadeOfParts
 mod Recorded
 mod Handed
 mod KindsTold
 pub mod PlacesTold
+pub mod Reached
+pub mod WordWrites
+mod WordReads

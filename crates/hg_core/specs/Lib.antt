@@ -7,3 +7,4 @@ pub mod Opening
 pub mod Records
 pub mod Kinds
 pub mod BlockPlaces
+pub mod WordEvents

@@ -1,4 +1,5 @@
 mod allocating;
+mod at_once;
 mod block_places;
 mod cases;
 mod changing;

@@ -16,6 +16,7 @@ pub mod Reached
 pub mod Freeable
 pub mod MeetCall
 pub mod ReadCall
+pub mod ReadMany
 pub mod LookCall
 pub mod Putting
 pub mod WriteCall

@@ -31,3 +31,4 @@ pub mod Taking
 pub mod Keeping
 pub mod Judged
 pub mod Homecoming
+pub mod Many

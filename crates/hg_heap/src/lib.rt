@@ -9,6 +9,7 @@ mod collecting;
 mod freeing;
 mod heap;
 pub mod laws;
+mod many;
 mod meeting;
 mod parting;
 mod reading;

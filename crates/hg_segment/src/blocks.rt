@@ -1,6 +1,7 @@
 //! The words of blocks.
 
-ghost use Rattle.std.specs.Prelude.{◌≡◌, ◌<◌, ◌+◌, ◌*◌, ℕ, false, Some, slice_index, slice_set};
+ghost use Rattle.std.specs.Prelude.{◌≡◌, ◌<◌, ◌≤◌, ◌+◌, ◌*◌, ℕ, false, Some, length};
+ghost use Rattle.std.specs.Prelude.{slice_index, slice_set};
 ghost use Rattle.hg_place.specs.declared.geometry.TheConstants.{SEGMENT_PAGES, PAGE_PLACES};
 ghost use Rattle.hg_place.specs.declared.geometry.TheConstants.{PAGE_WORDS, WORD_BYTES};
 ghost use Rattle.hg_place.specs.Standings.{standing_at, is_home};
@@ -25,6 +26,24 @@ impl<S: SlotWords> Segment<S> {
             unreachable!()
         };
         self.memory.get(start(class, page, index) + at as usize)
+    }
+
+    /// Copies as many words of an open block as `into` holds, from the word at `at` on.
+    pub fn read_words(&self, page: u8, index: u16, at: u16, into: &mut [u64])
+        requires page { page < SEGMENT_PAGES }
+        requires index { index < PAGE_PLACES }
+        requires open { is_home (standing_at (S.records self.now.slots) (slot page index))
+            ≡ false }
+        requires inside { (size : ℕ) → class_at self.now.classes page ≡ Some size
+            → at + length into.old ≤ size }
+        ensures { (k : ℕ) → k < length into.old → slice_index into.new k
+            ≡ slice_index (block_at self.now.words self.now.classes page index) (at + k) }
+    {
+        let Some(class) = self.classes.get(page) else {
+            unreachable!()
+        };
+        self.memory
+            .copy_out(start(class, page, index) + at as usize, into);
     }
 
     /// Writes a word of an open block.

@@ -25,6 +25,19 @@ pub static BYTES: [u64; 40] = [
     65536, 65537, 1000000,
 ];
 
+/// Words of a block, from the first of them on, and who asks for them where.
+#[derive(Clone, Copy, Debug)]
+pub struct Part {
+    pub worker: u8,
+    pub actor: Actor,
+    pub handle: Handle,
+    pub first: u32,
+    pub count: usize,
+}
+
+/// How many words more than a block has are asked for.
+const PAST: usize = 40;
+
 /// Numbers from a seed.
 #[derive(Drop)]
 struct Numbers {
@@ -152,6 +165,37 @@ impl Draws {
                     .below(record.words.len().min(SEGMENT_WORDS) + 1) as u32
             }
             _ => u32::MAX,
+        }
+    }
+
+    /// Words of a block on both sides of each bound: none, all that are left, one more, many more;
+    /// from the first on, from behind the last on, and from where no block has any.
+    pub fn part(&mut self, machine: &Machine) -> Part {
+        let handle = self.handle(machine);
+        let words = match machine.records.get(handle.place.number()) {
+            Some(record) => record.words.len().min(SEGMENT_WORDS),
+            None => 0,
+        };
+        let first = match self.numbers.below(8) {
+            0..3 => 0,
+            3 => words as u32,
+            4 => u32::MAX,
+            _ => self.numbers.below(words + 1) as u32,
+        };
+        let left = words.saturating_sub(first as usize);
+        let count = match self.numbers.below(6) {
+            0 => 0,
+            1 => left,
+            2 => left.wrapping_add(1),
+            3 => left.wrapping_add(PAST),
+            _ => left / 2,
+        };
+        Part {
+            worker: self.worker_at(machine, handle.place.segment),
+            actor: self.actor_at(machine, handle),
+            handle,
+            first,
+            count,
         }
     }
 

@@ -115,7 +115,7 @@ impl Run {
     }
 
     /// Many events that are drawn.
-    fn many(&mut self, rt: &impl Abort, alloc: Global, count: u32) {
+    pub fn many(&mut self, rt: &impl Abort, alloc: Global, count: u32) {
         for _ in 0..count {
             self.drawn(rt, alloc);
         }
@@ -193,7 +193,7 @@ impl Run {
     }
 
     /// All places that were given out are visited.
-    fn visit_all(&mut self, rt: &impl Abort, alloc: Global) {
+    pub fn visit_all(&mut self, rt: &impl Abort, alloc: Global) {
         for number in 0..self.machine.records.len() {
             if self.machine.record_at(rt, number).generation > 0 {
                 self.visit(rt, alloc, number);
@@ -213,7 +213,7 @@ impl Run {
 }
 
 /// What was reached, of a run that is done.
-fn reached_by(run: Run) -> Reached {
+pub fn reached_by(run: Run) -> Reached {
     let Run {
         core,
         machine,

@@ -95,6 +95,18 @@ impl Tried {
         self.heap.read(&self.policy, actor, handle, index)
     }
 
+    /// Reads a word of a block into room for one.
+    pub fn read_into(&mut self, actor: Actor, handle: Handle, index: u32) -> Option<u64> {
+        let mut room = [0; 1];
+        match self
+            .heap
+            .read_words(&self.policy, actor, handle, index, &mut room)
+        {
+            0 => None,
+            _ => Some(room[0]),
+        }
+    }
+
     /// Writes a word of a block.
     pub fn write(
         &mut self,

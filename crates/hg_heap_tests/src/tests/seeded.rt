@@ -265,6 +265,7 @@ impl Run {
     /// Reads a word of a block.
     fn read(&mut self, rt: &impl Abort, actor: Actor, handle: Handle, index: u32) {
         let answer = self.tried.read(actor, handle, index);
+        assert_eq!(rt; self.tried.read_into(actor, handle, index), answer.ok());
         match self.word(rt, actor, Right::Read, handle, index) {
             Ok(word) => assert!(rt; answer == Ok(*word)),
             Err(refused) => assert!(rt; answer == Err(refused)),

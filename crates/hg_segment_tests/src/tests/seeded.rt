@@ -182,7 +182,11 @@ fn read(rt: &impl Abort, segment: &Segment<PlainWords>, place: Place, at: u16) -
     );
     let class = segment.class_of(place.page).expect(rt, "a class");
     assert!(rt; at < block_words(class));
-    segment.read(place.page, place.index, at)
+    let mut words = [0; 1];
+    segment.read_words(place.page, place.index, at, &mut words);
+    let word = segment.read(place.page, place.index, at);
+    assert_eq!(rt; words[0], word);
+    word
 }
 
 /// Writes the last word of a block that is out.

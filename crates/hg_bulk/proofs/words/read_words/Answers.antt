@@ -1,44 +1,46 @@
-use Rattle.std.proofs.Common.{◌+◌, ◌<◌, length, take, drop, map, sym, ap, ◌∙◌, arith}
-use Rattle.std.proofs.lemmas.List.{length-set, drop-set-lt, drop-drop}
+use Rattle.std.proofs.Common.{◌+◌, ◌<◌, take, map, refl, sym, subst, arith}
 use Rattle.hg_heap.specs.Answers.{refused_answer}
+use Rattle.hg_machine.specs.Steps.{Step}
 use Rattle.hg_machine.specs.declared.Answer.TheVariants as answer
 use Rattle.hg_machine.specs.declared.Event.TheVariants as event
-use Rattle.hg_machine.proofs.Preserves.{steps_keep_policy}
-use Rattle.hg_bulk.proofs.Reached.{read_is_low}
-use Rattle.hg_bulk.proofs.WordRuns.{read_more, read_on}
+use Rattle.hg_bulk.proofs.Refusals.{never_both}
+use Rattle.hg_bulk.proofs.WordRuns.{reads_served, read_more, read_all}
 use Rattle.hg_bulk.proofs.words.read_words.Goals as goal
 
-pub returns-in-Err-clause-words : goal.returns-in-Err-clause-words
-returns-in-Err-clause-words c =
-    let l = c.loop-done in record {
+pub read-requires : goal.read-requires
+read-requires c = record { worker = subst (λ k. c.args.worker < k.state.policy.workers) (sym c.read_words-done.ensures.same) c.requires }
+
+pub unreachable-requires : goal.unreachable-requires
+unreachable-requires c =
+    let told = c.read_words-done.ensures in
+    let here = event.Read c.args.actor c.args.handle (c.args.first + c.read_words-done.result) in
+    let next = told.next (omega arith) in
+    never_both c.args.core.now.state c.read.new.self.state c.read_words-done.new.self.state c.args.worker here (answer.Value c.in-Ok.field-0) next.0 refl
+    (subst (λ k. Step k.state c.args.worker here (answer.Value c.in-Ok.field-0) c.read.new.self.state) told.same c.in-Ok.ensures.step) next.1.step
+
+-- the words that the core read
+pub returns-then-done-room-clause-words : goal.returns-then-done-room-clause-words
+returns-then-done-room-clause-words c =
+    let told = c.read_words-done.ensures in
+    let done = c.read_words-done.result in
+    let room = c.read_words-done.new.room in record {
       run =
-          read_more c.args.core.now c.args.worker c.args.actor c.args.handle c.args.first l.done l.core c.read.new.self
-          (map answer.Value (take l.done l.room)) (refused_answer c.in-Err.refused) l.index l.invariant.next l.invariant.run c.in-Err.ensures.chosen;
-      rest = l.invariant.rest;
+          read_all c.args.worker c.args.actor c.args.handle c.args.first done c.args.core.now c.read_words-done.new.self (map answer.Value (take done room))
+          (reads_served c.args.worker c.args.actor c.args.handle c.args.first room c.args.core.now c.read_words-done.new.self told.same done (omega arith) told.each);
+      rest = told.rest;
       end = omega arith;
     }
 
-pub overflow_add-index : goal.overflow_add-index
-overflow_add-index c =
-    let l = c.loop-done in
-    let low : l.index < 8192 = read_is_low l.core.state c.args.worker c.args.actor c.args.handle l.index c.in-Ok.word c.read.new.self.state l.invariant.kept.0 c.in-Ok.ensures.step in
-    omega arith
-
-pub loop-done-preserved : goal.loop-done-preserved
-loop-done-preserved c =
-    let l = c.loop-done in
-    let room = c.args.room.now in
-    let below : l.done < length l.room = (let all = l.invariant.all in omega arith) in record {
+pub returns-clause-words : goal.returns-clause-words
+returns-clause-words c =
+    let told = c.read_words-done.ensures in
+    let done = c.read_words-done.result in
+    let room = c.read_words-done.new.room in record {
       run =
-          read_on c.args.core.now c.args.worker c.args.actor c.args.handle c.args.first l.done l.core c.read.new.self
-          l.room c.in-Ok.word l.index below l.invariant.next l.invariant.run c.in-Ok.ensures.chosen;
-      rest =
-          drop-set-lt (l.done + 1) l.room l.done c.in-Ok.word (omega arith)
-          ∙ sym (drop-drop 1 l.done l.room) ∙ ap (drop 1) l.invariant.rest ∙ drop-drop 1 l.done room;
-      all = length-set l.room l.done c.in-Ok.word ∙ l.invariant.all;
-      next = (let next = l.invariant.next in omega arith);
-      policy =
-          steps_keep_policy l.core.state c.args.worker (event.Read c.args.actor c.args.handle l.index) (answer.Value c.in-Ok.word) c.read.new.self.state c.in-Ok.ensures.step
-          ∙ l.invariant.policy;
-      kept = c.in-Ok.ensures.kept;
+          read_more c.args.worker c.args.actor c.args.handle c.args.first done c.args.core.now c.read_words-done.new.self c.read.new.self
+          (map answer.Value (take done room)) (refused_answer c.in-Err.refused)
+          (reads_served c.args.worker c.args.actor c.args.handle c.args.first room c.args.core.now c.read_words-done.new.self told.same done (omega arith) told.each)
+          c.in-Err.ensures.chosen;
+      rest = told.rest;
+      end = omega arith;
     }
