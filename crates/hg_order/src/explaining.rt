@@ -3,11 +3,12 @@
 ghost use Rattle.std.specs.Prelude.{IfOk};
 ghost use Rattle.hg_order.specs.Founds.{IsRight};
 
+use crate::choice::Ended;
 use crate::found::Found;
 use crate::fronts::shortest_past;
 use crate::logs::Logs;
 use crate::orders::is_explained;
-use crate::search::{Ended, Search};
+use crate::search::Search;
 use hg_calls::Call;
 use hg_policy::Policy;
 use std::alloc::{AllocError, Global};
@@ -15,8 +16,8 @@ use std::alloc::{AllocError, Global};
 /// The calls in the order of a search.
 fn order_in(alloc: Global, search: &Search<'_>) -> Result<Vec<Call>, AllocError> {
     let mut order = Vec::new(alloc);
-    for step in search.order() {
-        order.push(step.call)?;
+    for call in search.order() {
+        order.push(call.step.call)?;
     }
     Ok(order)
 }

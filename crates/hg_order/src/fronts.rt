@@ -32,14 +32,32 @@ fn raised(front: &Vec<usize>, worker: usize, calls: usize) -> Result<Vec<usize>,
     Ok(raised)
 }
 
-/// The first of the ends that a front isn't past.
-fn end_above<'a>(ends: &'a [Vec<usize>], front: &[usize]) -> Option<&'a Vec<usize>> {
-    for end in ends {
-        if !is_past(front, end) {
-            return Some(end);
+/// A front, and how many of the ends it is known to be past: the first so many.
+#[derive(Drop)]
+struct Front {
+    calls: Vec<usize>,
+    past: usize,
+}
+
+/// The first of the ends that a front isn't past, and its number.
+fn end_above<'a>(ends: &'a [Vec<usize>], front: &Front) -> Option<(usize, &'a Vec<usize>)> {
+    for number in front.past..ends.len() {
+        if let Some(end) = ends.get(number) {
+            if !is_past(&front.calls, end) {
+                return Some((number, end));
+            }
         }
     }
     None
+}
+
+/// The front at which no worker made a call.
+fn start(alloc: Global, workers: usize) -> Result<Front, AllocError> {
+    let mut calls = Vec::new(alloc);
+    for _ in 0..workers {
+        calls.push(0)?;
+    }
+    Ok(Front { calls, past: 0 })
 }
 
 /// The shortest front that is past each of these, where workers make so many calls; `None` where
@@ -49,43 +67,42 @@ pub(crate) fn shortest_past(
     counts: &[usize],
     ends: &[Vec<usize>],
 ) -> Result<Option<Vec<usize>>, AllocError> {
-    let mut start = Vec::new(alloc);
-    for _ in counts {
-        start.push(0)?;
-    }
     let mut left = Vec::new(alloc);
-    left.push(start)?;
+    left.push(start(alloc, counts.len())?)?;
     let mut best: Option<Vec<usize>> = None;
     for _ in 0..LIMIT {
         let Some(front) = left.pop() else {
             break;
         };
         let is_longer = match &best {
-            Some(best) => size(best) <= size(&front),
+            Some(best) => size(best) <= size(&front.calls),
             None => false,
         };
         if is_longer {
             continue;
         }
         match end_above(ends, &front) {
-            None => best = Some(front),
-            Some(end) => add_past(&mut left, counts, &front, end)?,
+            None => best = Some(front.calls),
+            Some((number, end)) => add_past(&mut left, counts, &front, (number, end))?,
         }
     }
     drop(left);
     Ok(best)
 }
 
-/// Adds the fronts that go past an end by one worker.
+/// Adds the fronts that go past an end by one worker. A front that is past an end stays past it
+/// where it is raised.
 fn add_past(
-    left: &mut Vec<Vec<usize>>,
+    left: &mut Vec<Front>,
     counts: &[usize],
-    front: &Vec<usize>,
-    end: &[usize],
+    front: &Front,
+    end: (usize, &[usize]),
 ) -> Result<(), AllocError> {
-    for (worker, (calls, count)) in end.iter().zip(counts).enumerate() {
+    let past = end.0.wrapping_add(1);
+    for (worker, (calls, count)) in end.1.iter().zip(counts).enumerate() {
         if calls < count {
-            left.push(raised(front, worker, calls.wrapping_add(1))?)?;
+            let calls = raised(&front.calls, worker, calls.wrapping_add(1))?;
+            left.push(Front { calls, past })?;
         }
     }
     Ok(())

@@ -3,13 +3,20 @@
 //! is only what a search says.
 #![tactic(auto)]
 
+mod choice;
+mod cores;
 mod explaining;
 mod found;
 mod fronts;
+mod histories;
+mod left;
 mod logs;
 mod orders;
 mod search;
 mod seen;
+mod segments;
+mod spots;
+mod standing;
 mod step;
 
 pub use explaining::explain;

@@ -1,51 +1,17 @@
 //! A search for an order, call by call.
 
-use crate::logs::Logs;
-use crate::seen::is_lost;
+use crate::choice::{Choice, Ended, Tried};
+use crate::cores::{answered, missed, opened};
+use crate::logs::{Logged, Logs};
+use crate::standing::Standing;
 use crate::step::{Change, Step};
 use hg_core::Core;
-use hg_machine::Answer;
 use hg_policy::Policy;
 use std::alloc::{AllocError, Global};
 use std::collections::BTreeSet;
 
 /// How often a search tries a call at most.
 const LIMIT: u32 = 500_000;
-
-/// What stands in a key between two lists.
-const BETWEEN: u64 = u64::MAX;
-
-/// What became of a call that was tried.
-#[derive(Clone, Copy, Debug, PartialEq, Eq)]
-enum Tried {
-    /// The core gave its answer.
-    Agreed,
-    /// The core gave another.
-    Differed,
-    /// And no order that goes on from here gives its own.
-    Lost,
-}
-
-/// How a search ended.
-#[derive(Clone, Copy, Debug, PartialEq, Eq)]
-pub(crate) enum Ended {
-    AtOrder,
-    WithNone,
-    GivenUp,
-}
-
-/// A front at which several calls may be next.
-#[derive(Drop)]
-struct Choice {
-    /// How many calls came before it.
-    at: usize,
-    /// What tells it from other fronts and states.
-    key: Vec<u64>,
-    /// The workers whose calls weren't tried there, the last first.
-    left: Vec<usize>,
-    /// Whether a call was found that could be next.
-    has_gone_on: bool,
-}
 
 /// A search, where it stands.
 #[derive(Drop)]
@@ -58,9 +24,7 @@ pub(crate) struct Search<'a> {
     core: Core,
     /// Whether the core stands behind the calls of the order.
     is_fresh: bool,
-    order: Vec<Step>,
-    /// How many calls of each worker are in the order.
-    front: Vec<usize>,
+    standing: Standing<'a>,
     /// Whether a worker's next call was tried since the state changed.
     was_tried: Vec<bool>,
     choices: Vec<Choice>,
@@ -72,19 +36,6 @@ pub(crate) struct Search<'a> {
     tries: u32,
 }
 
-fn opened(alloc: Global, policy: &Policy) -> Result<Core, AllocError> {
-    let copy = policy.copy(alloc)?;
-    Core::open(alloc, copy)
-}
-
-/// What a core answers to a call; `None` where it has no such worker.
-fn answered(core: &mut Core, step: Step) -> Option<Answer> {
-    if step.call.worker >= core.policy().workers() {
-        return None;
-    }
-    Some(core.step(step.call.worker, step.call.event))
-}
-
 impl<'a> Search<'a> {
     pub fn new(
         alloc: Global,
@@ -92,10 +43,8 @@ impl<'a> Search<'a> {
         logs: &'a Logs,
         is_thorough: bool,
     ) -> Result<Search<'a>, AllocError> {
-        let mut front = Vec::new(alloc);
         let mut was_tried = Vec::new(alloc);
         for _ in 0..logs.len() {
-            front.push(0)?;
             was_tried.push(false)?;
         }
         Ok(Search {
@@ -105,8 +54,7 @@ impl<'a> Search<'a> {
             is_thorough,
             core: opened(alloc, policy)?,
             is_fresh: true,
-            order: Vec::new(alloc),
-            front,
+            standing: Standing::new(alloc, policy, logs)?,
             was_tried,
             choices: Vec::new(alloc),
             failed: BTreeSet::new(alloc),
@@ -116,45 +64,12 @@ impl<'a> Search<'a> {
     }
 
     /// The calls in the order that was found, or as far as the search has come.
-    pub fn order(&self) -> &[Step] {
-        &self.order
-    }
-
-    fn next_of(&self, worker: usize) -> Option<Step> {
-        let at = self.front.get(worker)?;
-        self.logs.step(worker, *at)
+    pub fn order(&self) -> &[&'a Logged] {
+        self.standing.order()
     }
 
     fn was_tried(&self, worker: usize) -> bool {
         self.was_tried.get(worker).copied().unwrap_or(true)
-    }
-
-    /// Whether another worker has a call left that this one would spoil.
-    fn spoils(&self, worker: usize, step: Step) -> bool {
-        for (other, at) in self.front.iter().enumerate() {
-            if other != worker {
-                for left in self.logs.rest(other, *at) {
-                    if left.is_spoilt_by(step) {
-                        return true;
-                    }
-                }
-            }
-        }
-        false
-    }
-
-    /// Whether another worker has a call left that can't come behind this one.
-    fn is_too_early(&self, worker: usize, step: Step) -> bool {
-        for (other, at) in self.front.iter().enumerate() {
-            if other != worker {
-                for left in self.logs.rest(other, *at) {
-                    if left.goes_before(step) {
-                        return true;
-                    }
-                }
-            }
-        }
-        false
     }
 
     /// The core again as it is behind the calls of the order.
@@ -163,8 +78,8 @@ impl<'a> Search<'a> {
             return Ok(());
         }
         self.core = opened(self.alloc, self.policy)?;
-        for step in &self.order {
-            let _ = answered(&mut self.core, *step);
+        for call in self.standing.order() {
+            let _ = answered(&mut self.core, &call.step);
         }
         self.is_fresh = true;
         Ok(())
@@ -178,37 +93,37 @@ impl<'a> Search<'a> {
     }
 
     /// Tries a worker's next call, which goes behind the order if it agrees.
-    fn attempt(&mut self, worker: usize, step: Step) -> Result<Tried, AllocError> {
+    fn attempt(&mut self, worker: usize, call: &'a Logged) -> Result<Tried, AllocError> {
         self.tries = self.tries.saturating_add(1);
-        self.freshen()?;
         if let Some(was_tried) = self.was_tried.get_mut(worker) {
             *was_tried = true;
         }
+        let step = &call.step;
+        if let Some(given) = self.standing.foreseen(call) {
+            if given != step.call.answer {
+                return Ok(missed(step, given));
+            }
+        }
+        self.freshen()?;
         let Some(given) = answered(&mut self.core, step) else {
             return Ok(Tried::Lost);
         };
         if given == step.call.answer {
-            self.add(worker, step)?;
+            self.add(worker, call)?;
             return Ok(Tried::Agreed);
         }
-        let mut other = step;
-        other.call.answer = given;
-        if Step::of(other.call, None).change != Change::Nothing {
+        let mut other = step.call;
+        other.answer = given;
+        if Step::of(other, None).change != Change::Nothing {
             self.is_fresh = false;
         }
-        if is_lost(step.call.event, step.call.answer, given) {
-            return Ok(Tried::Lost);
-        }
-        Ok(Tried::Differed)
+        Ok(missed(step, given))
     }
 
     /// A call goes behind the order.
-    fn add(&mut self, worker: usize, step: Step) -> Result<(), AllocError> {
-        self.order.push(step)?;
-        if let Some(at) = self.front.get_mut(worker) {
-            *at = at.wrapping_add(1);
-        }
-        if step.change == Change::Nothing {
+    fn add(&mut self, worker: usize, call: &'a Logged) -> Result<(), AllocError> {
+        self.standing.add(worker, call)?;
+        if call.step.change == Change::Nothing {
             if let Some(was_tried) = self.was_tried.get_mut(worker) {
                 *was_tried = false;
             }
@@ -220,16 +135,9 @@ impl<'a> Search<'a> {
 
     /// Goes back to a front of the order.
     fn go_back(&mut self, length: usize) {
-        for _ in 0..self.order.len() {
-            if self.order.len() <= length {
-                break;
-            }
+        for _ in length..self.standing.order().len() {
             self.is_fresh = false;
-            if let Some(step) = self.order.pop() {
-                if let Some(at) = self.front.get_mut(usize::from(step.call.worker)) {
-                    *at = at.saturating_sub(1);
-                }
-            }
+            self.standing.undo();
         }
         self.forget_tries();
     }
@@ -238,13 +146,16 @@ impl<'a> Search<'a> {
     /// Agreed where one came behind the order.
     fn advance(&mut self) -> Result<Tried, AllocError> {
         for worker in 0..self.logs.len() {
-            let Some(step) = self.next_of(worker) else {
-                continue;
-            };
-            if self.was_tried(worker) || self.spoils(worker, step) {
+            if self.was_tried(worker) {
                 continue;
             }
-            match self.attempt(worker, step)? {
+            let Some(call) = self.standing.next_of(worker) else {
+                continue;
+            };
+            if self.standing.spoils(worker, call) {
+                continue;
+            }
+            match self.attempt(worker, call)? {
                 Tried::Agreed => return Ok(Tried::Agreed),
                 Tried::Lost if !self.is_thorough => return Ok(Tried::Lost),
                 _ => {}
@@ -253,28 +164,21 @@ impl<'a> Search<'a> {
         Ok(Tried::Differed)
     }
 
-    /// Whether some worker's next call takes in what is sent to a segment.
-    fn is_awaited(&self, segment: u8) -> bool {
-        for worker in 0..self.logs.len() {
-            if let Some(step) = self.next_of(worker) {
-                if step.takes(segment) {
-                    return true;
-                }
-            }
-        }
-        false
-    }
-
     /// How late a call is tried where several may be next: others' blocks are sent where they are
     /// asked for.
-    fn lateness(&self, step: Step) -> u8 {
+    fn lateness(&self, step: &Step) -> u8 {
         match step.change {
             Change::Takes(_) => 0,
-            Change::Sends(segment) if self.is_awaited(segment) => 2,
+            Change::Sends(segment) if self.standing.is_awaited(segment) => 2,
             Change::Sends(_) => 4,
             Change::Pool => 3,
             _ => 1,
         }
+    }
+
+    /// Whether a worker's call may be next where several may be.
+    fn may_be_next(&self, worker: usize, call: &Logged) -> bool {
+        !self.was_tried(worker) && (self.is_thorough || !self.standing.is_too_early(worker, call))
     }
 
     /// The workers whose calls may be next, the first to be tried last.
@@ -282,12 +186,10 @@ impl<'a> Search<'a> {
         let mut candidates = Vec::new(self.alloc);
         for lateness in (0..5u8).rev() {
             for worker in 0..self.logs.len() {
-                let Some(step) = self.next_of(worker) else {
+                let Some(call) = self.standing.next_of(worker) else {
                     continue;
                 };
-                let is_left = !self.was_tried(worker)
-                    && (self.is_thorough || !self.is_too_early(worker, step));
-                if is_left && self.lateness(step) == lateness {
+                if self.lateness(&call.step) == lateness && self.may_be_next(worker, call) {
                     candidates.push(worker)?;
                 }
             }
@@ -295,39 +197,15 @@ impl<'a> Search<'a> {
         Ok(candidates)
     }
 
-    /// What the state hangs on: the front, for each segment in which order blocks were sent and
-    /// taken in, and in which order segments went to nobody and came from there.
-    fn key(&self) -> Result<Vec<u64>, AllocError> {
-        let mut key = Vec::new(self.alloc);
-        for at in &self.front {
-            key.push(*at as u64)?;
-        }
-        for segment in 0..self.policy.segments() {
-            key.push(BETWEEN)?;
-            for step in &self.order {
-                if step.change == Change::Sends(segment) || step.change == Change::Takes(segment) {
-                    key.push(u64::from(step.call.worker))?;
-                }
-            }
-        }
-        key.push(BETWEEN)?;
-        for step in &self.order {
-            if step.change == Change::Pool {
-                key.push(u64::from(step.call.worker))?;
-            }
-        }
-        Ok(key)
-    }
-
     /// A new choice where the search stands, but at a front and state that failed before.
     fn choose(&mut self) -> Result<(), AllocError> {
-        let key = self.key()?;
+        let key = self.standing.key()?;
         if self.failed.contains(key.as_slice()) {
             return Ok(());
         }
         let left = self.candidates()?;
         self.choices.push(Choice {
-            at: self.order.len(),
+            at: self.standing.order().len(),
             key,
             left,
             has_gone_on: false,
@@ -351,10 +229,10 @@ impl<'a> Search<'a> {
                 self.give_up_choice()?;
                 continue;
             };
-            let Some(step) = self.next_of(worker) else {
+            let Some(call) = self.standing.next_of(worker) else {
                 continue;
             };
-            match self.attempt(worker, step)? {
+            match self.attempt(worker, call)? {
                 Tried::Agreed => {
                     if let Some(choice) = self.choices.last_mut() {
                         choice.has_gone_on = true;
@@ -383,27 +261,18 @@ impl<'a> Search<'a> {
             } = choice;
             drop(left);
             if self.is_thorough && !has_gone_on {
-                self.ends.push(self.front.clone()?)?;
+                self.ends.push(self.standing.front().clone()?)?;
             }
             self.failed.insert(key)?;
         }
         Ok(())
     }
 
-    fn is_done(&self) -> bool {
-        for worker in 0..self.logs.len() {
-            if self.next_of(worker).is_some() {
-                return false;
-            }
-        }
-        true
-    }
-
     /// Looks for an order of all calls, or, where it is thorough, for each front that can't be
     /// passed.
     pub fn run(&mut self) -> Result<Ended, AllocError> {
         for _ in 0..u64::MAX {
-            if self.is_done() {
+            if self.standing.is_done() {
                 return Ok(Ended::AtOrder);
             }
             match self.advance()? {

@@ -3,6 +3,9 @@ use hg_calls::Call;
 use hg_machine::{Answer, Event};
 use hg_place::{Handle, Place};
 
+/// Above the numbers of all places.
+const PLACES: u32 = 1 << 19;
+
 /// What a call changes.
 #[derive(Clone, Copy, Debug, PartialEq, Eq)]
 pub(crate) enum Change {
@@ -19,6 +22,33 @@ pub(crate) enum Change {
     Pool,
     /// What is the worker's own.
     Own,
+}
+
+/// Where calls of several workers meet: they matter to one another at one spot alone.
+#[derive(Clone, Copy, Debug, PartialEq, Eq)]
+pub(crate) enum Spot {
+    /// The word of a place, and the block there.
+    Place(Place),
+    /// What was sent to a segment.
+    Segment(u8),
+    /// Which segments nobody holds.
+    Pool,
+}
+
+impl Spot {
+    /// A number below 2^20 that only this spot has.
+    pub fn number(self) -> u32 {
+        match self {
+            Spot::Place(place) => {
+                let page = u32::from(place.segment)
+                    .wrapping_mul(16)
+                    .wrapping_add(u32::from(place.page));
+                page.wrapping_mul(512).wrapping_add(u32::from(place.index))
+            }
+            Spot::Segment(segment) => PLACES.wrapping_add(u32::from(segment)),
+            Spot::Pool => PLACES.wrapping_add(256),
+        }
+    }
 }
 
 /// A call of a log, with what is known of it by its answer.
@@ -48,48 +78,49 @@ impl Step {
         }
     }
 
-    /// Whether this call of another worker may be answered otherwise, or do something else, where
-    /// the other one comes before it.
-    pub fn is_spoilt_by(self, other: Step) -> bool {
-        match other.change {
-            Change::Nothing | Change::Own => false,
-            Change::Word(place, state) => match self.seen {
-                Some(seen) => seen.place == place && seen.low < state,
-                None => false,
-            },
-            Change::Block(handle) => self.uses(handle.place),
-            Change::Sends(segment) => {
-                self.change == Change::Sends(segment) || self.takes(segment)
-            }
-            Change::Takes(segment) => self.change == Change::Sends(segment),
-            Change::Pool => {
-                self.change == Change::Pool || matches!(self.call.event, Event::Refill { .. })
-            }
-        }
+    /// Whether it reads or writes words of a block.
+    fn uses_block(&self) -> bool {
+        matches!(
+            (self.call.event, self.call.answer),
+            (Event::Read { .. }, Answer::Value(_)) | (Event::Write { .. }, Answer::Done)
+        )
     }
 
-    /// Whether this call can't come behind the other one, which is of another worker.
-    pub fn goes_before(self, other: Step) -> bool {
-        match (other.change, self.seen) {
-            (Change::Word(place, state), Some(seen)) => seen.place == place && seen.high < state,
-            _ => false,
-        }
+    /// Whether a change at its spot may spoil it: it uses the block, sends to the segment or deals
+    /// with the pool.
+    pub fn counts(&self) -> bool {
+        self.uses_block() || matches!(self.change, Change::Sends(_)) || self.deals_with_pool()
     }
 
-    /// Whether it reads or writes words of a block at this place.
-    fn uses(self, at: Place) -> bool {
-        match (self.call.event, self.call.answer) {
-            (Event::Read { handle, .. }, Answer::Value(_)) => handle.place == at,
-            (Event::Write { handle, .. }, Answer::Done) => handle.place == at,
-            _ => false,
-        }
+    /// Whether it deals with the pool.
+    fn deals_with_pool(&self) -> bool {
+        self.change == Change::Pool || matches!(self.call.event, Event::Refill { .. })
     }
 
     /// Whether it takes in what was sent to a segment.
-    pub fn takes(self, from: u8) -> bool {
+    pub fn takes(&self, from: u8) -> bool {
+        self.taken_from() == Some(from)
+    }
+
+    /// The segment from which it takes in what was sent there.
+    pub fn taken_from(&self) -> Option<u8> {
         match (self.call.event, self.call.answer) {
-            (Event::Take { segment }, Answer::Taken(_)) => segment == from,
-            _ => false,
+            (Event::Take { segment }, Answer::Taken(_)) => Some(segment),
+            _ => None,
+        }
+    }
+
+    /// Where it meets calls of other workers, if it does.
+    pub fn spot(&self) -> Option<Spot> {
+        if let Some(seen) = self.seen {
+            return Some(Spot::Place(seen.place));
+        }
+        match self.change {
+            Change::Word(place, _) => Some(Spot::Place(place)),
+            Change::Block(handle) => Some(Spot::Place(handle.place)),
+            Change::Sends(segment) | Change::Takes(segment) => Some(Spot::Segment(segment)),
+            _ if self.deals_with_pool() => Some(Spot::Pool),
+            _ => Some(Spot::Segment(self.taken_from()?)),
         }
     }
 }

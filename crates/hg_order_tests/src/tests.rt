@@ -1,0 +1,5 @@
+mod alike;
+mod altered;
+mod drawn;
+mod numbers;
+mod old;
