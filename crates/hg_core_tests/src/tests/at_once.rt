@@ -44,7 +44,7 @@ fn read_one(rt: &impl Abort, core: &mut Core, part: Part, at: usize) -> Result<u
         part.worker,
         part.actor,
         part.handle,
-        part.first.wrapping_add(at as u32),
+        part.first.wrapping_add((at % 65_536) as u32),
     )
 }
 
@@ -97,7 +97,7 @@ fn check_read(rt: &impl Abort, alloc: Global, core: &mut Core, part: Part) -> us
 /// How many words of the part the plain machine writes one by one.
 fn written(rt: &impl Abort, run: &mut Run, part: Part, values: &[u64]) -> usize {
     for at in 0..part.count.min(values.len()) {
-        let index = part.first.wrapping_add(at as u32);
+        let index = part.first.wrapping_add((at % 65_536) as u32);
         let answer = run.machine.write(rt, part.worker, part.actor, part.handle, index, values[at]);
         if answer != Answer::Done {
             return at;

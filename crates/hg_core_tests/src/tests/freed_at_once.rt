@@ -134,7 +134,8 @@ fn freed_alike(rt: &impl Abort, alloc: Global, policy: &str) {
         pair.serve(rt, alloc, events);
         for at in 0..3 {
             let (actor, owner) = FREES[number.wrapping_mul(3).wrapping_add(at) % FREES.len()];
-            pair.free(rt, number as u8 % WORKERS, Actor(actor), owner);
+            let worker = (number % usize::from(WORKERS)) as u8;
+            pair.free(rt, worker, Actor(actor), owner);
         }
         check_same(rt, &pair.at_once, &pair.walked);
     }
