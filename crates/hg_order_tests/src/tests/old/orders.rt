@@ -1,5 +1,7 @@
 //! Whether calls in another order are an order of them, and answered so by a core.
 
+ghost use Rattle.std.specs.Prelude.{◌<◌, IsTrue, All};
+
 use hg_calls::Call;
 use hg_core::Core;
 use hg_machine::{Answer, Event};
@@ -61,16 +63,39 @@ fn answers_of(alloc: Global, calls: &[Call]) -> Result<Vec<Answer>, AllocError> 
     calls.iter().map(|call| call.answer).collect(alloc)
 }
 
+/// Whether the core has the workers of all events: it had, by what `run` was asked for.
+fn are_of_workers(core: &Core, events: &[(u8, Event)]) -> bool
+    ensures { IsTrue result
+        → All (λ event. event.0 < core.now.state.policy.workers) events.now }
+{
+    let workers = core.policy().workers();
+    events.iter().all(|event| event.0 < workers)
+}
+
+/// What the core answers to the events, where it has all their workers.
+fn run(
+    alloc: Global,
+    core: &mut Core,
+    events: &[(u8, Event)],
+) -> Result<Option<Vec<Answer>>, AllocError> {
+    if !are_of_workers(core, events) {
+        return Ok(None);
+    }
+    Ok(Some(core.run(alloc, events)?))
+}
+
 /// Whether a core that the policy opens gives the calls these answers, one after another.
 fn is_answered_so(alloc: Global, policy: &Policy, order: &[Call]) -> Result<bool, AllocError> {
     let copy = policy.copy(alloc)?;
     let mut core = Core::open(alloc, copy)?;
     let events = events_of(alloc, order)?;
     let answers = answers_of(alloc, order)?;
-    let given = core.run(alloc, &events)?;
-    let is_so = given.as_slice() == answers.as_slice();
+    let given = run(alloc, &mut core, &events);
     drop(core);
-    Ok(is_so)
+    match given? {
+        Some(given) => Ok(given.as_slice() == answers.as_slice()),
+        None => Ok(false),
+    }
 }
 
 /// Whether these calls are explained by this order of them.
