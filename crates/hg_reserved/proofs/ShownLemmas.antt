@@ -61,7 +61,7 @@ abbrev pub extended : {T : Type 0} → T → List T → ℕ → T → List T
 extended blank touched at value =
     (touched ++ replicate (at - length touched) blank) ++ value ∷ []
 
-length-extended : {T : Type 0} (blank : T) (touched : List T) (at : ℕ) (value : T)
+pub length-extended : {T : Type 0} (blank : T) (touched : List T) (at : ℕ) (value : T)
     → length touched ≤ at → length (extended blank touched at value) ≡ at + 1
 length-extended blank touched at value behind =
     omega (

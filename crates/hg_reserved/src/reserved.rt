@@ -1,6 +1,7 @@
 ghost use Rattle.std.specs.Prelude.{◌≡◌, ℕ, ◌+◌, ◌∷◌, ◌++◌, [], ◌-◌, ◌<◌, ◌≤◌, ◌⊎◌};
 ghost use Rattle.std.specs.Prelude.{length, replicate, slice_index_or, slice_set, slice_range};
 ghost use Rattle.std.specs.Prelude.{vec_capacity, vec_len, IfOk};
+ghost use Rattle.hg_reserved.specs.Overlaid.{overlaid};
 
 use crate::Blank;
 use std::alloc::{AllocError, Global};
@@ -89,6 +90,21 @@ impl<T: Blank> Reserved<T> {
             }
         }
     }
+
+    /// Makes the values from `from` on others, as many as `values` has.
+    pub fn copy_in(&mut self, from: usize, values: &[T])
+        requires { from + length values.now ≤ length self.old }
+        ensures { self.new ≡ overlaid self.old from values.now }
+    {
+        let touched = self.touched.len();
+        let end = from + values.len();
+        if end <= touched {
+            replace(&mut self.touched, from, end, values);
+        } else if from < end {
+            extend(&mut self.touched, end - 1, T::blank());
+            replace(&mut self.touched, from, end, values);
+        }
+    }
 }
 
 /// Puts a value behind others, at `at`, with blanks between, where there is room for it. It stands
@@ -106,6 +122,21 @@ fn extend<T: Blank>(values: &mut Vec<T>, at: usize, value: T)
         values.push_reserved(T::blank());
     }
     values.push_reserved(value);
+}
+
+/// Makes the values from `from` to `end` others.
+fn replace<T: Blank>(values: &mut Vec<T>, from: usize, end: usize, others: &[T])
+    requires all { from + length others.now ≡ end }
+    requires inside { end ≤ vec_len values.old }
+    ensures written { (at : ℕ) → at < length others.now
+        → slice_index_or values.new.items (from + at) T.blank
+        ≡ slice_index_or others.now at T.blank }
+    ensures others { (at : ℕ) → (at < from) ⊎ (end ≤ at)
+        → slice_index_or values.new.items at T.blank ≡ slice_index_or values.old.items at T.blank }
+    ensures all { vec_len values.new ≡ vec_len values.old }
+    ensures room { vec_capacity values.new ≡ vec_capacity values.old }
+{
+    values[from..end].copy_from_slice(others);
 }
 
 /// Makes the values from `from` to `end` blank.
