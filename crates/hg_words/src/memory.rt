@@ -1,6 +1,7 @@
 ghost use Rattle.std.specs.Prelude.{◌≡◌, ℕ, ◌+◌, ◌<◌, ◌≤◌, ◌⊎◌};
 ghost use Rattle.std.specs.Prelude.{length, slice_index, slice_set, slice_range, IfOk};
 ghost use Rattle.hg_place.specs.declared.geometry.TheConstants.{SEGMENT_WORDS};
+ghost use Rattle.hg_reserved.specs.Overlaid.{overlaid};
 
 use hg_place::SEGMENT_WORDS;
 use hg_reserved::Reserved;
@@ -68,5 +69,14 @@ impl WordMemory {
         ensures { into.new ≡ slice_range self.now from (from + length into.old) }
     {
         self.words.copy_out(from, into);
+    }
+
+    /// Makes the words from `from` on the values, as many as there are.
+    pub fn copy_in(&mut self, from: usize, values: &[u64])
+        requires { from + length values.now ≤ SEGMENT_WORDS }
+        ensures words { self.new ≡ overlaid self.old from values.now }
+        ensures all { length self.new ≡ SEGMENT_WORDS }
+    {
+        self.words.copy_in(from, values);
     }
 }
