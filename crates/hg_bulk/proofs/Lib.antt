@@ -1,4 +1,3 @@
-mod Refusals
 mod WordRuns
 mod Later
 mod OwnBlockLemmas

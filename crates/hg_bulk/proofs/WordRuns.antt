@@ -1,6 +1,7 @@
 -- Runs of Reads and of Writes go on by one word, or end.
-use Rattle.std.proofs.Common.{◌≡◌, ℕ, zero, suc, ◌+◌, ◌<◌, ◌≤◌, List, [], ◌∷◌, ◌++◌, length, take, slice_index, map, refl, sym, ap, subst, ◌∙◌, append-nil, add-zero, arith}
-use Rattle.std.proofs.lemmas.List.{map_push, take_more}
+use Rattle.std.proofs.Common.{◌≡◌, ℕ, zero, suc, ◌+◌, ◌<◌, ◌≤◌, List, [], ◌∷◌, ◌++◌, length, take, slice_index, map, refl, sym, ap, subst, ◌∙◌, append-nil, add-zero, arith, replicate, Option, Some, None}
+use Rattle.std.specs.Prelude.{IfSome, MatchOption}
+use Rattle.std.proofs.lemmas.List.{map_push, take_more, get_or_default}
 use Rattle.std.proofs.lemmas.List.FromFn.{map-range_with_len_more}
 use Rattle.hg_place.specs.declared.Actor.{Actor}
 use Rattle.hg_place.specs.declared.Handle.{Handle}
@@ -9,18 +10,13 @@ use Rattle.hg_machine.specs.declared.Event.TheVariants as event
 use Rattle.hg_machine.specs.declared.Answer.{Answer}
 use Rattle.hg_machine.specs.declared.Answer.TheVariants as answer
 use Rattle.hg_machine.specs.Lists.{Kept}
-use Rattle.hg_machine.proofs.Preserves.{steps_keep_policy}
 use Rattle.hg_choice.specs.ChosenSteps.{ChosenStep, Chosen}
 use Rattle.hg_core.proofs.Runs.{chosen_more}
+use Rattle.hg_core.proofs.WordWrites.{write_more}
+use Rattle.hg_heap.specs.declared.refused.Refused.{Refused}
+use Rattle.hg_heap.specs.Answers.{refused_answer}
 use Rattle.hg_bulk.specs.WordEvents.{reads, writes}
-
--- a run keeps the policy
-pub runs_keep_policy : (events : List (ℕ × Event)) (answers : List Answer) (old new : Kept) → Chosen old events answers new → new.state.policy ≡ old.state.policy
-runs_keep_policy [] [] old new run = ap (λ k. k.state.policy) run
-runs_keep_policy [] (a ∷ rest) old new run = absurd run
-runs_keep_policy (e ∷ es) [] old new run = absurd run
-runs_keep_policy (e ∷ es) (a ∷ rest) old new run =
-    runs_keep_policy es rest run.0 new run.2 ∙ steps_keep_policy old.state e.0 e.1 a run.0.state run.1.step
+use Rattle.hg_bulk.specs.Words.{refusals}
 
 module _ (worker : ℕ) (actor : Actor) (handle : Handle) (first n : ℕ) where
   reads_more : reads worker actor handle first (n + 1) ≡ reads worker actor handle first n ++ (worker, event.Read actor handle (first + n)) ∷ []
@@ -64,3 +60,37 @@ module _ (worker : ℕ) (actor : Actor) (handle : Handle) (first : ℕ) (told : 
   reads_served old new same n few each =
       subst (λ k. Chosen old (reads worker actor handle first n) (map answer.Value (take n told)) k) (sym same)
       (reads_run old n few (λ at lt. subst (λ k. ChosenStep old worker (event.Read actor handle (first + at)) (answer.Value (slice_index told at)) k) same (each at lt)))
+
+module _ (worker : ℕ) (actor : Actor) (handle : Handle) (first : ℕ) (old new : Kept) where
+  -- Reads of so many words, and one that is refused, if one is
+  pub reads_end : (told : List ℕ) (n : ℕ) (o : Option Refused) → new ≡ old → n ≤ length told
+      → ((at : ℕ) → at < n → ChosenStep old worker (event.Read actor handle (first + at))
+      (answer.Value (slice_index told at)) new)
+      → IfSome o (λ why. ChosenStep old worker (event.Read actor handle (first + n))
+      (refused_answer why) new)
+      → Chosen old (reads worker actor handle first (n + length (refusals o)))
+      (map answer.Value (take n told) ++ refusals o) new
+  reads_end told n None same few each next =
+      read_all worker actor handle first n old new (map answer.Value (take n told))
+      (reads_served worker actor handle first told old new same n few each)
+  reads_end told n (Some why) same few each next =
+      read_more worker actor handle first n old new new (map answer.Value (take n told))
+      (refused_answer why) (reads_served worker actor handle first told old new same n few each)
+      (subst (λ k. ChosenStep k worker (event.Read actor handle (first + n)) (refused_answer why)
+      new) (sym same) next)
+
+  -- Writes of so many words, and one that is refused, if one is
+  pub writes_end : (words : List ℕ) (n : ℕ) (o : Option Refused)
+      → MatchOption o (n ≡ length words) (λ why. n < length words)
+      → Chosen old (writes worker actor handle first (take n words)) (replicate n answer.Done) new
+      → IfSome o (λ why. ChosenStep new worker
+      (event.Write actor handle (first + n) (slice_index words n)) (refused_answer why) new)
+      → Chosen old (writes worker actor handle first (take (n + length (refusals o)) words))
+      (replicate n answer.Done ++ refusals o) new
+  writes_end words n None end run next =
+      written_all worker actor handle first n old new words (replicate n answer.Done) run
+  writes_end words n (Some why) below run next =
+      let word : ℕ = slice_index words n in
+      write_more old worker actor handle first n new new words (replicate n answer.Done)
+      (refused_answer why) word (first + n) below (get_or_default words n 0 word below) refl run
+      next

@@ -25,20 +25,10 @@ pub fn read_words(
         core.new room.new }
     ensures kept { IsSound core.new.state × IsPartition core.new }
 {
-    let _policy = core.policy(); // so that what holds of the core is known before the first word
-    let done = core.read_words(worker, actor, handle, first, room);
-    if done == room.len() {
-        return Progress {
-            done,
-            refused: None,
-        };
-    }
-    match core.read(worker, actor, handle, first + done as u32) {
-        Ok(_) => unreachable!(),
-        Err(refused) => Progress {
-            done,
-            refused: Some(refused),
-        },
+    let far = core.read_words(worker, actor, handle, first, room);
+    Progress {
+        done: far.done,
+        refused: far.refused,
     }
 }
 
@@ -56,19 +46,9 @@ pub fn write_words(
     ensures words { WritesWords core.old worker actor handle first words.now result core.new }
     ensures kept { IsSound core.new.state × IsPartition core.new }
 {
-    let _policy = core.policy(); // so that what holds of the core is known before the first word
-    let done = core.write_words(worker, actor, handle, first, words);
-    if done == words.len() {
-        return Progress {
-            done,
-            refused: None,
-        };
-    }
-    match core.write(worker, actor, handle, first + done as u32, words[done]) {
-        Ok(()) => unreachable!(),
-        Err(refused) => Progress {
-            done,
-            refused: Some(refused),
-        },
+    let far = core.write_words(worker, actor, handle, first, words);
+    Progress {
+        done: far.done,
+        refused: far.refused,
     }
 }

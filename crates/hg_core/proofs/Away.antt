@@ -1,5 +1,5 @@
 -- Blocks of a segment that the worker doesn't hold.
-use Rattle.std.proofs.Common.{◌≡◌, ℕ, ◌<◌, true, false, Option, Some, None, refl, sym, subst, ◌∙◌}
+use Rattle.std.proofs.Common.{◌≡◌, ℕ, ◌<◌, true, false, refl, sym, subst, ◌∙◌}
 use Rattle.hg_place.specs.declared.Actor.{Actor}
 use Rattle.hg_place.specs.declared.Handle.{Handle}
 use Rattle.hg_place.specs.declared.Place.{Place}
@@ -8,7 +8,6 @@ use Rattle.hg_heap.specs.Answers.{refused_answer, away_answer, list_denial}
 use Rattle.hg_heap.specs.Reading.{use_denial}
 use Rattle.hg_machine.specs.declared.Answer.{Answer}
 use Rattle.hg_machine.specs.declared.Event.{Event}
-use Rattle.hg_machine.specs.declared.Rule.{Rule}
 use Rattle.hg_machine.specs.Holders.{holds}
 use Rattle.hg_machine.specs.Steps.{Step}
 use Rattle.hg_laws.specs.Asked.{is_refusal}
@@ -28,12 +27,6 @@ use Rattle.hg_machine.specs.declared.Event.TheVariants as event
 pub answers_refusal : (why : Refused) → is_refusal (refused_answer why) ≡ true
 answers_refusal (refused.Denied rule) = refl
 answers_refusal _ = refl
-
--- what is out of reach is answered by one
-pub refused_away : (denial : Option Rule)
-    → (why : Refused) × (refused_answer why ≡ away_answer denial)
-refused_away (Some rule) = (refused.Denied rule, refl)
-refused_away None = (refused.Elsewhere, refl)
 
 -- so a step that it refuses is one with its choices
 pub refused_by_heap : (s : Core) (worker : ℕ) (e : Event) (why : Refused)

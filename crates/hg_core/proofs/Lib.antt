@@ -22,6 +22,6 @@ mod Recorded
 mod Handed
 mod KindsTold
 pub mod PlacesTold
-pub mod Reached
 pub mod WordWrites
+mod WrittenRuns
 mod WordReads

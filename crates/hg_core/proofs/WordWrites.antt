@@ -1,22 +1,14 @@
--- A run of Writes of the words of a block goes on by one word, or is refused.
-use Rattle.std.proofs.Common.{◌≡◌, ℕ, ◌+◌, ◌<◌, List, [], ◌∷◌, ◌++◌, length, take, get_or, map, replicate, refl, sym, ap, subst, ◌∙◌, arith}
+-- A run of Writes of the words of a block goes on by one word.
+use Rattle.std.proofs.Common.{◌≡◌, ℕ, ◌+◌, ◌<◌, List, [], ◌∷◌, ◌++◌, length, take, get_or, map, refl, sym, ap, subst, ◌∙◌, arith}
 use Rattle.std.specs.List.{enumerate_from}
-use Rattle.std.proofs.lemmas.List.{map_push, take_more, length-take-le, replicate_more}
+use Rattle.std.proofs.lemmas.List.{map_push, take_more, length-take-le}
 use Rattle.hg_place.specs.declared.Actor.{Actor}
 use Rattle.hg_place.specs.declared.Handle.{Handle}
-use Rattle.hg_heap.specs.declared.refused.Refused.{Refused}
-use Rattle.hg_heap.specs.declared.refused.Refused.TheVariants as refused
-use Rattle.hg_heap.specs.Answers.{refused_answer}
 use Rattle.hg_machine.specs.declared.Event.{Event}
 use Rattle.hg_machine.specs.declared.Event.TheVariants as event
 use Rattle.hg_machine.specs.declared.Answer.{Answer}
-use Rattle.hg_machine.specs.declared.Answer.TheVariants as answer
-use Rattle.hg_machine.specs.State.{State}
-use Rattle.hg_machine.specs.Steps.{successor}
 use Rattle.hg_machine.specs.Lists.{Kept}
-use Rattle.hg_machine.proofs.Answered.{state_is_determined}
 use Rattle.hg_choice.specs.ChosenSteps.{ChosenStep, Chosen}
-use Rattle.hg_choice.proofs.ChoiceLemmas.{same_kept}
 use Rattle.hg_core.specs.WordEvents.{writes}
 use Rattle.hg_core.proofs.Runs.{chosen_more}
 
@@ -43,27 +35,3 @@ module _ (old : Kept) (worker : ℕ) (actor : Actor) (handle : Handle) (first n 
       let here = subst (λ i. ChosenStep mid worker (event.Write actor handle i word) a new) at step in
       subst (λ events. Chosen old events (answers ++ a ∷ []) new) (sym (writes_more worker actor handle first n words word below is))
       (chosen_more (writes worker actor handle first (take n words)) answers old mid new (worker, event.Write actor handle (first + n) word) a run here)
-
-  -- one more that is served
-  pub write_on : (words : List ℕ) (word index : ℕ) → n < length words → word ≡ get_or words n word → index ≡ first + n
-      → Chosen old (writes worker actor handle first (take n words)) (replicate n answer.Done) mid
-      → ChosenStep mid worker (event.Write actor handle index word) answer.Done new
-      → Chosen old (writes worker actor handle first (take (n + 1) words)) (replicate (n + 1) answer.Done) new
-  write_on words word index below is at run step =
-      subst (λ answers. Chosen old (writes worker actor handle first (take (n + 1) words)) answers new) (replicate_more n answer.Done)
-      (write_more words (replicate n answer.Done) answer.Done word index below is at run step)
-
--- a Write that is refused leaves all that is kept
-module _ (worker : ℕ) (actor : Actor) (handle : Handle) (index value : ℕ) where
-  successor_same : (s : State) (why : Refused) → successor s worker (event.Write actor handle index value) (refused_answer why) ≡ s
-  successor_same s (refused.Denied rule) = refl
-  successor_same s refused.TooLarge = refl
-  successor_same s refused.NoRoom = refl
-  successor_same s refused.Elsewhere = refl
-  successor_same s refused.OutOfBlock = refl
-
-  pub write_refused_leaves : (k new : Kept) (why : Refused) → ChosenStep k worker (event.Write actor handle index value) (refused_answer why) new → new ≡ k
-  write_refused_leaves k new why step =
-      same_kept k new
-      (state_is_determined k.state worker (event.Write actor handle index value) (refused_answer why) new.state step.step ∙ successor_same k.state why)
-      step.lists step.queues

@@ -30,7 +30,7 @@ mod stores;
 mod taking;
 
 pub use hg_audit::{AuditFault, AuditRoom, Parts};
-pub use hg_heap::Refused;
+pub use hg_heap::{HowFar, Refused};
 pub use kinds::PlaceKind;
 pub use records::{PlaceLife, PlaceRecord};
 pub use refusals::{Freed, NoSegment, NotFreed, NotHeld, NothingInHand};

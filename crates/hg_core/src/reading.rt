@@ -1,9 +1,7 @@
 //! Read and Write: a word of a block.
 
-ghost use Rattle.std.specs.Prelude.{◌≡◌, ◌<◌, None, IfSome};
-ghost use Rattle.hg_place.specs.declared.Right.TheVariants as Right;
+ghost use Rattle.std.specs.Prelude.{◌<◌};
 ghost use Rattle.hg_heap.specs.Answers.{read_answer, done_answer};
-ghost use Rattle.hg_heap.specs.Reading.{use_denial};
 ghost use Rattle.hg_machine.specs.declared.Event.TheVariants as Event;
 ghost use Rattle.hg_machine.specs.Steps.{Step};
 ghost use Rattle.hg_chosen.specs.Chosen.{IsChosenBy};
@@ -54,35 +52,11 @@ impl Stores {
             (done_answer result) self.new }
         ensures kept { IsKept self.new }
     {
-        self.write_known(worker, actor, handle, index, value, None)
-    }
-
-    /// Writes a word of a block of a segment that the worker holds, where the verdict on a slot word
-    /// may be known to allow: no rule is asked while the place has that word.
-    #[inline(always)]
-    pub(crate) fn write_known(
-        &mut self,
-        worker: u8,
-        actor: Actor,
-        handle: Handle,
-        index: u32,
-        value: u64,
-        allowed: Option<u64>,
-    ) -> Result<(), Refused>
-        requires worker { worker < self.old.policy.workers }
-        requires allowed { IfSome allowed (λ known. use_denial self.old.policy actor.0 Right.Write
-            handle known ≡ None) }
-        ensures step { Step (state_in self.old) worker (Event.Write actor handle index value)
-            (done_answer result) (state_in self.new) }
-        ensures chosen { IsChosenBy self.old worker (Event.Write actor handle index value)
-            (done_answer result) self.new }
-        ensures kept { IsKept self.new }
-    {
         if !self.holds(worker, handle.place.segment) {
             return Err(self.out_of_reach(actor, Right::Write, handle));
         }
         let heap = &mut self.heaps[usize::from(worker)];
-        let written = heap.write_known(&self.policy, actor, handle, index, value, allowed);
+        let written = heap.write(&self.policy, actor, handle, index, value);
         heap.settled();
         written
     }

@@ -16,10 +16,12 @@ pub mod Reached
 pub mod Freeable
 pub mod MeetCall
 pub mod ReadCall
+pub mod HowFars
 pub mod ReadMany
 pub mod LookCall
 pub mod Putting
 pub mod WriteCall
+pub mod WriteRun
 pub mod ViewRoom
 pub mod Chosen
 pub mod Rooms

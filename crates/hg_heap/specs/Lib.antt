@@ -32,3 +32,5 @@ pub mod Keeping
 pub mod Judged
 pub mod Homecoming
 pub mod Many
+pub mod WriteRuns
+pub mod CopiedIn

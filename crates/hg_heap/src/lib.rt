@@ -8,6 +8,7 @@ mod answers;
 mod collecting;
 mod freeing;
 mod heap;
+mod how_far;
 pub mod laws;
 mod many;
 mod meeting;
@@ -17,10 +18,12 @@ mod refused;
 mod releasing;
 mod requeue;
 mod taking;
+mod writing;
 
 pub use answers::{
     alloc_answer, denied_or_elsewhere, done_answer, look_answer, read_answer, refused_answer,
     unlisted,
 };
 pub use heap::Heap;
+pub use how_far::HowFar;
 pub use refused::Refused;

@@ -1,35 +1,34 @@
-//! Many words of a block, by one step that looks at the place.
+//! Many words of a block, read by one step that looks at the place.
 
-ghost use Rattle.std.specs.Prelude.{◌≡◌, ◌≢◌, ◌<◌, ◌≤◌, ◌+◌, ℕ, true, false, length, drop, None, Err};
-ghost use Rattle.std.specs.Prelude.{slice_index, Result, IfSome, OnOk, OnErr};
+ghost use Rattle.std.specs.Prelude.{◌≡◌, ◌<◌, ◌≤◌, ◌+◌, ℕ, true, length, drop, Err};
+ghost use Rattle.std.specs.Prelude.{slice_index, Result, IfSome};
 ghost use Rattle.hg_place.specs.declared.Right.TheVariants as Right;
 ghost use Rattle.hg_segment.specs.Blocks.{block_at};
 ghost use Rattle.hg_machine.specs.declared.Answer.TheVariants as Answer;
 ghost use Rattle.hg_machine.specs.declared.Event.TheVariants as Event;
 ghost use Rattle.hg_heap.specs.declared.refused.Refused.{Refused};
+ghost use Rattle.hg_heap.specs.declared.refused.Refused.TheVariants.{OutOfBlock};
 ghost use Rattle.hg_heap.specs.Held.{is_held, KeepsLists};
 ghost use Rattle.hg_heap.specs.Ties.{HeapTies, Stepped, shown_at};
-ghost use Rattle.hg_heap.specs.declared.refused.Refused.TheVariants.{Elsewhere};
-ghost use Rattle.hg_heap.specs.Answers.{read_answer, done_answer};
+ghost use Rattle.hg_heap.specs.Answers.{read_answer};
 ghost use Rattle.hg_heap.specs.Stays.{Looked};
 ghost use Rattle.hg_heap.specs.Reading.{use_denial};
-ghost use Rattle.hg_heap.specs.Many.{ReadsMany};
-ghost use Rattle.hg_heap.specs.Keeping.{KeepsAll, Wrote};
-ghost use Rattle.hg_heap.specs.Judged.{IsJudged, rule_in};
+ghost use Rattle.hg_heap.specs.Many.{ReadsMany, ComesTo};
+ghost use Rattle.hg_heap.specs.Keeping.{KeepsAll};
 
-use crate::reading::{size_of, write_word};
-use crate::{Heap, Refused};
+use crate::reading::size_of;
+use crate::{Heap, HowFar, Refused};
 use hg_decision::{Verdict, judge};
 use hg_place::{Actor, Handle, Right, SlotWords};
 use hg_policy::Policy;
 use hg_segment::Segment;
 
 impl<S: SlotWords> Heap<S> {
-    /// Reads words of a block into a room, from the word of an index on, the index counted from the
-    /// block's first: as many as the block has there and the room holds. Each is what a Read of it
-    /// is answered by the one word that the step shows; where fewer came than the room holds, the
-    /// Read of the next is refused. None come, before any step, where the segment isn't held. What
-    /// stands in the room behind them, and words, records and lists, stay as they are.
+    /// Reads words of a block of a held segment into a room, from the word of an index on, the index
+    /// counted from the block's first: as many as the block has there and the room holds. Each is
+    /// what a Read of it is answered by the one word that the step shows, and so is the refusal of
+    /// the next, where fewer came than the room holds. What stands in the room behind them, and
+    /// words, records and lists, stay as they are.
     pub fn read_words(
         &mut self,
         policy: &Policy,
@@ -37,79 +36,33 @@ impl<S: SlotWords> Heap<S> {
         handle: Handle,
         first: u32,
         room: &mut [u64],
-    ) -> usize
-        ensures elsewhere { is_held S.number self.old.segments handle.place.segment ≡ false
-            → (result ≡ 0) × (self.new ≡ self.old) }
-        ensures held { is_held S.number self.old.segments handle.place.segment ≡ true
-            → (word : ℕ) × (next : Result ℕ Refused)
+    ) -> HowFar
+        requires held { is_held S.number self.old.segments handle.place.segment ≡ true }
+        requires some { 0 < length room.old }
+        ensures ties { (word : ℕ) × (next : Result ℕ Refused)
             × Stepped S.number S.shows S.steps handle.place word word
             self.old.segments self.new.segments
-            × ((at : ℕ) → at < result → HeapTies S.number S.records policy.now
+            × ((at : ℕ) → at < result.done → HeapTies S.number S.records policy.now
             (shown_at handle.place word) (shown_at handle.place word)
             (Event.Read actor handle (first + at)) (Answer.Value (slice_index room.new at))
             self.old.segments self.new.segments)
             × HeapTies S.number S.records policy.now (shown_at handle.place word)
-            (shown_at handle.place word) (Event.Read actor handle (first + result))
+            (shown_at handle.place word) (Event.Read actor handle (first + result.done))
             (read_answer next) self.old.segments self.new.segments
-            × (result < length room.old → (why : Refused) × (next ≡ Err why)) }
-        ensures few { result ≤ length room.old }
-        ensures rest { drop result room.new ≡ drop result room.old }
+            × IfSome result.refused (λ why. next ≡ Err why) }
+        ensures end { ComesTo (length room.old) result }
+        ensures rest { drop result.done room.new ≡ drop result.done room.old }
         ensures lists { KeepsLists S.number self.old.segments self.new.segments }
         ensures queues { self.new.queues ≡ self.old.queues }
         ensures kept { KeepsAll S.number S.records self.old.segments self.new.segments }
     {
         let Some(found) = self.found(handle.place.segment) else {
-            return 0;
+            unreachable!()
         };
         let segment = &mut self.segments[found as usize];
-        let count = copy_words(segment, policy, actor, handle, first, room);
+        let far = copy_words(segment, policy, actor, handle, first, room);
         segment.settled();
-        count
-    }
-
-    /// Writes a word of a block as `write` does, where the verdict on a word may be known to allow:
-    /// no rule is asked again while the step shows that word.
-    #[inline(always)]
-    pub fn write_known(
-        &mut self,
-        policy: &Policy,
-        actor: Actor,
-        handle: Handle,
-        index: u32,
-        value: u64,
-        allowed: Option<u64>,
-    ) -> Result<(), Refused>
-        requires { IfSome allowed (λ known. use_denial policy.now actor.0 Right.Write handle known
-            ≡ None) }
-        ensures elsewhere { is_held S.number self.old.segments handle.place.segment ≡ false
-            → (result ≡ Err Elsewhere) × (self.new ≡ self.old) }
-        ensures held { is_held S.number self.old.segments handle.place.segment ≡ true
-            → (word : ℕ)
-            × Stepped S.number S.shows S.steps handle.place word word
-            self.old.segments self.new.segments
-            × HeapTies S.number S.records policy.now (shown_at handle.place word)
-            (shown_at handle.place word) (Event.Write actor handle index value) (done_answer result)
-            self.old.segments self.new.segments }
-        ensures here { is_held S.number self.old.segments handle.place.segment ≡ true
-            → result ≢ Err Elsewhere }
-        ensures lists { KeepsLists S.number self.old.segments self.new.segments }
-        ensures queues { self.new.queues ≡ self.old.queues }
-        ensures judged { is_held S.number self.old.segments handle.place.segment ≡ true
-            → (word : ℕ) × Stepped S.number S.shows S.steps handle.place word word
-            self.old.segments self.new.segments
-            × IsJudged policy.now actor.0 Right.Write handle word (rule_in result) }
-        ensures kept { OnErr result
-            (KeepsAll S.number S.records self.old.segments self.new.segments) }
-        ensures wrote { OnOk result (Wrote S.number S.records handle.place index value
-            self.old.segments self.new.segments) }
-    {
-        let Some(found) = self.found(handle.place.segment) else {
-            return Err(Refused::Elsewhere);
-        };
-        let segment = &mut self.segments[found as usize];
-        let written = write_word(segment, policy, actor, handle, index, value, allowed);
-        segment.settled();
-        written
+        far
     }
 }
 
@@ -121,7 +74,8 @@ fn copy_words<S: SlotWords>(
     handle: Handle,
     first: u32,
     room: &mut [u64],
-) -> usize
+) -> HowFar
+    requires { 0 < length room.old }
     ensures read { (word : ℕ) × Looked S.number S.records S.shows S.steps handle.place word
         segment.old segment.new
         × ReadsMany (use_denial policy.now actor.0 Right.Read handle word)
@@ -130,20 +84,47 @@ fn copy_words<S: SlotWords>(
     ensures words { segment.new.words ≡ segment.old.words }
 {
     let word = segment.look(handle.place.page, handle.place.index);
-    if let Verdict::Denied(_) = judge(policy, actor, Right::Read, handle, word) {
-        return 0;
+    if let Verdict::Denied(rule) = judge(policy, actor, Right::Read, handle, word) {
+        return HowFar {
+            done: 0,
+            refused: Some(Refused::Denied(rule)),
+        };
     }
     let size = size_of(segment, handle.place.page, handle.place.index);
     if first >= u32::from(size) {
-        return 0;
+        return HowFar {
+            done: 0,
+            refused: Some(Refused::OutOfBlock),
+        };
     }
     let at = first as u16;
-    let count = room.len().min(usize::from(size - at));
+    let asked = room.len();
+    let count = asked.min(usize::from(size - at));
     segment.read_words(
         handle.place.page,
         handle.place.index,
         at,
         &mut room[..count],
     );
-    count
+    end_of_block(count, asked)
+}
+
+/// So many words of those that were asked for were in the block.
+pub(crate) fn end_of_block(done: usize, asked: usize) -> HowFar
+    requires { done ≤ asked }
+    ensures done { result.done ≡ done }
+    ensures end { ComesTo asked result }
+    ensures outside { IfSome result.refused (λ why. why ≡ OutOfBlock) }
+{
+    if done < asked {
+        HowFar {
+            done,
+            refused: Some(Refused::OutOfBlock),
+        }
+    } else {
+        HowFar {
+            done,
+            refused: None,
+        }
+    }
 }

@@ -10,7 +10,6 @@ ghost use Rattle.hg_segment.specs.Kept.{slot, class_at};
 ghost use Rattle.hg_segment.specs.Blocks.{block_at, KeepsOtherBlocks};
 ghost use Rattle.hg_machine.specs.declared.Event.TheVariants as Event;
 ghost use Rattle.hg_machine.specs.declared.Rule.{Rule};
-ghost use Rattle.hg_machine.specs.Denial.{verdict_of};
 ghost use Rattle.hg_heap.specs.declared.refused.Refused.TheVariants.{Elsewhere};
 ghost use Rattle.hg_heap.specs.Held.{is_held, KeepsLists};
 ghost use Rattle.hg_heap.specs.Ties.{HeapTies, Stepped, shown_at};
@@ -100,7 +99,13 @@ impl<S: SlotWords> Heap<S> {
         ensures wrote { OnOk result (Wrote S.number S.records handle.place index value
             self.old.segments self.new.segments) }
     {
-        self.write_known(policy, actor, handle, index, value, None)
+        let Some(found) = self.found(handle.place.segment) else {
+            return Err(Refused::Elsewhere);
+        };
+        let segment = &mut self.segments[found as usize];
+        let written = write_word(segment, policy, actor, handle, index, value);
+        segment.settled();
+        written
     }
 
     /// The row of a block of a held segment, if the actor may see it. The word that the step showed
@@ -166,41 +171,15 @@ fn read_word<S: SlotWords>(
     Ok(segment.read(handle.place.page, handle.place.index, index as u16))
 }
 
-/// The verdict on a write, which needs no judging where the word is one on which it is known to
-/// allow.
-#[inline(always)]
-fn judge_write(
-    policy: &Policy,
-    actor: Actor,
-    handle: Handle,
-    word: u64,
-    allowed: Option<u64>,
-) -> Verdict
-    requires { IfSome allowed (λ known. use_denial policy.now actor.0 Right.Write handle known
-        ≡ None) }
-    ensures { result ≡ verdict_of (use_denial policy.now actor.0 Right.Write handle word) }
-{
-    if let Some(known) = allowed {
-        if known == word {
-            return Verdict::Allowed;
-        }
-    }
-    judge(policy, actor, Right::Write, handle, word)
-}
-
-/// Writes a word of a block of the segment, where the verdict on a word may be known to allow.
-#[inline(always)]
-pub(crate) fn write_word<S: SlotWords>(
+/// Writes a word of a block of the segment.
+fn write_word<S: SlotWords>(
     segment: &mut Segment<S>,
     policy: &Policy,
     actor: Actor,
     handle: Handle,
     index: u32,
     value: u64,
-    allowed: Option<u64>,
 ) -> Result<(), Refused>
-    requires { IfSome allowed (λ known. use_denial policy.now actor.0 Right.Write handle known
-        ≡ None) }
     ensures wrote { (word : ℕ) × Looked S.number S.records S.shows S.steps handle.place word
         segment.old segment.new
         × (result ≡ reached (use_denial policy.now actor.0 Right.Write handle word)
@@ -215,7 +194,7 @@ pub(crate) fn write_word<S: SlotWords>(
         handle.place.page handle.place.index segment.old.words segment.new.words) }
 {
     let word = segment.look(handle.place.page, handle.place.index);
-    if let Verdict::Denied(rule) = judge_write(policy, actor, handle, word, allowed) {
+    if let Verdict::Denied(rule) = judge(policy, actor, Right::Write, handle, word) {
         return Err(Refused::Denied(rule));
     }
     if index >= u32::from(size_of(segment, handle.place.page, handle.place.index)) {

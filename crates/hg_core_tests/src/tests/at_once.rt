@@ -53,13 +53,14 @@ fn check_read(rt: &impl Abort, alloc: Global, core: &mut Core, part: Part) -> us
     let mut told = room(rt, alloc, part.count);
     assert!(rt; part.worker < core.policy().workers());
     assert!(rt; part.count <= told.len());
-    let done = core.read_words(
+    let far = core.read_words(
         part.worker,
         part.actor,
         part.handle,
         part.first,
         &mut told[..part.count],
     );
+    let done = far.done;
     for at in 0..done {
         assert_eq!(rt;
             told.get(at).copied(),
@@ -71,9 +72,9 @@ fn check_read(rt: &impl Abort, alloc: Global, core: &mut Core, part: Part) -> us
         assert_eq!(rt; told[at], OLD);
     }
     let refused = read_one(rt, core, part, done).err();
-    if done < part.count {
-        assert!(rt; refused.is_some(), "{part:?}");
-    }
+    let refused = if done < part.count { refused } else { None };
+    assert_eq!(rt; far.refused, refused, "{part:?}");
+    assert_eq!(rt; refused.is_some(), done < part.count, "{part:?}");
     let mut again = room(rt, alloc, part.count);
     assert!(rt; part.worker < core.policy().workers());
     assert!(rt; part.count <= again.len());
@@ -86,10 +87,7 @@ fn check_read(rt: &impl Abort, alloc: Global, core: &mut Core, part: Part) -> us
         &mut again[..part.count],
     );
     assert_eq!(rt; made.done, done);
-    assert_eq!(rt;
-        made.refused,
-        if done < part.count { refused } else { None }
-    );
+    assert_eq!(rt; made.refused, refused);
     assert_eq!(rt; again.as_slice(), told.as_slice());
     done
 }
@@ -106,6 +104,19 @@ fn written(rt: &impl Abort, run: &mut Run, part: Part, values: &[u64]) -> usize 
     part.count
 }
 
+/// Why the core refuses the Write of a word of the part, if it does.
+fn write_one(rt: &impl Abort, core: &mut Core, part: Part, at: usize) -> Option<Refused> {
+    assert!(rt; part.worker < core.policy().workers());
+    core.write(
+        part.worker,
+        part.actor,
+        part.handle,
+        part.first.wrapping_add((at % 65_536) as u32),
+        0,
+    )
+    .err()
+}
+
 /// The words of a part are written at once as they are one by one.
 fn check_write(rt: &impl Abort, run: &mut Run, part: Part, values: &[u64]) -> usize {
     assert!(rt; part.count <= values.len());
@@ -113,8 +124,16 @@ fn check_write(rt: &impl Abort, run: &mut Run, part: Part, values: &[u64]) -> us
     let values = &values[..part.count];
     let core = &mut run.core;
     assert!(rt; part.worker < core.policy().workers());
-    let done = core.write_words(part.worker, part.actor, part.handle, part.first, values);
+    let far = core.write_words(part.worker, part.actor, part.handle, part.first, values);
+    let done = far.done;
     assert_eq!(rt; done, expected, "{part:?}");
+    let refused = if done < part.count {
+        write_one(rt, core, part, done)
+    } else {
+        None
+    };
+    assert_eq!(rt; far.refused, refused, "{part:?}");
+    assert_eq!(rt; refused.is_some(), done < part.count, "{part:?}");
     assert!(rt; part.worker < core.policy().workers());
     let made = write_words(
         core,
@@ -125,7 +144,7 @@ fn check_write(rt: &impl Abort, run: &mut Run, part: Part, values: &[u64]) -> us
         values,
     );
     assert_eq!(rt; made.done, done);
-    assert_eq!(rt; made.refused.is_some(), done < part.count);
+    assert_eq!(rt; made.refused, far.refused);
     done
 }
 
@@ -182,18 +201,23 @@ fn reached(
     (wrote, read, read_one(rt, &mut run.core, part, 0).err())
 }
 
-// All words of a block, none of them, too many of them, and each refusal.
-#[test]
-fn words_at_once_are_refused(rt: HostRuntime) {
-    let mut run = Run::new(&rt, rt.alloc(), FEW_LIVES, 1);
-    let handle = opened(&rt, &mut run, rt.alloc());
-    let all = Part {
+/// All words of a block of alice, by worker 0.
+fn all_of(handle: Handle) -> Part {
+    Part {
         worker: 0,
         actor: Actor(0),
         handle,
         first: 0,
         count: 4,
-    };
+    }
+}
+
+// All words of a block, none of them, and too many of them.
+#[test]
+fn words_at_once_up_to_the_last(rt: HostRuntime) {
+    let mut run = Run::new(&rt, rt.alloc(), FEW_LIVES, 1);
+    let handle = opened(&rt, &mut run, rt.alloc());
+    let all = all_of(handle);
     let mut core_of = |part: Part| reached(&rt, &mut run, rt.alloc(), part);
     assert_eq!(&rt; core_of(all), (4, 4, None));
     assert_eq!(&rt; core_of(Part { count: 0, ..all }), (0, 0, None));
@@ -208,6 +232,16 @@ fn words_at_once_are_refused(rt: HostRuntime) {
         }),
         (0, 0, outside)
     );
+    drop(reached_by(run));
+}
+
+// Words of a block that a rule denies, or that the worker doesn't hold.
+#[test]
+fn words_at_once_are_refused(rt: HostRuntime) {
+    let mut run = Run::new(&rt, rt.alloc(), FEW_LIVES, 1);
+    let handle = opened(&rt, &mut run, rt.alloc());
+    let all = all_of(handle);
+    let mut core_of = |part: Part| reached(&rt, &mut run, rt.alloc(), part);
     let elsewhere = Some(Refused::Elsewhere);
     assert_eq!(&rt; core_of(Part { worker: 1, ..all }), (0, 0, elsewhere));
     assert_eq!(&rt;

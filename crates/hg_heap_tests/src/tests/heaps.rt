@@ -96,14 +96,37 @@ impl Tried {
     }
 
     /// Reads a word of a block into room for one.
-    pub fn read_into(&mut self, actor: Actor, handle: Handle, index: u32) -> Option<u64> {
+    pub fn read_into(&mut self, actor: Actor, handle: Handle, index: u32) -> Result<u64, Refused> {
+        if !self.heap.holds(handle.place.segment) {
+            return Err(Refused::Elsewhere);
+        }
         let mut room = [0; 1];
-        match self
+        let far = self
             .heap
-            .read_words(&self.policy, actor, handle, index, &mut room)
-        {
-            0 => None,
-            _ => Some(room[0]),
+            .read_words(&self.policy, actor, handle, index, &mut room);
+        match far.refused {
+            Some(refused) => Err(refused),
+            None => Ok(room[0]),
+        }
+    }
+
+    /// Writes a word of a block out of room for one.
+    pub fn write_from(
+        &mut self,
+        actor: Actor,
+        handle: Handle,
+        index: u32,
+        value: u64,
+    ) -> Result<(), Refused> {
+        if !self.heap.holds(handle.place.segment) {
+            return Err(Refused::Elsewhere);
+        }
+        let far = self
+            .heap
+            .write_words(&self.policy, actor, handle, index, &[value]);
+        match far.refused {
+            Some(refused) => Err(refused),
+            None => Ok(()),
         }
     }
 

@@ -265,7 +265,7 @@ impl Run {
     /// Reads a word of a block.
     fn read(&mut self, rt: &impl Abort, actor: Actor, handle: Handle, index: u32) {
         let answer = self.tried.read(actor, handle, index);
-        assert_eq!(rt; self.tried.read_into(actor, handle, index), answer.ok());
+        assert_eq!(rt; self.tried.read_into(actor, handle, index), answer);
         match self.word(rt, actor, Right::Read, handle, index) {
             Ok(word) => assert!(rt; answer == Ok(*word)),
             Err(refused) => assert!(rt; answer == Err(refused)),
@@ -274,7 +274,8 @@ impl Run {
 
     /// Writes a word of a block.
     fn write(&mut self, rt: &impl Abort, actor: Actor, handle: Handle, index: u32, value: u64) {
-        let answer = self.tried.write(actor, handle, index, value);
+        let answer = self.tried.write(actor, handle, index, !value);
+        assert_eq!(rt; self.tried.write_from(actor, handle, index, value), answer);
         match self.word(rt, actor, Right::Write, handle, index) {
             Ok(word) => {
                 assert!(rt; answer == Ok(()));

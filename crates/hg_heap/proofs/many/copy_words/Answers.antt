@@ -10,8 +10,8 @@ returns-in-Denied-clause-read g c = let w = g.S.SlotWords in let l = c.look-word
   c.look-word.result,
   looked_of w.number w.records w.shows w.steps c.args.handle.place c.look-word.result
       c.args.segment.now c.look-word.new.self l.shown l.step l.number l.records l.others,
-  reads_denied _ c.in-Denied.field-0 _ _ _
-      (denied_by _ c.in-Denied.field-0 (sym c.in-Denied.is ∙ c.judge.ensures)),
+  reads_denied _ c.in-Denied.rule _ _ _
+      (denied_by _ c.in-Denied.rule (sym c.in-Denied.is ∙ c.judge.ensures)) c.requires,
 )
 
 pub returns-clause-read : goal.returns-clause-read
@@ -19,9 +19,9 @@ returns-clause-read g c = let w = g.S.SlotWords in let l = c.look-word.ensures i
   c.look-word.result,
   looked_of w.number w.records w.shows w.steps c.args.handle.place c.look-word.result
       c.args.segment.now c.look-word.new.self l.shown l.step l.number l.records l.others,
-  reads_inside _ _ c.args.first c.args.room.now c.min-count.result c.read_words.new.into
-      (allowed_by _ (sym c.in_default.is ∙ c.judge.ensures))
-      (omega (arith, c.min-count.ensures))
+  reads_inside _ _ c.args.first c.args.room.now c.min-count.result c.end_of_block.result
+      c.read_words.new.into (allowed_by _ (sym c.in_default.is ∙ c.judge.ensures))
+      c.end_of_block.ensures.done c.end_of_block.ensures.end c.end_of_block.ensures.outside
       (omega (
         arith,
         c.min-count.ensures,

@@ -14,14 +14,14 @@ size_of-requires-clause-open g c = let w = g.S.SlotWords in let l = c.look-word.
     open_after g.met.S.SlotWords.fits c.args.policy.now c.args.actor.0 right.Write c.args.handle
     (looked_of w.number w.records w.shows w.steps c.args.handle.place c.look-word.result
     c.args.segment.now c.look-word.new.self l.shown l.step l.number l.records l.others) (allowed_by
-    _ (sym c.in_default.is ∙ c.judge_write.ensures))
+    _ (sym c.in_default.is ∙ c.judge.ensures))
 
 pub write-requires-clause-open : goal.write-requires-clause-open
 write-requires-clause-open g c = let w = g.S.SlotWords in let l = c.look-word.ensures in
     open_after g.met.S.SlotWords.fits c.args.policy.now c.args.actor.0 right.Write c.args.handle
     (looked_of w.number w.records w.shows w.steps c.args.handle.place c.look-word.result
     c.args.segment.now c.look-word.new.self l.shown l.step l.number l.records l.others) (allowed_by
-    _ (sym c.in_default.is ∙ c.judge_write.ensures))
+    _ (sym c.in_default.is ∙ c.judge.ensures))
 
 pub write-requires-clause-inside : goal.write-requires-clause-inside
 write-requires-clause-inside g c size e =
@@ -35,7 +35,7 @@ returns-in-Denied g c = let w = g.S.SlotWords in let l = c.look-word.ensures in 
     looked_of w.number w.records w.shows w.steps c.args.handle.place c.look-word.result
         c.args.segment.now c.look-word.new.self l.shown l.step l.number l.records l.others,
     reached_denied _ c.in-Denied.rule
-        _ _ _ (denied_by _ c.in-Denied.rule (sym c.in-Denied.is ∙ c.judge_write.ensures)),
+        _ _ _ (denied_by _ c.in-Denied.rule (sym c.in-Denied.is ∙ c.judge.ensures)),
   );
   err = ap (λ (k : Kept g.row.S.Denot). k.words) l.others;
   ok = tt;
@@ -48,7 +48,7 @@ returns-then-index-from g c = let w = g.S.SlotWords in let l = c.look-word.ensur
     c.look-word.result,
     looked_of w.number w.records w.shows w.steps c.args.handle.place c.look-word.result
         c.args.segment.now c.look-word.new.self l.shown l.step l.number l.records l.others,
-    reached_outside _ _ c.args.index _ (allowed_by _ (sym c.in_default.is ∙ c.judge_write.ensures))
+    reached_outside _ _ c.args.index _ (allowed_by _ (sym c.in_default.is ∙ c.judge.ensures))
         (omega (
           arith,
           c.from.ensures,
@@ -74,7 +74,7 @@ returns g c = let w = g.S.SlotWords in let l = c.look-word.ensures in record {
         (looked_of w.number w.records w.shows w.steps c.args.handle.place c.look-word.result
         c.args.segment.now c.look-word.new.self l.shown l.step l.number l.records l.others)
         c.write.ensures.rest,
-    reached_inside _ _ c.args.index _ (allowed_by _ (sym c.in_default.is ∙ c.judge_write.ensures))
+    reached_inside _ _ c.args.index _ (allowed_by _ (sym c.in_default.is ∙ c.judge.ensures))
         (omega (
           arith,
           c.from.ensures,

@@ -1,6 +1,5 @@
-use Rattle.std.proofs.Common.{◌∙◌, sym, ap}
-use Rattle.std.proofs.lemmas.Bool.{true≢false}
-use Rattle.hg_heap.proofs.Founds.{found_of, found_held}
+use Rattle.std.proofs.Common.{ap}
+use Rattle.hg_heap.proofs.Founds.{found_of}
 use Rattle.hg_heap.proofs.Judging.{all_kept}
 use Rattle.hg_heap.proofs.Looking.{heap_lists, heap_right}
 use Rattle.hg_heap.proofs.ReadMany.{many_end}
@@ -13,7 +12,7 @@ invariant_of-self g c =
     c.in-Some.found c.index_mut-segment.result.now
     (rw (← c.self.view_is) at c.in-Some.ensures.some)
     c.index_mut-segment.ensures.value in
-    let r = c.copy_words-count.ensures.read in
+    let r = c.copy_words-far.ensures.read in
     let s = c.settled.ensures in
     heap_right here r.1 _ _ _ _ c.self.invariant
     (record {
@@ -36,22 +35,18 @@ returns g c =
     c.in-Some.found c.index_mut-segment.result.now
     (rw (← c.self.view_is) at c.in-Some.ensures.some)
     c.index_mut-segment.ensures.value in
-    let r = c.copy_words-count.ensures.read in record {
-      elsewhere = λ e. absurd (true≢false
-          (sym (found_held w.number c.args.self.now.segments c.args.handle.place.segment
-          c.in-Some.found
-          c.in-Some.ensures.some) ∙ e));
-      held = λ _. rw (← c.self.view_is)
+    let r = c.copy_words-far.ensures.read in record {
+      ties = rw (← c.self.view_is)
           (many_end w.number w.records w.shows w.steps g.met.S.SlotWords.fits c.args.policy.now
           c.self.inside.segments.items c.in-Some.found r.0 c.args.first c.args.actor c.args.handle
-          c.index_mut-segment.result.now c.copy_words-count.new.segment here r.1
-          c.copy_words-count.ensures.words c.args.room.now c.copy_words-count.new.room
-          c.copy_words-count.result r.2);
-      few = r.2.few;
+          c.index_mut-segment.result.now c.copy_words-far.new.segment here r.1
+          c.copy_words-far.ensures.words c.args.room.now c.copy_words-far.new.room
+          c.copy_words-far.result r.2);
+      end = r.2.end;
       rest = r.2.rest;
       lists = rw (← c.self.view_is)
           (heap_lists here r.1);
       queues = ap (λ h. h.queues) c.self.view_is;
       kept = rw (← c.self.view_is)
-          (all_kept here r.1 c.copy_words-count.ensures.words);
+          (all_kept here r.1 c.copy_words-far.ensures.words);
     }

@@ -7,7 +7,7 @@ use Rattle.hg_heap.proofs.Judging.{rule_reached, judged_as, all_kept, wrote, on_
 use Rattle.hg_heap.proofs.Looking.{heap_lists, heap_right, stepped}
 use Rattle.hg_heap.proofs.Reached.{never_elsewhere}
 use Rattle.hg_heap.proofs.WriteCall.{write_ends}
-use Rattle.hg_heap.proofs.heap.Heap.write_known.Goals as goal
+use Rattle.hg_heap.proofs.heap.Heap.write.Goals as goal
 
 pub invariant_of-self : goal.invariant_of-self
 invariant_of-self g c =
