@@ -1,10 +1,11 @@
 //! Blocks on a bank of cores that are nearly full: for a third of the sizes there is no room in the
 //! core that is asked first.
 
-use crate::digest::Digest;
+use crate::digest::{Digest, free_answer};
 use crate::numbers::Numbers;
 use anyhow::bail;
 use hg_bank::{Bank, BankHandle};
+use hg_heap::{done_answer, read_answer, refused_answer};
 use hg_machine::Answer;
 use hg_place::Actor;
 use hg_policy::{Policy, read_policy};
@@ -77,18 +78,32 @@ impl Host<'_> {
         }
         match self.bank.alloc(worker, Actor(owner), 0, bytes) {
             Ok(block) => {
+                self.digest.answer(Answer::Block(block.handle));
                 self.digest.number(u64::from(block.core));
-                self.digest.handle(block.handle);
                 Some(Live {
                     block,
                     worker,
                     owner,
                 })
             }
-            Err(_) => {
-                self.digest.number(bytes);
+            Err(refused) => {
+                self.digest.answer(refused_answer(refused));
                 None
             }
+        }
+    }
+
+    /// A worker takes a segment, if it can.
+    fn refill(&mut self, worker: u8) {
+        if worker >= self.bank.policy().workers() {
+            return;
+        }
+        match self.bank.refill(worker, 0) {
+            Ok(segment) => {
+                self.digest.answer(Answer::Refilled(segment.segment));
+                self.digest.number(u64::from(segment.core));
+            }
+            Err(_) => self.digest.answer(Answer::NoSegment),
         }
     }
 
@@ -96,9 +111,7 @@ impl Host<'_> {
     fn fill(&mut self) -> Result<(), anyhow::Error> {
         for _ in 0..CORES * 32 {
             for worker in 0..WORKERS {
-                if worker < self.bank.policy().workers() {
-                    let _ = self.bank.refill(worker, 0);
-                }
+                self.refill(worker);
             }
         }
         for at in 0..LIVE {
@@ -121,7 +134,7 @@ impl Host<'_> {
             return;
         }
         let freed = self.bank.free(worker, Actor(owner), block);
-        self.digest.number(u64::from(freed.is_ok()));
+        self.digest.answer(free_answer(freed));
         if let Some(given) = self.give(worker, owner) {
             if let Some(slot) = self.live.get_mut(at) {
                 *slot = given;
@@ -140,13 +153,11 @@ impl Host<'_> {
             return;
         }
         if number & 1 == 0 {
-            match self.bank.read(worker, Actor(actor), block, 0) {
-                Ok(word) => self.digest.number(word),
-                Err(_) => self.digest.number(1),
-            }
+            let read = self.bank.read(worker, Actor(actor), block, 0);
+            self.digest.answer(read_answer(read));
         } else {
             let written = self.bank.write(worker, Actor(actor), block, 0, number);
-            self.digest.number(u64::from(written.is_ok()));
+            self.digest.answer(done_answer(written));
         }
     }
 

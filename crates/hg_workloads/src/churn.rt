@@ -1,10 +1,11 @@
 //! Blocks given out, used and freed on one core: four workers for six tenants, some blocks freed
 //! by others than the holder of their segment.
 
-use crate::digest::Digest;
+use crate::digest::{Digest, free_answer};
 use crate::numbers::Numbers;
 use anyhow::bail;
 use hg_core::Core;
+use hg_heap::{done_answer, read_answer, refused_answer};
 use hg_machine::{Answer, Event};
 use hg_place::{Actor, Handle};
 use hg_policy::read_policy;
@@ -94,15 +95,15 @@ impl Host<'_> {
         }
         match self.core.alloc(worker, Actor(owner), arena, bytes) {
             Ok(handle) => {
-                self.digest.handle(handle);
+                self.digest.answer(Answer::Block(handle));
                 Some(Live {
                     handle,
                     worker,
                     owner,
                 })
             }
-            Err(_) => {
-                self.digest.number(bytes);
+            Err(refused) => {
+                self.digest.answer(refused_answer(refused));
                 None
             }
         }
@@ -137,7 +138,7 @@ impl Host<'_> {
             return;
         }
         let freed = self.core.free(worker, Actor(owner), handle);
-        self.digest.number(u64::from(freed.is_ok()));
+        self.digest.answer(free_answer(freed));
     }
 
     /// Frees a block, mostly where it was given out, and gives out another in its stead.
@@ -189,10 +190,10 @@ impl Host<'_> {
         }
         if number & 1 == 0 {
             let read = self.core.read(worker, Actor(actor), handle, index);
-            self.digest.number(read.unwrap_or(1));
+            self.digest.answer(read_answer(read));
         } else {
             let written = self.core.write(worker, Actor(actor), handle, index, number);
-            self.digest.number(u64::from(written.is_ok()));
+            self.digest.answer(done_answer(written));
         }
     }
 

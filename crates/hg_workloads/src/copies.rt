@@ -6,6 +6,8 @@ use crate::numbers::Numbers;
 use anyhow::bail;
 use hg_bulk::{Progress, read_words, write_words};
 use hg_core::Core;
+use hg_heap::alloc_answer;
+use hg_machine::Answer;
 use hg_place::{Actor, Handle};
 use hg_policy::read_policy;
 use std::alloc::Global;
@@ -63,14 +65,20 @@ impl Engine<'_> {
         }
         for _ in 0..SEGMENTS {
             if HOME < self.core.policy().workers() {
-                let _ = self.core.refill(HOME, 0);
+                let told = match self.core.refill(HOME, 0) {
+                    Ok(segment) => Answer::Refilled(segment),
+                    Err(_) => Answer::NoSegment,
+                };
+                self.digest.answer(told);
             }
         }
         for words in &WORDS {
             for _ in 0..EACH {
                 if HOME < self.core.policy().workers() {
                     let bytes = 8 * u64::from(*words);
-                    if let Ok(handle) = self.core.alloc(HOME, ENGINE, 0, bytes) {
+                    let told = self.core.alloc(HOME, ENGINE, 0, bytes);
+                    self.digest.answer(alloc_answer(told));
+                    if let Ok(handle) = told {
                         self.pages.push(Page {
                             handle,
                             words: *words,
@@ -87,8 +95,7 @@ impl Engine<'_> {
     }
 
     fn tell(&mut self, progress: Progress) {
-        self.digest.number(progress.done as u64);
-        self.digest.number(u64::from(progress.refused.is_some()));
+        self.digest.progress(progress.done, progress.refused);
     }
 
     /// Reads so many words from one on, and adds what was read to the digest.

@@ -160,13 +160,20 @@ fn make_calls(shelf: &mut Shelf, made: &mut Vec<Call>) -> Result<(), AllocFailed
 fn tell(digest: &mut Digest, found: &Found) {
     match found {
         Found::Order(order) => {
+            digest.number(1);
             for call in order {
                 digest.number(u64::from(call.worker));
                 digest.answer(call.answer);
             }
         }
-        Found::Nothing(_) => digest.number(1),
-        Found::GivenUp => digest.number(2),
+        Found::Nothing(Some(front)) => {
+            digest.number(2);
+            for calls in front {
+                digest.number(*calls as u64);
+            }
+        }
+        Found::Nothing(None) => digest.number(3),
+        Found::GivenUp => digest.number(4),
     }
 }
 

@@ -94,10 +94,10 @@ impl Host<'_> {
             return;
         }
         let freed = free_all(&mut self.core, worker, HOST, guest.0);
-        self.digest.number(u64::from(freed));
+        self.digest.freed(freed);
         if guest.0 == GUESTS && worker < self.core.policy().workers() {
             let freed = free_all(&mut self.core, worker, guest, guest.0);
-            self.digest.number(u64::from(freed));
+            self.digest.freed(freed);
         }
     }
 
