@@ -27,6 +27,19 @@ pub enum Way {
     Event,
 }
 
+/// Each way.
+pub static ALL: [Way; 9] = [
+    Way::Not,
+    Way::Answer,
+    Way::Near,
+    Way::Swap,
+    Way::Gone,
+    Way::Twice,
+    Way::Next,
+    Way::Before,
+    Way::Event,
+];
+
 /// An answer close to another.
 fn near(answer: Answer) -> Answer {
     match answer {

@@ -1,5 +1,6 @@
 //! Logs that a core answers, drawn from a seed.
 
+use crate::tests::events::{Kind, event_of};
 use crate::tests::numbers::Numbers;
 use hg_calls::Call;
 use hg_core::Core;
@@ -8,65 +9,17 @@ use hg_place::{Actor, Handle};
 use hg_policy::Policy;
 use std::alloc::{AllocError, Global};
 
-/// What blocks are asked for, in bytes.
-static SIZES: [u64; 8] = [8, 64, 1_024, 1_024, 2_048, 2_048, 4_096, 65_537];
-
 /// A core, and handles that its workers pass on.
 #[derive(Drop)]
-struct Shelf {
+pub struct Shelf {
     core: Core,
     handles: Vec<Option<Handle>>,
     numbers: Numbers,
 }
 
-/// An event where a place of the shelf has no handle.
-fn event_without(number: u64, actor: Actor) -> Event {
-    match number & 7 {
-        0 => Event::Deliver,
-        1 => Event::Refill {
-            arena: u8::from(number >> 8 & 3 == 0),
-        },
-        _ => Event::Alloc {
-            actor,
-            arena: u8::from(number >> 8 & 7 == 0),
-            bytes: SIZES[(number >> 24) as usize & 7],
-        },
-    }
-}
-
-/// An event where it has one.
-fn event_with(number: u64, actor: Actor, handle: Handle) -> Event {
-    let other = Actor((number >> 8 & 3) as u8);
-    let segment = (number >> 16 & 3) as u8;
-    let index = (number >> 32 & 1) as u32;
-    match number & 31 {
-        0..9 => Event::Free { actor, handle },
-        9..16 => Event::Read {
-            actor: other,
-            handle,
-            index,
-        },
-        16..22 => Event::Write {
-            actor,
-            handle,
-            index,
-            value: number >> 40,
-        },
-        22..24 => Event::Look {
-            actor: other,
-            place: handle.place,
-        },
-        24..27 => Event::Deliver,
-        27..29 => Event::Take { segment },
-        29 => Event::Collect,
-        30 => Event::Abandon { segment },
-        _ => Event::Refill { arena: 0 },
-    }
-}
-
 impl Shelf {
     /// A core that a policy opens, and a shelf of so many places.
-    fn new(alloc: Global, policy: &Policy, size: u64, seed: u64) -> Result<Shelf, AllocError> {
+    pub fn new(alloc: Global, policy: &Policy, size: u64, seed: u64) -> Result<Shelf, AllocError> {
         let mut handles = Vec::new(alloc);
         for _ in 0..size {
             handles.push(None)?;
@@ -99,58 +52,114 @@ impl Shelf {
         }
     }
 
-    /// A worker's next call, if the core has that worker.
-    fn call(&mut self, worker: u8) -> Option<Call> {
-        let at = self.place();
-        let number = self.numbers.next();
-        let actor = Actor((at % 3) as u8);
-        let event = match self.handles.get(at).copied().flatten() {
-            Some(handle) => event_with(number, actor, handle),
-            None => event_without(number, actor),
-        };
+    /// A worker's call with this event, if the core has that worker.
+    fn answered(&mut self, worker: u8, event: Event) -> Option<Call> {
         if worker >= self.core.policy().workers() {
             return None;
         }
         let answer = self.core.step(worker, event);
-        self.keep(at, event, answer);
         Some(Call {
             worker,
             event,
             answer,
         })
     }
-}
 
-/// So many calls, in the order in which a core answered them.
-fn made(alloc: Global, shelf: &mut Shelf, count: u64) -> Result<Vec<Call>, AllocError> {
-    let workers = u64::from(shelf.core.policy().workers());
-    let mut made = Vec::new(alloc);
-    for _ in 0..count {
-        let number = shelf.numbers.next();
-        let worker = if workers == 0 { 0 } else { number % workers };
-        if let Some(call) = shelf.call((worker & 0xff) as u8) {
-            made.push(call)?;
+    /// A segment that a worker holds: this one, or the next of the lowest eight; this one where it
+    /// holds none.
+    fn held(&self, worker: u8, segment: u8) -> u8 {
+        for more in 0..8u8 {
+            let other = segment.wrapping_add(more) & 7;
+            if self.core.holds(worker, other) {
+                return other;
+            }
+        }
+        segment
+    }
+
+    /// An event on a segment that the worker holds, if it holds one.
+    fn aimed(&self, worker: u8, event: Event) -> Event {
+        match event {
+            Event::Abandon { segment } => Event::Abandon {
+                segment: self.held(worker, segment),
+            },
+            Event::Take { segment } => Event::Take {
+                segment: self.held(worker, segment),
+            },
+            other => other,
         }
     }
-    Ok(made)
+
+    /// A worker's next call, if the core has that worker.
+    fn call(&mut self, kind: Kind, worker: u8) -> Option<Call> {
+        let at = self.place();
+        let number = self.numbers.next();
+        let actor = Actor((at % 3) as u8);
+        let handle = self.handles.get(at).copied().flatten();
+        let mut event = event_of(kind, number, actor, handle);
+        if matches!(kind, Kind::Segments | Kind::Sends) {
+            event = self.aimed(worker, event);
+        }
+        let call = self.answered(worker, event)?;
+        self.keep(at, event, call.answer);
+        Some(call)
+    }
+
+    /// A worker takes a segment and has 140 blocks of 8 bytes given out there. The sixth goes to
+    /// the shelf, and so does the one that is 128 places on.
+    fn fill(&mut self, worker: u8, calls: &mut Vec<Call>) -> Result<(), AllocError> {
+        if let Some(call) = self.answered(worker, Event::Refill { arena: 0 }) {
+            calls.push(call)?;
+        }
+        let alloc = Event::Alloc {
+            actor: Actor(0),
+            arena: 0,
+            bytes: 8,
+        };
+        for number in 0..140u8 {
+            let Some(call) = self.answered(worker, alloc) else {
+                continue;
+            };
+            calls.push(call)?;
+            if let (Answer::Block(handle), 5 | 133) = (call.answer, number) {
+                self.handles.push(Some(handle))?;
+            }
+        }
+        Ok(())
+    }
+
+    /// Each worker fills a segment.
+    pub fn fill_all(&mut self, calls: &mut Vec<Call>) -> Result<(), AllocError> {
+        for worker in 0..self.core.policy().workers() {
+            self.fill(worker, calls)?;
+        }
+        Ok(())
+    }
+
+    /// Draws so many calls, in the order in which the core answers them.
+    pub fn draw(
+        &mut self,
+        kind: Kind,
+        count: u64,
+        calls: &mut Vec<Call>,
+    ) -> Result<(), AllocError> {
+        let workers = u64::from(self.core.policy().workers());
+        for _ in 0..count {
+            let number = self.numbers.next();
+            let worker = if workers == 0 { 0 } else { number % workers };
+            if let Some(call) = self.call(kind, (worker & 0xff) as u8) {
+                calls.push(call)?;
+            }
+        }
+        Ok(())
+    }
 }
 
-/// So many calls of the workers of a policy, those of one behind those of another, on handles of a
-/// shelf of so many places.
-pub fn log_of(
-    alloc: Global,
-    policy: &Policy,
-    count: u64,
-    size: u64,
-    seed: u64,
-) -> Result<Vec<Call>, AllocError> {
-    let mut shelf = Shelf::new(alloc, policy, size, seed)?;
-    let made = made(alloc, &mut shelf, count);
-    drop(shelf);
-    let made = made?;
+/// The calls of the workers of a policy, those of one behind those of another.
+pub fn by_worker(alloc: Global, policy: &Policy, made: &[Call]) -> Result<Vec<Call>, AllocError> {
     let mut calls = Vec::new(alloc);
     for worker in 0..policy.workers() {
-        for call in &made {
+        for call in made {
             if call.worker == worker {
                 calls.push(*call)?;
             }

@@ -1,0 +1,61 @@
+//! Logs of no call and of one, and logs in which many workers send to one segment.
+
+use crate::tests::both::{End, both};
+use crate::tests::policies::{BARE, FULL, LONE, SENDERS};
+use crate::tests::senders::{Sending, sent};
+use hg_calls::Call;
+use hg_machine::{Answer, Event};
+use hg_policy::{Policy, read_policy};
+use std::alloc::{AllocError, Global};
+
+/// How both end for a log of no call, and for logs of one: a deliver, answered so.
+fn short(alloc: Global, policy: &Policy) -> Result<[Option<End>; 3], AllocError> {
+    let call = |answer| Call {
+        worker: 0,
+        event: Event::Deliver,
+        answer,
+    };
+    Ok([
+        both(alloc, policy, &[])?,
+        both(alloc, policy, &[call(Answer::NothingInHand)])?,
+        both(alloc, policy, &[call(Answer::Done)])?,
+    ])
+}
+
+#[test]
+fn short_logs_are_alike(rt: HostRuntime) {
+    for policy in [BARE, LONE, FULL] {
+        let Ok(policy) = read_policy(rt.alloc(), policy.as_bytes()) else {
+            assert!(&rt; false, "the policy is read");
+            return;
+        };
+        let found = short(rt.alloc(), &policy);
+        drop(policy);
+        let ends = [Some(End::Order), Some(End::Order), Some(End::Front(1))];
+        assert_eq!(&rt; found, Ok(ends));
+    }
+}
+
+/// Six workers that send a block each, in 720 orders.
+const SIX: Sending = Sending {
+    senders: 6,
+    blocks: 1,
+    bytes: 640,
+    writes: 0,
+    waiting: 2,
+    idle: 0,
+    fits: true,
+};
+
+#[test]
+fn many_senders_are_alike(rt: HostRuntime) {
+    let Ok(policy) = read_policy(rt.alloc(), SENDERS.as_bytes()) else {
+        assert!(&rt; false, "the policy is read");
+        return;
+    };
+    let found = sent(rt.alloc(), &policy, SIX);
+    let refuted = sent(rt.alloc(), &policy, Sending { fits: false, ..SIX });
+    drop(policy);
+    assert_eq!(&rt; found, Ok(Some(End::Order)));
+    assert_eq!(&rt; refuted, Ok(Some(End::Front(1))));
+}
