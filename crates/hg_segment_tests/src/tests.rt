@@ -16,3 +16,4 @@ mod segment_parts;
 mod sizes;
 mod slot_word;
 mod words;
+mod written;

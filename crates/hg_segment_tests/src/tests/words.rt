@@ -11,6 +11,7 @@ enum Call {
     Get(usize, u64),
     // from a word on
     CopyOut(usize, [u64; 4]),
+    CopyIn(usize, [u64; 3]),
 }
 
 /// Four words from one on.
@@ -39,6 +40,11 @@ fn is_met(rt: &impl Abort, memory: &mut WordMemory, call: &Call) -> bool {
             memory.get(*at) == *expected
         }
         Call::CopyOut(from, expected) => copied(rt, memory, *from) == *expected,
+        Call::CopyIn(from, values) => {
+            assert!(rt; *from <= SEGMENT_WORDS - 3);
+            memory.copy_in(*from, values);
+            true
+        }
     }
 }
 
@@ -52,7 +58,7 @@ fn meets(rt: &impl Abort, alloc: Global, calls: &[Call]) {
 }
 
 // Each call changes the words that it names, at both ends of the memory too.
-static NAMED: [Call; 13] = [
+static NAMED: [Call; 17] = [
     Call::Set(0, 7),
     Call::Set(SEGMENT_WORDS - 1, u64::MAX),
     Call::Set(10, 3),
@@ -62,6 +68,10 @@ static NAMED: [Call; 13] = [
     Call::Get(SEGMENT_WORDS - 1, u64::MAX),
     Call::Zero(11, 1),
     Call::CopyOut(9, [0, 3, 0, 5]),
+    Call::CopyIn(10, [6, 7, 8]),
+    Call::CopyOut(9, [0, 6, 7, 8]),
+    Call::CopyIn(SEGMENT_WORDS - 3, [1, 2, 3]),
+    Call::Get(SEGMENT_WORDS - 1, 3),
     Call::Zero(0, SEGMENT_WORDS),
     Call::Get(0, 0),
     Call::Get(10, 0),
@@ -74,7 +84,7 @@ fn words_named(rt: HostRuntime) {
 }
 
 // What was never written reads as zero, behind all that was and beside it.
-static UNWRITTEN: [Call; 7] = [
+static UNWRITTEN: [Call; 11] = [
     Call::Get(SEGMENT_WORDS - 1, 0),
     Call::Zero(5, 100),
     Call::Set(7, 8),
@@ -82,6 +92,10 @@ static UNWRITTEN: [Call; 7] = [
     Call::Zero(7, 100),
     Call::Get(7, 0),
     Call::Get(100, 0),
+    Call::CopyIn(6, [1, 2, 3]),
+    Call::CopyOut(5, [0, 1, 2, 3]),
+    Call::CopyIn(200, [4, 5, 6]),
+    Call::CopyOut(199, [0, 4, 5, 6]),
 ];
 
 #[test]
