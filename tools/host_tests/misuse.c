@@ -225,7 +225,7 @@ static void try_open(void)
         char room[ROOM];
         unsigned kind = n % KINDS;
         if (kind == 8) continue; /* the worker of segment 0 is to keep it */
-        if (kind == 20 && below(32)) continue; /* it looks at each place */
+        if (kind == 20 && below(32)) continue; /* it looks at each place that a block may have */
         seed ^= n;
         hg_reply reply = any_call(&core, kind, room);
         checks++;
