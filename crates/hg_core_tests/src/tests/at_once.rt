@@ -65,7 +65,7 @@ fn read_one(rt: &impl Abort, core: &mut Core, part: Part, at: usize) -> Result<u
     )
 }
 
-/// So many words of the part are told as they are one by one, and the room behind them is as it was.
+/// So many words of the part are told as they are one by one, and the room behind is as it was.
 fn check_told(rt: &impl Abort, core: &mut Core, part: Part, done: usize, told: &[u64]) {
     for at in 0..done {
         assert_eq!(rt;
@@ -295,6 +295,14 @@ fn words_at_once_are_refused(rt: HostRuntime) {
         (away, elsewhere, elsewhere),
         (Part { count: 0, ..away }, (0, None), (0, None)),
         (all_of(handle, Actor(255)), stranger, stranger),
+        (
+            Part {
+                actor: Actor(255),
+                ..away
+            },
+            stranger,
+            stranger,
+        ),
         (all_of(later, ALICE), stale, stale),
     ];
     check_parts(&rt, &mut run, rt.alloc(), &parts);
