@@ -2,7 +2,7 @@
 //! one.
 
 use crate::tests::draws::Part;
-use crate::tests::seeded::{FEW_LIVES, MANY_LIVES, Run, answer, reached_by};
+use crate::tests::seeded::{FEW_LIVES, MANY_LIVES, Run, reached_by};
 use hg_bulk::{read_words, write_words};
 use hg_core::{Core, Refused};
 use hg_machine::{Answer, Event, Rule};

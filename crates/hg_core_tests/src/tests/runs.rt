@@ -23,8 +23,8 @@ static WORKERS: [u8; 6] = [0, 1, 2, 3, 4, 255];
 
 /// Events and what they were answered.
 #[derive(Drop)]
-pub struct Told {
-    pub events: Vec<(u8, Event)>,
+struct Told {
+    events: Vec<(u8, Event)>,
     answers: Vec<Answer>,
 }
 
@@ -50,7 +50,7 @@ fn check_holders(rt: &impl Abort, core: &Core, machine: &Machine) {
 }
 
 /// Events drawn from a seed and served one by one; after each hundredth the core is asked.
-pub fn events_told(rt: &impl Abort, alloc: Global, policy: &str) -> Told {
+fn events_told(rt: &impl Abort, alloc: Global, policy: &str) -> Told {
     let mut run = Run::new(rt, alloc, policy, 5);
     let mut told = Told {
         events: Vec::new(alloc),
