@@ -71,6 +71,10 @@ int main(void)
     block = hg_alloc(&core, 0, 0, 0, sizeof words).value;
     COST_OF("write 512 words at once", 20, hg_write_words(&core, 0, 0, block, 0, words, 512));
     COST_OF("read 512 words at once", 20, hg_read_words(&core, 0, 0, block, 0, words, 512));
+    COST("write a word at once", hg_write_words(&core, 0, 0, block, n & 7, words, 1));
+    COST("read a word at once", hg_read_words(&core, 0, 0, block, n & 7, words, 1));
+    COST("write four words at once", hg_write_words(&core, 0, 0, block, n & 7, words, 4));
+    COST("read four words at once", hg_read_words(&core, 0, 0, block, n & 7, words, 4));
     COST_OF("free all, of which there are none", 2, hg_free_all(&core, 0, 0, 1));
     hg_free(&core, 0, 0, block);
     hg_collect(&core, 0);
