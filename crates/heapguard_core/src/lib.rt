@@ -16,7 +16,7 @@
 //! worker that the policy has: `worker < core.policy().workers()`.
 #![tactic(auto)]
 
-pub use hg_core::{Core, Freed, NoSegment, NotFreed, NotHeld, NothingInHand, Refused};
+pub use hg_core::{Core, Freed, HowFar, NoSegment, NotFreed, NotHeld, NothingInHand, Refused};
 pub use hg_machine::{Answer, Event, Row, Rule, laws};
 pub use hg_place::{Actor, Handle, NotAHandle, Place, Right};
 pub use hg_policy::{Counted, Key, Policy, PolicyFault, read_policy};

@@ -21,7 +21,7 @@ mod MadeOfParts
 mod Recorded
 mod Handed
 mod KindsTold
-pub mod PlacesTold
+mod PlacesTold
 pub mod WordWrites
 mod WrittenRuns
 mod WordReads

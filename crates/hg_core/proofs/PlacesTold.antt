@@ -18,7 +18,8 @@ use Rattle.hg_size.specs.Sizes.{places_of}
 use Rattle.hg_machine.specs.Holders.{is_held_by, holds}
 use Rattle.hg_machine.specs.Life.{Life, home, live, parted, is_home, contents_of}
 use Rattle.hg_machine.specs.Soundness.{IsSound}
-use Rattle.hg_machine.specs.State.{State, Holder, fresh, orphan, held, record_at, class_at, holder_at}
+use Rattle.hg_machine.specs.State.{State, Holder, fresh, orphan, held, record_at, class_at}
+use Rattle.hg_machine.specs.State.{holder_at}
 use Rattle.hg_agreement.specs.Parts.{Parts, state_of, plain_of, plain_from}
 use Rattle.hg_agreement.proofs.Told.{segments_are_told}
 use Rattle.hg_events.specs.Core.{Core, parts_of, heap_of}

@@ -15,7 +15,8 @@ use Rattle.hg_chosen.specs.Chosen.{IsChosenBy}
 use Rattle.hg_events.specs.Core.{Core}
 use Rattle.hg_choice.proofs.ChoiceLemmas.{same_kept}
 
-pub read_leaves : (k new : Kept) (worker : ℕ) (actor : Actor) (handle : Handle) (index : ℕ) (a : Answer)
+pub read_leaves : (k new : Kept) (worker : ℕ) (actor : Actor) (handle : Handle) (index : ℕ)
+    (a : Answer)
     → ChosenStep k worker (event.Read actor handle index) a new → new ≡ k
 read_leaves k new worker actor handle index a read =
     same_kept k new

@@ -16,11 +16,12 @@ use hg_heap::HowFar;
 use hg_place::{Actor, Handle};
 
 impl Core {
-    /// Reads words of a block into a room, from the word of an index on, and tells how many: as many
-    /// as the block has there and the room holds, and none where the worker doesn't hold the
+    /// Reads words of a block into a room, from the word of an index on, and tells how many: as
+    /// many as the block has there and the room holds, and none where the worker doesn't hold the
     /// segment or a rule refuses. The block is judged once, and not at all for a room without
-    /// words. Each is what a Read of it is answered, and where fewer came than the room holds, so is
-    /// the refusal of the next. What stands in the room behind them is as it was, and so is the core.
+    /// words. Each is what a Read of it is answered, and where fewer came than the room holds, so
+    /// is the refusal of the next. What stands in the room behind them is as it was, and so is the
+    /// core.
     pub fn read_words(
         &mut self,
         worker: u8,
@@ -62,7 +63,8 @@ impl Core {
         words: &[u64],
     ) -> HowFar
         requires worker { worker < self.old.state.policy.workers }
-        ensures run { Chosen self.old (writes worker actor handle first (take result.done words.now))
+        ensures run { Chosen self.old
+            (writes worker actor handle first (take result.done words.now))
             (replicate result.done Answer.Done) self.new }
         ensures next { IfSome result.refused (λ why. ChosenStep self.new worker
             (Event.Write actor handle (first + result.done) (slice_index words.now result.done))

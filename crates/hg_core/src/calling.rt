@@ -18,8 +18,8 @@ use hg_machine::Row;
 use hg_place::{Actor, Handle, Place};
 
 impl Core {
-    /// Gives out a block of so many bytes, in whole words of 8 and one word at least, all of them 0,
-    /// of a segment of the arena that the worker holds: at the place of the order of choice. A
+    /// Gives out a block of so many bytes, in whole words of 8 and one word at least, all of them
+    /// 0, of a segment of the arena that the worker holds: at the place of the order of choice. A
     /// refusal changes nothing. `Denied` names the first rule that refuses: `Stranger`,
     /// `ForeignArena`, `OverLimit` by what the actor has in the worker's heap; `TooLarge` is above
     /// 4,096 bytes; `NoRoom` where no place of those segments may have such a block.

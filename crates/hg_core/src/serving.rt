@@ -73,8 +73,8 @@ impl Core {
     }
 
     /// What counts against a tenant's limit with a worker, in bytes, of all arenas. A worker that
-    /// the policy lacks has 0, and so has a number from 64 on; from `open` on a tenant that it lacks
-    /// has 0 too, since each owner is a tenant (law `owners_are_tenants`).
+    /// the policy lacks has 0, and so has a number from 64 on; from `open` on a tenant that it
+    /// lacks has 0 too, since each owner is a tenant (law `owners_are_tenants`).
     pub fn charge(&self, worker: u8, tenant: u8) -> u64
         ensures { result ≡ charge self.now.state worker tenant }
     {

@@ -187,7 +187,8 @@ module _ (policy : Policy) (found word : ℕ) (actor : Actor) (handle : Handle) 
         step = ends.1;
         ties = ends.2;
         lists = heap_lists here looked;
-        settled = all_settled items one settled (settled one (Contains-get items found one here.at));
+        settled = all_settled items one settled
+            (settled one (Contains-get items found one here.at));
       })
 
 -- words that are written leave a block as long as it was
@@ -216,7 +217,8 @@ module _ (policy : Policy) (found first : ℕ) (actor : Actor) (handle : Handle)
       ⊎ ((use_denial policy actor.0 right.Write handle copied.word ≡ None)
       × AreCopied handle first (take far.done words) one last)
       → last ≡ with_words one last.words
-  last_by (inl none) = none.1 ∙ ap (with_words one) (sym (ap (λ (k : Kept PlainWords). k.words) none.1))
+  last_by (inl none) =
+      none.1 ∙ ap (with_words one) (sym (ap (λ (k : Kept PlainWords). k.words) none.1))
   last_by (inr some) = some.1.rest
 
   last_is : last ≡ with_words one last.words

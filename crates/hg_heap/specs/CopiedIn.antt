@@ -28,8 +28,8 @@ pub record AreCopied (handle : Handle) (first : ℕ) (words : List ℕ) (old new
       AreWordsWritten (plain_records old.slots) old.classes handle.place.page handle.place.index
       first words old.words new.words
 
--- nothing is written; or the word allows it, and as many are as it tells. The next isn't reached, or
--- there is none
+-- nothing is written; or the word allows it, and as many are as it tells. The next isn't reached,
+-- or there is none
 pub record CopiedIn (policy : Policy) (actor : Actor) (handle : Handle) (first : ℕ)
     (words : List ℕ) (old : Kept PlainWords) (far : HowFar) (new : Kept PlainWords) : Type 0 where
   pub word : ℕ

@@ -1,5 +1,5 @@
-ghost use Rattle.std.specs.Prelude.{◌≡◌, ◌<◌, ◌≤◌, ◌↔◌, ℕ, true, false, [], None, Some, length, map};
-ghost use Rattle.std.specs.Prelude.{Contains, option_map, IfOk, IfSome, IfNone, IsTrue};
+ghost use Rattle.std.specs.Prelude.{◌≡◌, ◌<◌, ◌≤◌, ◌↔◌, ℕ, true, false, [], None, Some, length};
+ghost use Rattle.std.specs.Prelude.{map, Contains, option_map, IfOk, IfSome, IfNone, IsTrue};
 ghost use Rattle.hg_place.specs.declared.geometry.TheConstants.{SEGMENT_PAGES, PAGE_PLACES};
 ghost use Rattle.hg_place.specs.declared.standing.Standing.{Standing};
 ghost use Rattle.hg_place.specs.Standings.{standing_at, slot_of};
@@ -162,9 +162,9 @@ impl<S: SlotWords> Heap<S> {
         self.charges.of(tenant)
     }
 
-    /// What a heap keeps, for its callers to know: each segment as it promises, no two of one number,
-    /// each of an arena that there may be; and a page stands in the queue of its key exactly where a
-    /// block place of it is home and not worn.
+    /// What a heap keeps, for its callers to know: each segment as it promises, no two of one
+    /// number, each of an arena that there may be; and a page stands in the queue of its key
+    /// exactly where a block place of it is home and not worn.
     pub fn settled(&self)
         ensures each { (k : Kept S) → Contains self.now.segments k → IsSettled S.records k }
         ensures once { HasNoRepeats (map (λ k. S.number k.slots) self.now.segments) }

@@ -24,11 +24,11 @@ use hg_policy::Policy;
 use hg_segment::Segment;
 
 impl<S: SlotWords> Heap<S> {
-    /// Reads words of a block of a held segment into a room, from the word of an index on, the index
-    /// counted from the block's first: as many as the block has there and the room holds. Each is
-    /// what a Read of it is answered by the one word that the step shows, and so is the refusal of
-    /// the next, where fewer came than the room holds. What stands in the room behind them, and
-    /// words, records and lists, stay as they are.
+    /// Reads words of a block of a held segment into a room, from the word of an index on, the
+    /// index counted from the block's first: as many as the block has there and the room holds.
+    /// Each is what a Read of it is answered by the one word that the step shows, and so is the
+    /// refusal of the next, where fewer came than the room holds. What stands in the room behind
+    /// them, and words, records and lists, stay as they are.
     pub fn read_words(
         &mut self,
         policy: &Policy,

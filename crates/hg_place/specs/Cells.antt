@@ -1,7 +1,9 @@
 -- A slot word and a record in one number, and where the numbers of places stand.
-use Rattle.std.specs.Prelude.{ℕ, ◌+◌, ◌*◌, ◌/◌, ◌%◌, ◌^◌, ◌==◌, if◌then◌else◌, List, map, slice_index}
+use Rattle.std.specs.Prelude.{ℕ, ◌+◌, ◌*◌, ◌/◌, ◌%◌, ◌^◌, ◌-◌, ◌==◌, ltb, if◌then◌else◌, List, map}
+use Rattle.std.specs.Prelude.{slice_index}
 use Rattle.std.specs.List.{range_with_len}
-use Rattle.hg_place.specs.declared.geometry.TheConstants.{PAGE_PLACES, SEGMENT_PAGES, SEGMENT_PLACES}
+use Rattle.hg_place.specs.declared.geometry.TheConstants.{PAGE_PLACES, SEGMENT_PAGES}
+use Rattle.hg_place.specs.declared.geometry.TheConstants.{SEGMENT_PLACES}
 use Rattle.hg_place.specs.declared.standing.Standing.{Standing}
 use Rattle.hg_place.specs.declared.standing.Standing.TheVariants.{Home, Open}
 
@@ -14,14 +16,22 @@ abbrev pub standing_in : ℕ → Standing
 standing_in cell =
     if cell / 128 % 2 == 1 then Open (cell / 2 ^ 32) (cell % 128 / 2) else Home (cell / 2 ^ 32)
 
--- where the cell of a place stands, by the place's number in its segment: eight of a page stand
--- together, those of all pages side by side, each eight of a page one column on from the eight before
+-- how many cells of each page stand beside the first ones of the other pages
+abbrev pub FIRST : ℕ
+FIRST = 64
+
+-- where the cell of a place stands, by the place's number in its segment: the first cells of all
+-- pages stand together, page by page, and behind them the other cells of each page
 abbrev pub spot_of : ℕ → ℕ
 spot_of at =
-    at % PAGE_PLACES / 8 * (8 * SEGMENT_PAGES)
-    + (at / PAGE_PLACES + at % PAGE_PLACES / 8) % SEGMENT_PAGES * 8
-    + at % 8
+    if ltb (at % PAGE_PLACES) FIRST
+    then at / PAGE_PLACES * FIRST + at % PAGE_PLACES
+    else
+    SEGMENT_PAGES * FIRST
+    + at / PAGE_PLACES * (PAGE_PLACES - FIRST)
+    + (at % PAGE_PLACES - FIRST)
 
 -- what the cells say, place by place
 unfoldable pub seen : {X : Type 0} → (ℕ → X) → List ℕ → List X
-seen says cells = map (λ at. says (slice_index cells (spot_of at))) (range_with_len 0 SEGMENT_PLACES)
+seen says cells =
+    map (λ at. says (slice_index cells (spot_of at))) (range_with_len 0 SEGMENT_PLACES)

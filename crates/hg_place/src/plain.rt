@@ -8,17 +8,17 @@ ghost use Rattle.hg_place.specs.Standings.{standing_at, slot_of, is_home, Fits};
 ghost use Rattle.hg_place.specs.declared.standing.Standing.TheVariants.{Home};
 
 use crate::cells::{cell_of, standing_in, word_in};
-use crate::geometry::{SEGMENT_PAGES, SEGMENT_PLACES};
+use crate::geometry::{PAGE_PLACES, SEGMENT_PAGES, SEGMENT_PLACES};
 use crate::{Handle, Place, SlotWords, Standing, pack, word_generation};
 use hg_reserved::Reserved;
 use std::alloc::{AllocError, Global};
 
-/// How many cells of a page stand together.
-const EIGHT: usize = 8;
+/// How many of a page's cells stand beside the first ones of the other pages.
+const FIRST: usize = 64;
 
 /// The slot words of a segment for one thread alone: a step finds the word that stands. A place's
 /// word and its record take 8 bytes, those of the first places of all pages side by side, in memory
-/// that is touched when the place, or one behind it, is first given out.
+/// that is touched when the place, or one whose cell stands beside its own, is first given out.
 #[derive(Drop)]
 pub struct PlainWords {
     segment: u8,
@@ -175,14 +175,18 @@ impl PlainWords {
     }
 }
 
-/// Where the cell of a place stands. Eight of a page fill a line of a cache; those of all pages stand
-/// side by side, so that few lines and pages of memory serve pages that have few places.
+/// Where the cell of a place stands: the first 64 of each page stand beside those of the other
+/// pages, so that few pages of memory serve pages that have few places; the others of a page stand
+/// behind them, page by page.
 fn spot(place: Place) -> usize
     ensures value { result ≡ spot_of (slot_of place) }
     ensures below { result < SEGMENT_PLACES }
 {
+    let page = usize::from(place.page);
     let index = usize::from(place.index);
-    let row = index / EIGHT;
-    let column = (usize::from(place.page) + row) % SEGMENT_PAGES;
-    row * (EIGHT * SEGMENT_PAGES) + column * EIGHT + index % EIGHT
+    if index < FIRST {
+        page * FIRST + index
+    } else {
+        SEGMENT_PAGES * FIRST + page * (PAGE_PLACES - FIRST) + (index - FIRST)
+    }
 }

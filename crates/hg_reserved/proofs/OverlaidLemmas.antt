@@ -1,9 +1,8 @@
 -- Values that are written over a list one after another.
-use Rattle.std.proofs.Common.{◌≡◌, ◌≢◌, ℕ, ◌+◌, ◌-◌, ◌<◌, ◌≤◌, ◌⊎◌, inl, inr, List, [], ◌∷◌, ◌++◌}
-use Rattle.std.proofs.Common.{zero, suc, length, arith, sym, ◌∙◌, refl, ap, take, ⊎_elim}
+use Rattle.std.proofs.Common.{◌≡◌, ◌≢◌, ℕ, ◌+◌, ◌-◌, ◌<◌, ◌≤◌, ◌⊎◌, inl, inr, List, [], ◌∷◌}
+use Rattle.std.proofs.Common.{zero, suc, length, arith, sym, ◌∙◌, refl, ap, ⊎_elim}
 use Rattle.std.specs.Prelude.{slice_index_or, slice_set}
 use Rattle.std.proofs.lemmas.List.{length-set, get_or-set_same, get_or-set_other, ext_get_or}
-use Rattle.std.proofs.lemmas.List.{length-take, take_more}
 use Rattle.std.proofs.lemmas.Bool.{cases_lt}
 use Rattle.hg_reserved.specs.Shown.{shown}
 use Rattle.hg_reserved.specs.Overlaid.{overlaid}
@@ -43,26 +42,6 @@ overlaid-written old from (v ∷ vs) (suc k) d inside lt =
     (omega arith)
     ∙ overlaid-written (slice_set old from v) (from + 1) vs k d
     (omega (arith, inside, length-set old from v)) (omega (arith, lt))
-
--- one more value is written behind the others
-pub overlaid-more : {T : Type 0} (old : List T) (from : ℕ) (values : List T) (value : T)
-    → overlaid old from (values ++ value ∷ [])
-    ≡ slice_set (overlaid old from values) (from + length values) value
-overlaid-more old from [] value = ap (λ (n : ℕ). slice_set old n value) (omega arith)
-overlaid-more old from (v ∷ vs) value =
-    let one : List _ = slice_set old from v in
-    overlaid-more one (from + 1) vs value
-    ∙ ap (λ (n : ℕ). slice_set (overlaid one (from + 1) vs) n value) (omega arith)
-
--- the first values, and one more
-pub overlaid-step : {T : Type 0} (old : List T) (from : ℕ) (values : List T) (k : ℕ) (d : T)
-    → k < length values
-    → overlaid old from (take (k + 1) values)
-    ≡ slice_set (overlaid old from (take k values)) (from + k) (slice_index_or values k d)
-overlaid-step old from values k d lt =
-    rw (take_more values k d lt) (overlaid-more old from (take k values) (slice_index_or values k d)
-    ∙ ap (λ (n : ℕ). slice_set (overlaid old from (take k values)) n (slice_index_or values k d))
-    (omega (arith, length-take k values, lt)))
 
 -- a list that has others' values at the places from one on, and its own at each other
 pub are-overlaid : {T : Type 0} (blank : T) (old new : List T) (from : ℕ) (values : List T)

@@ -1,12 +1,11 @@
 -- The words of a block, as a range of the words of its segment.
-use Rattle.std.proofs.Common.{◌≡◌, ℕ, ◌+◌, ◌-◌, ◌<◌, ◌≤◌, inl, inr, List, [], ◌∷◌, refl, ap}
+use Rattle.std.proofs.Common.{◌≡◌, ℕ, ◌+◌, ◌-◌, ◌<◌, ◌≤◌, inl, inr, List}
 use Rattle.std.proofs.Common.{length, slice_index, slice_set, drop, replicate, sym, ◌∙◌, arith}
 use Rattle.std.proofs.Common.{get_or-set_other, get_or-set_same}
 use Rattle.std.specs.Prelude.{slice_range}
 use Rattle.std.proofs.lemmas.List.{get_or-take, get_or-drop, length-take, length-drop, length-set}
 use Rattle.std.proofs.lemmas.List.{length-replicate, get_or-replicate, ext_get_or}
 use Rattle.std.proofs.lemmas.Bool.{cases_eq}
-use Rattle.hg_reserved.specs.Overlaid.{overlaid}
 
 -- the range of so many words from one on
 abbrev pub block_of : List ℕ → ℕ → ℕ → List ℕ
@@ -73,18 +72,3 @@ block_of-set words from count i value inside lt =
           ∙ sym (get_or-set_other (block_of words from count) i k value 0 ne
           ∙ block_of-read words from count k below)
     ])
-
--- many writes inside the range, one after another
-pub block_of-overlaid : (words : List ℕ) (from count i : ℕ) (values : List ℕ)
-    → from + count ≤ length words → i + length values ≤ count
-    → block_of (overlaid words (from + i) values) from count
-    ≡ overlaid (block_of words from count) i values
-block_of-overlaid words from count i [] inside fits = refl
-block_of-overlaid words from count i (v ∷ vs) inside fits =
-    let one : List ℕ = slice_set words (from + i) v in
-    let next : from + i + 1 ≡ from + (i + 1) = omega arith in
-    ap (λ (at : ℕ). block_of (overlaid one at vs) from count) next
-    ∙ block_of-overlaid one from count (i + 1) vs
-    (omega (arith, inside, length-set words (from + i) v)) (omega (arith, fits))
-    ∙ ap (λ (block : List ℕ). overlaid block (i + 1) vs)
-    (block_of-set words from count i v inside (omega (arith, fits)))

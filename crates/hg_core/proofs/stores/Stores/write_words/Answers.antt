@@ -49,12 +49,14 @@ returns c =
     let told = c.write_words-far.ensures in
     let far = c.write_words-far.result in
     let words = take far.done c.args.words.now in
-    let after = core_of (with_own c.self.inside c.from.result c.write_words-far.new.self) in record {
+    let after = core_of (with_own c.self.inside c.from.result c.write_words-far.new.self) in
+    record {
       run =
           subst (λ n. Chosen (kept_of (parts_of c.args.self.now))
           (writes c.args.worker c.args.actor c.args.handle c.args.first words)
           (replicate n answer.Done) (kept_of (parts_of after)))
-          (length-take-le far.done c.args.words.now (comes_few (length c.args.words.now) far told.end))
+          (length-take-le far.done c.args.words.now
+          (comes_few (length c.args.words.now) far told.end))
           (written_run c.args.actor c.args.handle (call c) words c.args.first told.run told.queues);
       next =
           on_next far.refused

@@ -11,8 +11,18 @@ invariant_of-result c =
       all_cells = is.all;
       all_words = seen_all word_in cells;
       all_records = seen_all standing_in cells;
-      fit = λ at below. rw (seen_blank word_in cells is.blank at, seen_blank standing_in cells is.blank at)
-          ((omega arith, omega arith, λ _. refl), record { generation = refl; freed = λ _. refl; given_out = λ not. absurd (cc); owner = λ not. absurd (cc) });
+      fit = λ at below. rw (
+        seen_blank word_in cells is.blank at,
+        seen_blank standing_in cells is.blank at,
+      ) (
+        (omega arith, omega arith, λ _. refl),
+        record {
+          generation = refl;
+          freed = λ _. refl;
+          given_out = λ not. absurd (cc);
+          owner = λ not. absurd (cc);
+        },
+      );
     }
 
 pub returns-clause-words : goal.returns-clause-words

@@ -15,21 +15,27 @@ invariant_of-self c =
     let s = c.args.self.now in
     let below = low c.args.place in record {
       segment_below = s.segment_below;
-      all_cells = rw (c.set.ensures) (length-set s.cells c.spot.result c.cell_of.result ∙ s.all_cells);
+      all_cells = rw (c.set.ensures)
+          (length-set s.cells c.spot.result c.cell_of.result ∙ s.all_cells);
       all_words = seen_all word_in c.set.new.self;
       all_records = seen_all standing_in c.set.new.self;
       fit = rw (
-        seen_then word_in 0 _ _ _ _ _ _ c.set.ensures c.spot.ensures.value below s.all_cells c.cell_of.ensures.word,
-        seen_then standing_in (Home 0) _ _ _ _ _ _ c.set.ensures c.spot.ensures.value below s.all_cells c.cell_of.ensures.standing,
+        seen_then word_in 0 _ _ _ _ _ _ c.set.ensures c.spot.ensures.value below s.all_cells
+            c.cell_of.ensures.word,
+        seen_then standing_in (Home 0) _ _ _ _ _ _ c.set.ensures c.spot.ensures.value below
+            s.all_cells c.cell_of.ensures.standing,
       )
-          (fit_with (seen word_in s.cells) (seen standing_in s.cells) (slot_of c.args.place) c.args.word c.args.standing
-          (let all = s.all_words in omega arith) (let all = s.all_records in omega arith) c.requires.word c.requires.fits s.fit);
+          (fit_with (seen word_in s.cells) (seen standing_in s.cells) (slot_of c.args.place)
+          c.args.word c.args.standing (let all = s.all_words in omega arith)
+          (let all = s.all_records in omega arith) c.requires.word c.requires.fits s.fit);
     }
 
 pub returns-clause-words : goal.returns-clause-words
 returns-clause-words c =
-    seen_then word_in 0 _ _ _ _ _ _ c.set.ensures c.spot.ensures.value (low c.args.place) c.args.self.now.all_cells c.cell_of.ensures.word
+    seen_then word_in 0 _ _ _ _ _ _ c.set.ensures c.spot.ensures.value (low c.args.place)
+    c.args.self.now.all_cells c.cell_of.ensures.word
 
 pub returns-clause-records : goal.returns-clause-records
 returns-clause-records c =
-    seen_then standing_in (Home 0) _ _ _ _ _ _ c.set.ensures c.spot.ensures.value (low c.args.place) c.args.self.now.all_cells c.cell_of.ensures.standing
+    seen_then standing_in (Home 0) _ _ _ _ _ _ c.set.ensures c.spot.ensures.value (low c.args.place)
+    c.args.self.now.all_cells c.cell_of.ensures.standing

@@ -8,5 +8,8 @@ use Rattle.hg_place.proofs.plain.PlainWordsSlotWords.standing.Goals as goal
 pub returns : goal.returns
 returns c =
     let s = c.args.self.now in
-    c.standing_in.ensures ∙ ap standing_in (c.get.ensures ∙ ap (λ n. slice_index s.cells n) c.spot.ensures.value)
-    ∙ sym (seen_at standing_in s.cells (slot_of c.args.place) (Home 0) (let page = c.args.place.page_below in let index = c.args.place.index_below in omega arith))
+    let page = c.args.place.page_below in
+    let index = c.args.place.index_below in
+    c.standing_in.ensures
+    ∙ ap standing_in (c.get.ensures ∙ ap (λ n. slice_index s.cells n) c.spot.ensures.value)
+    ∙ sym (seen_at standing_in s.cells (slot_of c.args.place) (Home 0) (omega arith))
