@@ -1,15 +1,16 @@
 # For bin/heapguard and bin/build-lib, after tools/words.sh. They set `root`, `called` (the script),
 # `crate` (what it builds) and `program` (the file that comes of it), and have `finish`, which puts
 # that file in its place. Here: whether it is built from the sources and the kit as they stand, and
-# proving it: the kit's gate, `rt ci`, in a copy of the crates that it stands on. That proves crates
-# side by side, and keeps each on this machine as soon as it is proved.
+# proving it in a copy of the crates that it stands on: by the kit's gate, `rt ci`, unless the script
+# has a `prove` and a `progress` of its own. The gate proves crates side by side, and the kit keeps
+# each on this machine as soon as it is proved.
 # shellcheck shell=sh disable=SC2154
 # shellcheck disable=SC2034 # for bin/build-lib
 folder=$root/crates/$crate
 made=$(dirname -- "$program")
 record=$made/made_from # what the program was made from; its time is that before the build
 log=$made/log          # what the last build said
-job='' clock='' scratch='' copy='' began='' store=''
+job='' clock='' scratch='' copy='' began=''
 takes='25 to 30 minutes on quiet cores, and longer on busy ones'
 
 need_rt() {
@@ -24,10 +25,6 @@ lines() { lines_below "$root/crates.txt" "$crate"; }
 
 crates() { lines | sed 's/[ :].*//'; }
 
-# The crates that a build proves, lowest first; and those of them that the gate does.
-steps() { crates; }
-gated() { steps; }
-
 # What the program is made from besides its sources: the kit, and these lines. With no rt that runs,
 # the kit that was recorded.
 made_from() {
@@ -40,7 +37,7 @@ made_from() {
 newer() (
     cd "$root/crates" || exit
     # shellcheck disable=SC2046 # the names of crates have no blanks
-    find $(crates) -mindepth 1 \( -name out -o -name must-fail \) -prune -o \
+    find $(crates) -mindepth 1 \( -name out -o -name must-fail -o -name more-edits \) -prune -o \
         \( -type d -o -name '*.rt' -o -name '*.antt' \) -newer "$1" -print -quit 2>/dev/null \
         || echo "a crate is missing"
 )
@@ -105,19 +102,7 @@ interrupted() {
         wait "$job" 2>/dev/null || true
     fi
     hush
-    stop "$1" "stopped${store:+$(what_is_kept)}"
-}
-
-# What of the proofs is kept: the kit keeps them beside itself, while 5,000 MB are left there.
-what_is_kept() {
-    left=$(df -Pk "$store" 2>/dev/null | awk 'NR == 2 { print int($4 / 1024) }')
-    if [ ! -w "$store" ]; then
-        echo ": nothing is kept, since there is no folder $store to write in"
-    elif [ "${left:-5000}" -lt 5000 ]; then
-        echo ": what was proved while the disk of $store had 5,000 MB free is kept"
-    else
-        echo ": what is proved so far is kept, and the next call goes on from there"
-    fi
+    stop "$1" "stopped${copy:+: what is proved so far the kit keeps where it can, and the next call goes on from there}"
 }
 
 # Removes what is of this call alone. (What was ended just now may still be writing there.)
@@ -139,21 +124,21 @@ guard() {
 
 # CRATE: how much there is of it to prove, in bytes of its sources, definitions and proofs.
 weight() {
-    find "$root/crates/$1" \( -name out -o -name must-fail \) -prune -o \
+    find "$root/crates/$1" \( -name out -o -name must-fail -o -name more-edits \) -prune -o \
         \( -name '*.rt' -o -name '*.antt' \) -exec cat {} + 2>/dev/null | wc -c
 }
 
-# Makes the copy, which is the top of a repository to the gate: the crates that it is to prove,
-# without their must-fail edits, which it would try too, and without what was built in the tree.
+# Makes the copy, which is the top of a repository to the kit: the crates that are to be proved,
+# without their must-fail edits, which the gate would try too, and without what was built in the tree.
 copy_crates() {
     mkdir "$copy" "$copy/.git" "$copy/crates" || return
     cp "$root/HANDLES" "$copy/" || return
-    for it in $(gated); do
+    for it in $(crates); do
         lines | grep "^${it}[ :]" >>"$copy/crates.txt" || return
         mkdir "$copy/crates/$it" || return
         for part in "$root/crates/$it"/*; do
             case ${part##*/} in
-                out | must-fail) ;;
+                out | must-fail | more-edits) ;;
                 *) cp -R "$part" "$copy/crates/$it/" || return ;;
             esac
         done
@@ -175,13 +160,11 @@ prove() {
     become rt ci
 }
 
-# Of how many crates how many are proved, as the gate's log tells, in what time; about how long the
-# others take, by how much there was of those that weren't kept from earlier; and which are being
-# proved: those whose library is begun, or in the end the crate above all.
+# Of how many crates how many are proved, as the gate's log tells, in what time; and about how long
+# the others take, by how much there was of those that weren't kept from earlier.
 progress() {
-    awk -v top="$crate" -v since="$(since)" -v passed="$(passed)" \
-        -v begun=" $(cd "$copy/crates" 2>/dev/null && echo ./*/out/rlib) " '
-        FNR == NR { name[++of] = $1; much[$1] = $2; left += $2; next }
+    awk -v since="$(since)" -v passed="$(passed)" '
+        FNR == NR { of++; much[$1] = $2; left += $2; next }
         $1 != "rt:" || !($2 in much) || ($2 in told) { next }
         $3 == "proved" && NF == 3 { did += much[$2]; proved++; told[$2] }
         $3 == "is" && $4 == "kept:" { proved++; told[$2] }
@@ -192,14 +175,6 @@ progress() {
             if (failed) printf ", %d failed", failed
             still = did ? int(left * passed / did / 60) + 1 : 0
             if (still && passed >= 60) printf ", about %d minutes still", still
-            now = "; now"
-            for (at = 1; at <= of; at++) {
-                it = name[at]
-                if (it in told) continue
-                if (!index(begun, " ./" it "/") && (it != top || proved + failed < of - 1)) continue
-                printf "%s %s", now, it
-                now = ""
-            }
         }' "$scratch/weights" "$log"
 }
 
@@ -212,7 +187,10 @@ failed() {
                 $0 = substr($0, 1, at - 1) root substr($0, at + length(copy))
             print
         }' "$log" >"$scratch/log" && cat "$scratch/log" >"$log"
-    name=$(awk '$1 == "rt:" && $3 " " $4 == "NOT PROVED" { print $2; exit }' "$log")
+    name=$(awk '
+        $1 " " $2 " " $3 == "rt: chose --jobs" { name = $NF }
+        $1 == "rt:" && $3 " " $4 == "NOT PROVED" { name = $2; exit }
+        END { print name }' "$log")
     awk -v ending="rt: $name NOT PROVED" '
         /^== / { reasons = 0; lines = 0; next }
         $0 == ending { exit }
@@ -244,17 +222,13 @@ build() {
     else
         say "proving and building first, which takes $takes; progress is in $log"
     fi
-    kit=$(dirname -- "$(rt doc)")
-    store=$(dirname -- "$kit")/rattle-kept
     true >"$log"
     scratch=$(mktemp -d "${TMPDIR:-/tmp}/heapguard.XXXXXX" 2>>"$log") \
         || stop 126 "cannot write in ${TMPDIR:-/tmp}"
     copy=$scratch/copy
-    for it in $(steps); do echo "$it $(weight "$it")"; done >"$scratch/weights"
-    if [ -n "$(gated)" ]; then
-        copy_crates 2>>"$log" || stop 126 "cannot copy the crates to $copy; $log says why"
-        watch progress prove || failed
-    fi
+    for it in $(crates); do echo "$it $(weight "$it")"; done >"$scratch/weights"
+    copy_crates 2>>"$log" || stop 126 "cannot copy the crates to $copy; $log says why"
+    watch progress prove || failed
     finish
     mv "$record.$$" "$record"
     clean
