@@ -19,7 +19,7 @@ bring() {
     lines_below "$crates/../crates.txt" "$@" > "$work/crates.txt"
     sed 's/[ :].*//' "$work/crates.txt" | while read -r crate; do
         mkdir -p "$work/crates/$crate"
-        tar -C "$crates/$crate" --exclude=./out --exclude=./must-fail -cf - . \
+        tar -C "$crates/$crate" --exclude=./out --exclude=./must-fail --exclude=./more-edits -cf - . \
             | tar -C "$work/crates/$crate" -xf -
     done
     cp "$crates/../HANDLES" "$work/HANDLES"

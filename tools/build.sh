@@ -2,10 +2,10 @@
 # `crate` (what it builds) and `program` (the file that comes of it), and have `finish`, which puts
 # that file in its place. Here: whether it is built from the sources and the kit as they stand, and
 # proving it in a copy of the crates that it stands on: by the kit's gate, `rt ci`, unless the script
-# has a `prove` and a `progress` of its own. The gate proves crates side by side, and the kit keeps
-# each on this machine as soon as it is proved.
+# has a `prove` and a `progress` of its own. The gate proves crates side by side, and keeps each on
+# this machine as soon as it is proved.
 # shellcheck shell=sh disable=SC2154
-# shellcheck disable=SC2034 # for bin/build-lib
+# shellcheck disable=SC2034 # for tools/unproved.sh
 folder=$root/crates/$crate
 made=$(dirname -- "$program")
 record=$made/made_from # what the program was made from; its time is that before the build
@@ -187,12 +187,14 @@ failed() {
                 $0 = substr($0, 1, at - 1) root substr($0, at + length(copy))
             print
         }' "$log" >"$scratch/log" && cat "$scratch/log" >"$log"
+    # (`rt lib` begins what it says of a crate by one of the first two, and ends with the one that failed)
     name=$(awk '
         $1 " " $2 " " $3 == "rt: chose --jobs" { name = $NF }
+        $1 == "rt:" && $3 " " $4 == "begins with" { name = $2; sub(/:$/, "", name) }
         $1 == "rt:" && $3 " " $4 == "NOT PROVED" { name = $2; exit }
         END { print name }' "$log")
     awk -v ending="rt: $name NOT PROVED" '
-        /^== / { reasons = 0; lines = 0; next }
+        /^== |^rt: chose --jobs|^rt: [^ ]+: begins with/ { reasons = 0; lines = 0; next }
         $0 == ending { exit }
         /^(note: )?[^ ]+:[0-9]+:[0-9]+: |^error|^fn .*: (no proof|not proved)/ {
             if (reasons < 3 && !/which is not proved$/) reason[++reasons] = $0

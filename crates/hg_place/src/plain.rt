@@ -18,7 +18,7 @@ const FIRST: usize = 64;
 
 /// The slot words of a segment for one thread alone: a step finds the word that stands. A place's
 /// word and its record take 8 bytes, those of the first places of all pages side by side, in memory
-/// that is touched when the place, or one whose cell stands beside its own, is first given out.
+/// that is touched when the place, or one whose cell stands behind its own, is first given out.
 #[derive(Drop)]
 pub struct PlainWords {
     segment: u8,
