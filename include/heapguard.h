@@ -15,9 +15,12 @@
  *     reader's lock. A core may go to another thread. Other calls of several threads, and a
  *     question and another call, are ordered by a lock, by starting or joining a thread, or by
  *     sequentially consistent atomics.
- *  2. A core is 16 bytes of the caller, aligned to 8, and begins as HG_CORE_INIT. Only the calls
- *     write its fields. It may be moved: copied, and the old place not used again. Two copies are
- *     one core: once one was closed, the other's memory is gone. A pointer to a core isn't null.
+ *  2. A core is 16 bytes of the caller, aligned to 8, and begins as HG_CORE_INIT, which is zeros.
+ *     Left without that it compiles all the same, and is what stood there before: mostly a closed
+ *     core; but where an open one was copied from or forgotten there, its memory may be gone, and a
+ *     call follows it. Only the calls write a core's fields. It may be moved: copied, and the old
+ *     place not used again. Two copies are one core: once one was closed, the other's memory is
+ *     gone. A pointer to a core isn't null.
  *  3. Lengths are true: a pointer and a length are memory that may be read (a policy, a name,
  *     words) or written (room) during the call, and that overlaps neither the core nor each other.
  *     Words are aligned to 8, and their length counts words. During the call no other thread writes
@@ -34,15 +37,20 @@
 #include <stddef.h>
 #include <stdint.h>
 
-/* The release of this header, and as one number, as hg_version tells it of the library. HG_VERSION
- * is a status. */
+/* The release of this header, and as one number, as hg_version tells it of the library: HG_RELEASE,
+ * for #if too. HG_VERSION is a status, and no macro: #if takes it for 0, and says nothing. */
 #define HG_VERSION_MAJOR 0
 #define HG_VERSION_MINOR 1
 #define HG_VERSION_PATCH 0
 #define HG_VERSION_NUMBER (HG_VERSION_MAJOR * 65536u + HG_VERSION_MINOR * 256u + HG_VERSION_PATCH)
+#define HG_RELEASE HG_VERSION_NUMBER
 
-/* Where the reply is dropped, what it names is lost: a compiler that can says so. */
-#if defined(__GNUC__)
+/* A reply that is dropped is a refusal that nobody sees, or a block that is lost: a compiler that
+ * can says so. A refused hg_read has the value 0, as a word may. */
+#if (defined(__cplusplus) && __cplusplus >= 201703L) \
+    || (defined(__STDC_VERSION__) && __STDC_VERSION__ > 201710L)
+#define HG_MUST_USE [[nodiscard]]
+#elif defined(__GNUC__)
 #define HG_MUST_USE __attribute__((warn_unused_result))
 #else
 #define HG_MUST_USE
@@ -134,7 +142,7 @@ HG_MUST_USE hg_reply hg_open(hg_core *core, const char *policy, size_t policy_le
                              char *room, size_t room_length);
 
 /* Closes a core, and frees its memory. */
-hg_reply hg_close(hg_core *core);
+HG_MUST_USE hg_reply hg_close(hg_core *core);
 
 /* The ten events. `worker` is who serves, a number below that of hg_workers. `actor` is who asks,
  * by the number of a tenant; a number that no tenant has is a stranger's. 255 is that always, and
@@ -143,46 +151,49 @@ hg_reply hg_close(hg_core *core);
 /* At most 65536 bytes; the words of the block are 0. Above 4096 it has 8, 16, 32 or 64 KiB. */
 HG_MUST_USE hg_reply hg_alloc(hg_core *core, uint32_t worker, uint32_t actor, uint32_t arena,
                               uint64_t bytes);
-hg_reply hg_free(hg_core *core, uint32_t worker, uint32_t actor, hg_handle block);
-hg_reply hg_deliver(hg_core *core, uint32_t worker);
-hg_reply hg_take(hg_core *core, uint32_t worker, uint32_t segment);
-hg_reply hg_collect(hg_core *core, uint32_t worker);
-hg_reply hg_read(hg_core *core, uint32_t worker, uint32_t actor, hg_handle block, uint32_t index);
-hg_reply hg_write(hg_core *core, uint32_t worker, uint32_t actor, hg_handle block, uint32_t index,
-                  uint64_t value);
-hg_reply hg_look(hg_core *core, uint32_t worker, uint32_t actor, uint32_t place);
-hg_reply hg_abandon(hg_core *core, uint32_t worker, uint32_t segment);
-hg_reply hg_refill(hg_core *core, uint32_t worker, uint32_t arena);
+HG_MUST_USE hg_reply hg_free(hg_core *core, uint32_t worker, uint32_t actor, hg_handle block);
+HG_MUST_USE hg_reply hg_deliver(hg_core *core, uint32_t worker);
+HG_MUST_USE hg_reply hg_take(hg_core *core, uint32_t worker, uint32_t segment);
+HG_MUST_USE hg_reply hg_collect(hg_core *core, uint32_t worker);
+HG_MUST_USE hg_reply hg_read(hg_core *core, uint32_t worker, uint32_t actor, hg_handle block,
+                             uint32_t index);
+HG_MUST_USE hg_reply hg_write(hg_core *core, uint32_t worker, uint32_t actor, hg_handle block,
+                              uint32_t index, uint64_t value);
+HG_MUST_USE hg_reply hg_look(hg_core *core, uint32_t worker, uint32_t actor, uint32_t place);
+HG_MUST_USE hg_reply hg_abandon(hg_core *core, uint32_t worker, uint32_t segment);
+HG_MUST_USE hg_reply hg_refill(hg_core *core, uint32_t worker, uint32_t arena);
 
 /* Many words of a block, from the word of an index on: each is a Read or a Write of its own, one
  * after another, and the first that is refused ends them. HG_DONE where all were served, else what
  * the one that wasn't is answered; value: how many were. What stands in the room behind them is as
  * it was. */
-hg_reply hg_read_words(hg_core *core, uint32_t worker, uint32_t actor, hg_handle block,
-                       uint32_t first, uint64_t *room, size_t count);
-hg_reply hg_write_words(hg_core *core, uint32_t worker, uint32_t actor, hg_handle block,
-                        uint32_t first, const uint64_t *words, size_t count);
+HG_MUST_USE hg_reply hg_read_words(hg_core *core, uint32_t worker, uint32_t actor, hg_handle block,
+                                   uint32_t first, uint64_t *room, size_t count);
+HG_MUST_USE hg_reply hg_write_words(hg_core *core, uint32_t worker, uint32_t actor,
+                                    hg_handle block, uint32_t first, const uint64_t *words,
+                                    size_t count);
 
 /* All blocks of an owner that the worker holds: for each a Free by the actor, in rising order of
  * their places. One that the actor may not free is denied, and stays. HG_DONE, value: how many were
  * freed. */
-hg_reply hg_free_all(hg_core *core, uint32_t worker, uint32_t actor, uint32_t owner);
+HG_MUST_USE hg_reply hg_free_all(hg_core *core, uint32_t worker, uint32_t actor, uint32_t owner);
 
 /* Questions, which only read the core: HG_VALUE with the number, or HG_NO_NAME. */
-hg_reply hg_workers(const hg_core *core);
-hg_reply hg_segments(const hg_core *core); /* of all arenas, numbered from 0 */
-hg_reply hg_holds(const hg_core *core, uint32_t worker, uint32_t segment); /* 1 or 0 */
+HG_MUST_USE hg_reply hg_workers(const hg_core *core);
+HG_MUST_USE hg_reply hg_segments(const hg_core *core); /* of all arenas, numbered from 0 */
+HG_MUST_USE hg_reply hg_holds(const hg_core *core, uint32_t worker, uint32_t segment); /* 1 or 0 */
 /* The worker that holds the segment, or HG_NOT_HELD. */
-hg_reply hg_holder(const hg_core *core, uint32_t segment);
+HG_MUST_USE hg_reply hg_holder(const hg_core *core, uint32_t segment);
 /* What counts against the tenant's limit with the worker, in bytes: HG_VALUE; or HG_NO_WORKER, or
  * HG_NO_NAME of a number that no tenant has, with value 0. */
-hg_reply hg_charge(const hg_core *core, uint32_t worker, uint32_t tenant);
-hg_reply hg_tenant(const hg_core *core, const char *name, size_t name_length);
-hg_reply hg_arena(const hg_core *core, const char *name, size_t name_length);
+HG_MUST_USE hg_reply hg_charge(const hg_core *core, uint32_t worker, uint32_t tenant);
+HG_MUST_USE hg_reply hg_tenant(const hg_core *core, const char *name, size_t name_length);
+HG_MUST_USE hg_reply hg_arena(const hg_core *core, const char *name, size_t name_length);
 
 /* The name of a tenant: HG_VALUE with how many bytes of it stand in the room. A name has 16 bytes
  * at most, and no zero behind it. */
-hg_reply hg_tenant_name(const hg_core *core, uint32_t tenant, char *room, size_t room_length);
+HG_MUST_USE hg_reply hg_tenant_name(const hg_core *core, uint32_t tenant, char *room,
+                                    size_t room_length);
 
 #ifdef __cplusplus
 }

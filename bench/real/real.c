@@ -70,7 +70,8 @@ static void open_it(unsigned segments) {
                           "arena = [ {name = \"main\", segments = %u} ]\n", segments);
     hg_reply reply = hg_open(&core, policy, (size_t)length, line, sizeof line);
     if (reply.status != HG_DONE) stop("no core");
-    while (segments--) hg_refill(&core, 0, 0);
+    while (segments--)
+        if (hg_refill(&core, 0, 0).status != HG_REFILLED) stop("no segment");
 }
 
 #else

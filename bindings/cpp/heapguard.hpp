@@ -81,13 +81,13 @@ public:
     Core &operator=(Core &&other) noexcept
     {
         if (this != &other) {
-            hg_close(&core_);
+            (void)hg_close(&core_);
             core_ = std::exchange(other.core_, hg_core HG_CORE_INIT);
         }
         return *this;
     }
 
-    ~Core() { hg_close(&core_); }
+    ~Core() { (void)hg_close(&core_); }
 
     /// Opens a closed one by the text of a policy; with a fault, `line` is the line that tells it,
     /// as far as 1,024 bytes go.
@@ -99,56 +99,56 @@ public:
         return opened;
     }
 
-    Reply close() noexcept { return hg_close(&core_); }
+    [[nodiscard]] Reply close() noexcept { return hg_close(&core_); }
 
     [[nodiscard]] Reply alloc(Worker worker, Tenant actor, Arena arena, std::uint64_t bytes)
     {
         return hg_alloc(&core_, number(worker), number(actor), number(arena), bytes);
     }
 
-    Reply free(Worker worker, Tenant actor, Handle block)
+    [[nodiscard]] Reply free(Worker worker, Tenant actor, Handle block)
     {
         return hg_free(&core_, number(worker), number(actor), block);
     }
 
-    Reply deliver(Worker worker) { return hg_deliver(&core_, number(worker)); }
+    [[nodiscard]] Reply deliver(Worker worker) { return hg_deliver(&core_, number(worker)); }
 
-    Reply take(Worker worker, Segment segment)
+    [[nodiscard]] Reply take(Worker worker, Segment segment)
     {
         return hg_take(&core_, number(worker), number(segment));
     }
 
-    Reply collect(Worker worker) { return hg_collect(&core_, number(worker)); }
+    [[nodiscard]] Reply collect(Worker worker) { return hg_collect(&core_, number(worker)); }
 
-    Reply read(Worker worker, Tenant actor, Handle block, std::uint32_t index)
+    [[nodiscard]] Reply read(Worker worker, Tenant actor, Handle block, std::uint32_t index)
     {
         return hg_read(&core_, number(worker), number(actor), block, index);
     }
 
-    Reply write(Worker worker, Tenant actor, Handle block, std::uint32_t index,
+    [[nodiscard]] Reply write(Worker worker, Tenant actor, Handle block, std::uint32_t index,
                 std::uint64_t value)
     {
         return hg_write(&core_, number(worker), number(actor), block, index, value);
     }
 
-    Reply look(Worker worker, Tenant actor, Place place)
+    [[nodiscard]] Reply look(Worker worker, Tenant actor, Place place)
     {
         return hg_look(&core_, number(worker), number(actor), number(place));
     }
 
-    Reply abandon(Worker worker, Segment segment)
+    [[nodiscard]] Reply abandon(Worker worker, Segment segment)
     {
         return hg_abandon(&core_, number(worker), number(segment));
     }
 
-    Reply refill(Worker worker, Arena arena)
+    [[nodiscard]] Reply refill(Worker worker, Arena arena)
     {
         return hg_refill(&core_, number(worker), number(arena));
     }
 
     /// Reads that many words from the word of an index on, until one is refused; the value is how
     /// many were read.
-    Reply read_words(Worker worker, Tenant actor, Handle block, std::uint32_t first,
+    [[nodiscard]] Reply read_words(Worker worker, Tenant actor, Handle block, std::uint32_t first,
                      std::uint64_t *room, std::size_t count)
     {
         return hg_read_words(&core_, number(worker), number(actor), block, first, room, count);
@@ -156,7 +156,7 @@ public:
 
     /// Writes that many words from the word of an index on, until one is refused; the value is how
     /// many were written.
-    Reply write_words(Worker worker, Tenant actor, Handle block, std::uint32_t first,
+    [[nodiscard]] Reply write_words(Worker worker, Tenant actor, Handle block, std::uint32_t first,
                       const std::uint64_t *words, std::size_t count)
     {
         return hg_write_words(&core_, number(worker), number(actor), block, first, words, count);
@@ -164,7 +164,7 @@ public:
 
     /// Frees all blocks of the owner that the worker holds and the actor may free; the value is how
     /// many.
-    Reply free_all(Worker worker, Tenant actor, Tenant owner)
+    [[nodiscard]] Reply free_all(Worker worker, Tenant actor, Tenant owner)
     {
         return hg_free_all(&core_, number(worker), number(actor), number(owner));
     }

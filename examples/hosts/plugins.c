@@ -119,7 +119,7 @@ int main(void)
     struct plugin maps, chat, news;
     if (!load(&maps, &core, "maps") || !load(&chat, &core, "chat")) return 1;
     printf("news %s\n", load(&news, &core, "news") ? "is loaded" : "is refused: no tenant's name");
-    hg_refill(&core, WORKER, MAIN_ARENA);
+    if (hg_refill(&core, WORKER, MAIN_ARENA).status != HG_REFILLED) return 1;
 
     hg_handle tile = draw_maps(&maps);
     meddle(&chat, tile);
@@ -128,7 +128,7 @@ int main(void)
     unload(&maps);
     get(&maps, "reads it once more", tile, 1);
 
-    hg_close(&core);
+    if (hg_close(&core).status != HG_DONE) return 1;
     tell(&maps, "asks after the end", hg_alloc(&core, WORKER, maps.tenant, MAIN_ARENA, 8));
     return 0;
 }

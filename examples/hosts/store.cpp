@@ -44,16 +44,13 @@ public:
         Reply made = room(session, 8 + (value.size() + 7) / 8 * 8);
         if (made.status != HG_BLOCK) return said(made);
         Handle block = made.value;
-        core_.write(WORKER, session, block, 0, value.size());
-        for (std::size_t at = 0; at < value.size(); at += 8)
-            core_.write(WORKER, session, block, index(at), packed(value.substr(at, 8)));
+        Reply done = fill(session, block, value);
         auto old = rows_.find(key);
-        if (old != rows_.end()) {
-            Reply freed = core_.free(WORKER, session, old->second);
-            if (freed.status != HG_DONE) {
-                core_.free(WORKER, session, block);
-                return said(freed);
-            }
+        if (done.status == HG_DONE && old != rows_.end())
+            done = core_.free(WORKER, session, old->second);
+        if (done.status != HG_DONE) {
+            Reply undone = core_.free(WORKER, session, block);
+            return said(done) + (undone.status == HG_DONE ? "" : ", and a block is left");
         }
         rows_[key] = block;
         return "set " + heapguard::to_string(block);
@@ -66,8 +63,11 @@ public:
         Reply length = core_.read(WORKER, session, row->second, 0);
         if (length.status != HG_VALUE) return said(length);
         std::string value;
-        for (std::size_t at = 0; at < length.value; at += 8)
-            unpack(core_.read(WORKER, session, row->second, index(at)).value, value);
+        for (std::size_t at = 0; at < length.value; at += 8) {
+            Reply word = core_.read(WORKER, session, row->second, index(at));
+            if (word.status != HG_VALUE) return said(word);
+            unpack(word.value, value);
+        }
         value.resize(length.value);
         return "\"" + value + "\"";
     }
@@ -103,6 +103,15 @@ private:
     static void unpack(std::uint64_t word, std::string &bytes)
     {
         for (int at = 0; at < 8; at++) bytes += static_cast<char>(word >> 8 * at & 255);
+    }
+
+    /// Writes a value into a new block.
+    Reply fill(Tenant session, Handle block, std::string_view value)
+    {
+        Reply done = core_.write(WORKER, session, block, 0, value.size());
+        for (std::size_t at = 0; at < value.size() && done.status == HG_DONE; at += 8)
+            done = core_.write(WORKER, session, block, index(at), packed(value.substr(at, 8)));
+        return done;
     }
 
     /// A block; where there is no room, once more with another segment.

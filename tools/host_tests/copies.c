@@ -12,7 +12,7 @@ int main(int words, char **word)
     if (words != 2) return 2;
     if (hg_open(&core, POLICY, sizeof POLICY - 1, NULL, 0).status != HG_DONE) return 3;
     memcpy(&copy, &core, sizeof copy);
-    hg_close(&core);
+    if (hg_close(&core).status != HG_DONE) return 4;
     return strcmp(word[1], "ask") == 0 ? hg_workers(&copy).status != HG_VALUE
                                        : hg_close(&copy).status != HG_DONE;
 }

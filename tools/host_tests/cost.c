@@ -15,6 +15,8 @@ static const char POLICY[] =
 static hg_core core = HG_CORE_INIT, closed = HG_CORE_INIT;
 static volatile uint64_t sink;
 
+static void drop(hg_reply reply) { (void)reply; }
+
 static double now(void)
 {
     struct timespec time;
@@ -44,7 +46,7 @@ static double now(void)
 int main(void)
 {
     if (hg_open(&core, POLICY, sizeof POLICY - 1, NULL, 0).status != HG_DONE) return 1;
-    hg_refill(&core, 0, 0);
+    drop(hg_refill(&core, 0, 0));
     hg_handle block = hg_alloc(&core, 0, 0, 0, 24).value;
     COST("misuse: a word of no handle", hg_read(&core, 0, 0, n & 0, 0));
     COST("misuse: a closed core", hg_collect(&closed, (uint32_t)n));
@@ -65,8 +67,8 @@ int main(void)
     COST("question: the name of a tenant", hg_tenant_name(&core, n & 1, room, sizeof room));
     COST("alloc, denied to a stranger", hg_alloc(&core, 0, 77, 0, 24));
     COST("alloc and free of the block", hg_free(&core, 0, 0, hg_alloc(&core, 0, 0, 0, 24).value));
-    hg_free(&core, 0, 0, block);
-    hg_collect(&core, 0);
+    drop(hg_free(&core, 0, 0, block));
+    drop(hg_collect(&core, 0));
     static uint64_t words[512];
     block = hg_alloc(&core, 0, 0, 0, sizeof words).value;
     COST_OF("write 512 words at once", 20, hg_write_words(&core, 0, 0, block, 0, words, 512));
@@ -76,10 +78,10 @@ int main(void)
     COST("write four words at once", hg_write_words(&core, 0, 0, block, n & 7, words, 4));
     COST("read four words at once", hg_read_words(&core, 0, 0, block, n & 7, words, 4));
     COST_OF("free all, of which there are none", 2, hg_free_all(&core, 0, 0, 1));
-    hg_free(&core, 0, 0, block);
-    hg_collect(&core, 0);
+    drop(hg_free(&core, 0, 0, block));
+    drop(hg_collect(&core, 0));
     COST("alloc and free of 64 KiB",
          hg_free(&core, 0, 0, hg_alloc(&core, 0, 0, 0, 65536).value));
-    hg_close(&core);
+    drop(hg_close(&core));
     return 0;
 }

@@ -27,5 +27,9 @@ int main(void)
         so(hg_is_served(status) == (status != 0 && status < HG_TOO_LARGE), "what is served");
     so(HG_VERSION_MAJOR == 0 && HG_VERSION == 56, "HG_VERSION is a status");
     so(HG_VERSION_NUMBER / 65536 == HG_VERSION_MAJOR, "the number of the release");
+#if HG_RELEASE < HG_VERSION_MAJOR * 65536u + HG_VERSION_MINOR * 256u
+    so(0, "the release is a number for #if");
+#endif
+    so(HG_RELEASE == HG_VERSION_NUMBER, "and the same");
     return failed != 0;
 }

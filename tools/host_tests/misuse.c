@@ -121,6 +121,26 @@ static void try_closed(hg_core core)
     CHECK(asked == shut);
 }
 
+/* A core that nobody made HG_CORE_INIT is closed, whatever stood there, unless an open one's mark did. */
+static void try_unmade(void)
+{
+    hg_core open = HG_CORE_INIT, zeros;
+    memset(&zeros, 0, sizeof zeros);
+    CHECK(is_plain(hg_close(&zeros), HG_CLOSED));
+    CHECK(is_plain(hg_open(&open, POLICY, sizeof POLICY - 1, NULL, 0), HG_DONE));
+    for (unsigned byte = 0; byte < 256; byte++) {
+        hg_core core;
+        memset(&core, (int)byte, sizeof core);
+        CHECK(core.mark != open.mark);
+        CHECK(is_plain(hg_alloc(&core, 0, 0, 0, 8), HG_CLOSED));
+        CHECK(is_plain(hg_close(&core), HG_CLOSED));
+        CHECK(is_plain(hg_open(&core, POLICY, sizeof POLICY - 1, NULL, 0), HG_DONE));
+        CHECK(core.mark == open.mark);
+        CHECK(is_plain(hg_close(&core), HG_DONE));
+    }
+    CHECK(is_plain(hg_close(&open), HG_DONE));
+}
+
 static void try_opening(void)
 {
     static const char BAD[] = "version = 1\ncolour = 3\n";
@@ -356,6 +376,7 @@ int main(void)
     CHECK(hg_version() == HG_VERSION_NUMBER);
     try_closed(zeros);
     try_closed(garbage);
+    try_unmade();
     try_opening();
     try_open();
     try_large();

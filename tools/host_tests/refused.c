@@ -58,9 +58,9 @@ static long refuse_each(const char *policy, size_t length, unsigned status)
         hg_reply reply = hg_open(&core, policy, length, room, sizeof room);
         left = -1;
         int told = reply.status == status && (status == HG_DONE || reply.value > 0);
-        if (reply.status == HG_DONE) hg_close(&core);
+        int kept = reply.status == HG_DONE && hg_close(&core).status != HG_DONE;
         int quiet = reply.value == 0 && room[0] == 0;
-        int lost = live != before || hg_workers(&core).status != HG_CLOSED;
+        int lost = kept || live != before || hg_workers(&core).status != HG_CLOSED;
         int refused = quiet && (reply.status == HG_NO_MEMORY || reply.status == status);
         if (lost || !(told || refused)) {
             printf("refused: request %ld: %s, %ld lost\n", n, hg_status_text(reply.status),

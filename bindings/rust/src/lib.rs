@@ -32,6 +32,7 @@ pub use number::{Arena, Segment, Tenant, Worker};
 pub use refusal::{FaultKind, OpenError, PolicyFault, Refusal, Rule};
 
 use raw::{RawCore, RawReply};
+use std::fmt;
 
 /// Room for the line that tells a policy's fault; a longer one is cut.
 const LINE_ROOM: usize = 1024;
@@ -55,6 +56,7 @@ pub enum Freed {
 
 /// How many words were read or written, and why the next wasn't, if one wasn't.
 #[derive(Clone, Copy, Debug, PartialEq, Eq)]
+#[must_use = "it tells how many words were read or written, and why no more"]
 pub struct Progress {
     pub done: usize,
     pub refused: Option<Refusal>,
@@ -73,6 +75,16 @@ pub struct Row {
 /// `Sync`.
 pub struct Core {
     raw: RawCore,
+}
+
+/// How many workers and segments it has, and nothing of what is in them.
+impl fmt::Debug for Core {
+    fn fmt(&self, f: &mut fmt::Formatter<'_>) -> fmt::Result {
+        f.debug_struct("Core")
+            .field("workers", &self.workers())
+            .field("segments", &self.segments())
+            .finish_non_exhaustive()
+    }
 }
 
 // SAFETY: crates/hg_c proves `Send` of the type behind these fields.
@@ -374,6 +386,17 @@ mod tests {
         assert_eq!(charge(&core, 1, 0), Some(0));
         core.abandon(Worker(1), Segment(0)).unwrap();
         assert_eq!(core.holder(Segment(0)), None);
+    }
+
+    #[test]
+    fn a_core_is_told_in_debug() {
+        assert_eq!(Core::open("version = 1").unwrap_err().to_string(), "policy fault 2: missing workers");
+        let policy = "version = 1
+            workers = 2
+            tenant = []
+            arena = [ {name = \"main\", segments = 3} ]";
+        let core = Core::open(policy).unwrap();
+        assert_eq!(format!("{core:?}"), "Core { workers: 2, segments: 3, .. }");
     }
 
     #[test]
