@@ -19,6 +19,9 @@ unproved() {
     exec 3<&0
     guard
     scratch=$(mktemp -d)
+    # Only a race has threads, of which it is worth saying that nobody looks for races of theirs.
+    left_out='/^\(checked\|interpreter\): /d; /^run=ended /d'
+    [ "${1-}" = race ] || left_out="$left_out; /^races: not looked for/d"
     case ${1-}/$# in
         check/2 | show/2)
             lend policy "$2"
@@ -56,7 +59,7 @@ unproved() {
     watch compiling try "$@" || answer=$?
     case $(tail -n 1 "$scratch/said") in
         "run=ended status="*)
-            sed '/^\(checked\|interpreter\): /d; /^run=ended /d' "$scratch/said" >&2
+            sed "$left_out" "$scratch/said" >&2
             exit "$answer"
             ;;
     esac
