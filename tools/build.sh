@@ -12,6 +12,7 @@ record=$made/made_from # what the program was made from; its time is that before
 log=$made/log          # what the last build said
 job='' clock='' scratch='' copy='' began=''
 takes='25 to 30 minutes on quiet cores, and longer on busy ones'
+again='only what is new or has changed is proved'
 
 need_rt() {
     command -v rt >/dev/null 2>&1 || stop 127 "the command rt of the Rattle kit is not on the PATH"
@@ -220,7 +221,7 @@ build() {
     guard
     made_from >"$record.$$"
     if [ -f "$program" ] || [ -s "$log" ]; then
-        say "building again: only what is new or has changed is proved; progress is in $log"
+        say "building again: $again; progress is in $log"
     else
         say "proving and building first, which takes $takes; progress is in $log"
     fi
