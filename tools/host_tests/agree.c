@@ -171,10 +171,10 @@ int main(int words, char **word)
         wrong += told_wrongly(&core, WORKERS, TENANTS, SEGMENTS);
     }
     wrong += wrongly_taken;
-    wrong += hg_close(&core).status != HG_DONE;
-    if (wrong) printf("agree: %u times another holder, charge, take or end\n", wrong);
     int took = asked != opened;
     if (took) printf("agree: %lu requests for memory after the opening\n", asked - opened);
+    wrong += hg_close(&core).status != HG_DONE;
+    if (wrong) printf("agree: %u times another holder, charge, take or end\n", wrong);
     if (fclose(policy) | fclose(trace) | fclose(answers)) return 1;
 
     int missed = 0;
