@@ -23,7 +23,7 @@ int main(void)
             failed += free_block(&core, at % 2, 0, block[at]).status
                 != (at % 2 == 0 ? HG_DONE : HG_PARTED);
         failed += hg_charge(&core, 0, 0).value != UINT64_C(4096) * 16;
-        tidy(&core, 0);
+        failed += tidy(&core, 0).status != HG_PAGES;
         failed += hg_charge(&core, 0, 0).value != 0;
     }
     failed += hg_close(&core).status != HG_DONE;
