@@ -197,16 +197,17 @@ module _ (a : Inside) (s : Core) (place : Place) (view : core_of a ≡ s) (store
 
     pub told_pooled : (st : Standing) (word : ℕ)
         → pool.IsOf plain_number a.pool place.segment
-        (λ one. st ≡ standing_at (plain_records one.slots) (slot_of place))
-        → pool.IsOf plain_number a.pool place.segment
-        (λ one. word ≡ slice_index (plain_words one.slots) (slot_of place))
+        (λ one. (st ≡ standing_at (plain_records one.slots) (slot_of place))
+        × (word ≡ slice_index (plain_words one.slots) (slot_of place)))
         → IsKeptAt (parts_of s) place st word
-    told_pooled st word standing found =
+    told_pooled st word t =
         let o = pool.segment_of plain_number core.pool place.segment in
         subst (λ (x : Core). IsKeptAt (parts_of x) place st word) view
         (kept_by (parts_of core) place o st word pooled
-        (pool_tells o (λ (k : K). standing_at (plain_records k.slots) (slot_of place)) st standing)
-        (pool_tells o (λ (k : K). slice_index (plain_words k.slots) (slot_of place)) word found))
+        (pool_tells o (λ (k : K). standing_at (plain_records k.slots) (slot_of place)) st
+        (t.0, t.1, t.2.0))
+        (pool_tells o (λ (k : K). slice_index (plain_words k.slots) (slot_of place)) word
+        (t.0, t.1, t.2.1)))
 
 -- a place of a segment that the policy lacks
 pub nothing_told : (s : Core) → IsKept s → (place : Place) → length s.policy.segments ≤ place.segment

@@ -61,9 +61,9 @@ impl Stores {
     {
         if let Some(holder) = self.holder_of(place.segment) {
             let heap = &self.heaps[usize::from(holder)];
-            return (heap.standing(place), heap.word(place));
+            return heap.told(place);
         }
-        (self.pool.standing(place), self.pool.word(place))
+        self.pool.told(place)
     }
 
     /// What is known of a place.

@@ -4,10 +4,10 @@ ghost use Rattle.std.specs.Prelude.{◌≡◌, ◌≢◌, true, Some, OnOk, IfEr
 ghost use Rattle.hg_place.specs.Lives.{IsLiveWord};
 ghost use Rattle.hg_segment.specs.Parted.{plain_number};
 ghost use Rattle.hg_heap.specs.Held.{is_held, KeepsLists};
-ghost use Rattle.hg_heap.specs.Parting.{word_in, PartedIn};
+ghost use Rattle.hg_heap.specs.Parting.{record_in, word_in, PartedIn};
 
 use crate::Heap;
-use hg_place::{Place, PlainWords};
+use hg_place::{Place, PlainWords, Standing};
 
 impl Heap<PlainWords> {
     /// The word of a place of a segment that is held.
@@ -19,6 +19,18 @@ impl Heap<PlainWords> {
             unreachable!()
         };
         self.segments[found as usize].word(place)
+    }
+
+    /// The record and the word of a place of a segment that is held, by one look.
+    pub fn told(&self, place: Place) -> (Standing, u64)
+        requires { is_held plain_number self.now.segments place.segment ≡ true }
+        ensures record { record_in self.now.segments place ≡ Some result.0 }
+        ensures word { word_in self.now.segments place ≡ Some result.1 }
+    {
+        let Some(found) = self.found(place.segment) else {
+            unreachable!()
+        };
+        self.segments[found as usize].told(place)
     }
 
     /// Ends the life of the live word that is expected, for a worker that doesn't hold the segment:

@@ -134,6 +134,16 @@ impl PlainWords {
         word_in(self.cells.get(spot(place)))
     }
 
+    /// The record and the word of a place, by one look at its cell.
+    pub fn told(&self, place: Place) -> (Standing, u64)
+        requires { place.segment ≡ self.now.segment }
+        ensures record { result.0 ≡ standing_at (plain_records self.now) (slot_of place) }
+        ensures word { result.1 ≡ slice_index (plain_words self.now) (slot_of place) }
+    {
+        let cell = self.cells.get(spot(place));
+        (standing_in(cell), word_in(cell))
+    }
+
     /// Ends the life of the live word that is expected, and leaves the place open. An error has the
     /// word that stands, which is another, and nothing changes.
     pub fn part(&mut self, place: Place, expected: u64) -> Result<(), u64>

@@ -2,14 +2,14 @@
 
 ghost use Rattle.std.specs.Prelude.{◌≡◌, ◌≢◌, slice_index, OnOk, IfErr};
 ghost use Rattle.hg_place.specs.Lives.{IsLiveWord};
-ghost use Rattle.hg_place.specs.Plain.{plain_words};
-ghost use Rattle.hg_place.specs.Standings.{slot_of};
+ghost use Rattle.hg_place.specs.Plain.{plain_records, plain_words};
+ghost use Rattle.hg_place.specs.Standings.{slot_of, standing_at};
 ghost use Rattle.hg_segment.specs.Parted.{plain_number};
 ghost use Rattle.hg_pool.specs.Pooled.{IsRight, IsPooled, IsOf};
 ghost use Rattle.hg_pool.specs.Parting.{PartedIn};
 
 use crate::Pool;
-use hg_place::{Place, PlainWords};
+use hg_place::{Place, PlainWords, Standing};
 
 impl Pool<PlainWords> {
     /// The word of a place of a segment that is there.
@@ -19,6 +19,16 @@ impl Pool<PlainWords> {
             (λ one. result ≡ slice_index (plain_words one.slots) (slot_of place)) }
     {
         self.at(place.segment).word(place)
+    }
+
+    /// The record and the word of a place of a segment that is there, by one look.
+    pub fn told(&self, place: Place) -> (Standing, u64)
+        requires { IsPooled plain_number self.now place.segment }
+        ensures { IsOf plain_number self.now place.segment
+            (λ one. (result.0 ≡ standing_at (plain_records one.slots) (slot_of place))
+            × (result.1 ≡ slice_index (plain_words one.slots) (slot_of place))) }
+    {
+        self.at(place.segment).told(place)
     }
 
     /// Ends the life of the live word that is expected: the place stays open, and its owner charged,

@@ -2,12 +2,12 @@
 
 ghost use Rattle.std.specs.Prelude.{◌≡◌, slice_index, OnOk, IfErr};
 ghost use Rattle.hg_place.specs.Lives.{IsLiveWord};
-ghost use Rattle.hg_place.specs.Standings.{slot_of};
-ghost use Rattle.hg_place.specs.Plain.{plain_words};
+ghost use Rattle.hg_place.specs.Standings.{slot_of, standing_at};
+ghost use Rattle.hg_place.specs.Plain.{plain_words, plain_records};
 ghost use Rattle.hg_segment.specs.Parted.{Parted, NotParted};
 
 use crate::Segment;
-use hg_place::{Place, PlainWords};
+use hg_place::{Place, PlainWords, Standing};
 
 impl Segment<PlainWords> {
     /// The word of a place.
@@ -16,6 +16,15 @@ impl Segment<PlainWords> {
         ensures { result ≡ slice_index (plain_words self.now.slots) (slot_of place) }
     {
         self.slots.word(place)
+    }
+
+    /// The record and the word of a place, by one look.
+    pub fn told(&self, place: Place) -> (Standing, u64)
+        requires { place.segment ≡ self.now.slots.segment }
+        ensures record { result.0 ≡ standing_at (plain_records self.now.slots) (slot_of place) }
+        ensures word { result.1 ≡ slice_index (plain_words self.now.slots) (slot_of place) }
+    {
+        self.slots.told(place)
     }
 
     /// Ends the life of the live word that is expected, for a worker that doesn't hold the segment:

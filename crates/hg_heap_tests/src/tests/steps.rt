@@ -79,10 +79,13 @@ impl Tried {
         self.heap.standing(handle.place) == Standing::Home(handle.generation)
     }
 
-    /// The word of a place of a held segment.
+    /// The word of a place of a held segment. One look tells it and the record.
     fn word(&self, rt: &impl Abort, place: Place) -> u64 {
         assert!(rt; self.heap.holds(place.segment));
-        self.heap.word(place)
+        let (standing, word) = self.heap.told(place);
+        assert!(rt; self.heap.standing(place) == standing);
+        assert!(rt; self.heap.word(place) == word);
+        word
     }
 
     /// Parts a block of an owner.

@@ -34,10 +34,13 @@ fn place(page: u8, index: u16) -> Place {
     }
 }
 
-/// What is recorded of a place.
+/// What is recorded of a place. One look tells that and its word.
 fn standing(rt: &impl Abort, words: &PlainWords, place: Place) -> Standing {
     assert!(rt; place.segment == words.segment());
-    words.standing(place)
+    let (standing, word) = words.told(place);
+    assert!(rt; words.standing(place) == standing);
+    assert!(rt; words.word(place) == word);
+    standing
 }
 
 /// The generation of the life that a place that is home begins.

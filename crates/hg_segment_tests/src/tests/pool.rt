@@ -161,6 +161,7 @@ fn is_told(rt: &impl Abort, pool: &Pool<PlainWords>, place: Place) -> bool {
     let greatest = pool.greatest(segment);
     let open = pool.standing(place);
     let first = pool.standing(home);
+    assert!(rt; pool.told(place) == (open, pool.word(place)));
     arena == 3 && greatest == 16 && open == Standing::Open(1, 5) && first == Standing::Home(0)
 }
 

@@ -172,6 +172,14 @@ fn check_block(rt: &impl Abort, segment: &Segment<PlainWords>, block: &Block, wo
     }
 }
 
+/// One look tells the record and the word of a place.
+fn check_told(rt: &impl Abort, segment: &Segment<PlainWords>, place: Place) {
+    assert!(rt; place.segment == segment.number());
+    let (standing, word) = segment.told(place);
+    assert!(rt; segment.standing(place.page, place.index) == standing);
+    assert!(rt; segment.word(place) == word);
+}
+
 /// A word of a block that is out.
 fn read(rt: &impl Abort, segment: &Segment<PlainWords>, place: Place, at: u16) -> u64 {
     assert!(rt;
@@ -180,6 +188,7 @@ fn read(rt: &impl Abort, segment: &Segment<PlainWords>, place: Place, at: u16) -
             Standing::Open(_, _)
         )
     );
+    check_told(rt, segment, place);
     let class = segment.class_of(place.page).expect(rt, "a class");
     assert!(rt; at < block_words(class));
     let mut words = [0; 1];
