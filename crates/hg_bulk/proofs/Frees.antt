@@ -1,5 +1,6 @@
 -- Frees of an owner's blocks, place by place.
-use Rattle.std.proofs.Common.{◌≡◌, ℕ, ◌+◌, ◌-◌, ◌<◌, ◌≤◌, true, false, List, [], ◌∷◌, ◌++◌, map, refl, sym, ap, subst, ◌∙◌, cond, append-nil, arith}
+use Rattle.std.proofs.Common.{◌≡◌, ℕ, ◌+◌, ◌-◌, ◌<◌, ◌≤◌, true, false, List, [], ◌∷◌, ◌++◌, map}
+use Rattle.std.proofs.Common.{refl, sym, ap, subst, ◌∙◌, cond, append-nil, arith}
 use Rattle.std.specs.List.{range_with_len, count_by}
 use Rattle.std.proofs.lemmas.List.{map-append}
 use Rattle.std.proofs.lemmas.List.Sums.{sum_by-append}
@@ -26,7 +27,8 @@ use Rattle.hg_choice.proofs.ChoiceLemmas.{same_kept}
 use Rattle.hg_bulk.specs.Freeing.{FreesAmong, frees, is_freed}
 use Rattle.hg_bulk.specs.Later.{IsSameFrom}
 use Rattle.hg_bulk.specs.OwnBlocks.{own_lines, life_of, life_of_line, IsOwnBlock}
-use Rattle.hg_bulk.proofs.OwnBlockLemmas.{is_row, no_lines, own_lines-append, own_lines_range, range_then}
+use Rattle.hg_bulk.proofs.OwnBlockLemmas.{is_row, no_lines, own_lines-append, own_lines_range}
+use Rattle.hg_bulk.proofs.OwnBlockLemmas.{range_then}
 
 -- a Look leaves all that is kept
 pub look_leaves : (k new : Kept) (worker : ℕ) (actor : Actor) (place : Place) (a : Answer) → ChosenStep k worker (event.Look actor place) a new → new ≡ k
@@ -76,16 +78,20 @@ chosen_then (e ∷ es) more [] rest old mid new run then = absurd run
 chosen_then (e ∷ es) more (a ∷ answers) rest old mid new run then = (run.0, run.1, chosen_then es more answers rest run.0 mid new run.2 then)
 
 -- those of the places before, and then those of the next
-pub frees_more : (old mid new : Kept) (worker : ℕ) (actor : Actor) (owner a n k at next m count : ℕ) → at ≡ a + n → next ≡ n + k
+pub frees_more : (old mid new : Kept) (worker : ℕ) (actor : Actor) (owner a n k at next m count : ℕ)
+    → at ≡ a + n → next ≡ n + k
     → IsSameFrom old.state mid.state at
-    → FreesAmong old worker actor owner (range_with_len a n) m mid → FreesAmong mid worker actor owner (range_with_len at k) count new
+    → FreesAmong old worker actor owner (range_with_len a n) m mid → FreesAmong mid worker actor
+    owner (range_with_len at k) count new
     → FreesAmong old worker actor owner (range_with_len a next) (m + count) new
 frees_more old mid new worker actor owner a n k at next m count here then later one two = record {
   handles = one.handles ++ two.handles;
   named =
       map-append life_of one.handles two.handles
       ∙ ap (λ l. l ++ map life_of two.handles) one.named
-      ∙ ap (λ l. map life_of_line (lines (range_with_len a n)) ++ l) (two.named ∙ ap (map life_of_line) (own_lines_range old.state mid.state worker owner at k later))
+      ∙ ap (λ l. map life_of_line (lines (range_with_len a n)) ++ l)
+      (two.named ∙ ap (map life_of_line) (own_lines_range old.state mid.state worker owner at k
+      later))
       ∙ sym (map-append life_of_line (lines (range_with_len a n)) (lines (range_with_len at k)))
       ∙ ap (map life_of_line)
       (sym (own_lines-append old.state worker owner (range_with_len a n) (range_with_len at k))
@@ -102,8 +108,10 @@ frees_more old mid new worker actor owner a n k at next m count here then later 
 
 -- those of the first places of a range are all, where no other is listed
 pub frees_past : (old new : Kept) (worker : ℕ) (actor : Actor) (owner a n all m : ℕ) → n ≤ all
-    → ((place : ℕ) → a + n ≤ place → place < a + all → is_listed old.state worker owner place ≡ false)
-    → FreesAmong old worker actor owner (range_with_len a n) m new → FreesAmong old worker actor owner (range_with_len a all) m new
+    → ((place : ℕ) → a + n ≤ place → place < a + all → is_listed old.state worker owner place
+    ≡ false)
+    → FreesAmong old worker actor owner (range_with_len a n) m new → FreesAmong old worker actor
+    owner (range_with_len a all) m new
 frees_past old new worker actor owner a n all m low none freed =
     let s = old.state in
     let rest = all - n in
@@ -115,9 +123,11 @@ frees_past old new worker actor owner a n all m low none freed =
           freed.named
           ∙ ap (map life_of_line)
           (sym (append-nil first)
-          ∙ ap (λ l. first ++ l) (sym (no_lines s worker owner (a + n) rest (λ place from below. none place from (omega arith))))
+          ∙ ap (λ l. first ++ l) (sym (no_lines s worker owner (a + n) rest
+          (λ place from below. none place from (omega arith))))
           ∙ sym (own_lines-append s worker owner (range_with_len a n) (range_with_len (a + n) rest))
-          ∙ ap (own_lines s worker owner) (sym (range_then a n rest) ∙ ap (range_with_len a) split));
+          ∙ ap (own_lines s worker owner) (sym (range_then a n rest) ∙ ap (range_with_len a)
+          split));
       answers = freed.answers;
       run = freed.run;
       counted = freed.counted;

@@ -59,7 +59,8 @@ same_then one two low = record {
 }
 
 -- further on too
-pub same_past : {s t : State} {first next : ℕ} → IsSameFrom s t first → first ≤ next → IsSameFrom s t next
+pub same_past : {s t : State} {first next : ℕ} → IsSameFrom s t first → first ≤ next → IsSameFrom s
+    t next
 same_past same low = record {
   policy = same.policy;
   holders = same.holders;

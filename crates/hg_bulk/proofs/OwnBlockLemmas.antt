@@ -1,5 +1,7 @@
 -- What a Look by an owner tells of its own blocks.
-use Rattle.std.proofs.Common.{◌≡◌, ℕ, ◌+◌, ◌*◌, ◌<◌, ◌≤◌, ◌==◌, zero, suc, inl, inr, Bool, true, false, cond, not, List, [], ◌∷◌, ◌++◌, Option, Some, None, map, filter, is_none, max, refl, sym, ap, ◌∙◌, arith}
+use Rattle.std.proofs.Common.{◌≡◌, ℕ, ◌+◌, ◌*◌, ◌<◌, ◌≤◌, ◌==◌, zero, suc, inl, inr, Bool, true}
+use Rattle.std.proofs.Common.{false, cond, not, List, [], ◌∷◌, ◌++◌, Option, Some, None, map}
+use Rattle.std.proofs.Common.{filter, is_none, max, refl, sym, ap, ◌∙◌, arith}
 use Rattle.std.specs.List.{range_with_len}
 use Rattle.std.proofs.lemmas.Bool.{true≢false, and_left, and_right}
 use Rattle.std.proofs.lemmas.Option.{none-some}
@@ -118,11 +120,14 @@ own_lines_range s t worker owner a (suc n) same =
     let rest = range_with_len (a + 1) n in
     own_lines-append t worker owner (a ∷ []) rest
     ∙ ap (λ l. l ++ own_lines t worker owner rest) (own_lines_same s t worker owner a same)
-    ∙ ap (λ l. own_lines s worker owner (a ∷ []) ++ l) (own_lines_range s t worker owner (a + 1) n (same_past same (omega arith)))
+    ∙ ap (λ l. own_lines s worker owner (a ∷ []) ++ l)
+    (own_lines_range s t worker owner (a + 1) n (same_past same (omega arith)))
     ∙ sym (own_lines-append s worker owner (a ∷ []) rest)
 
-pub range_then : (a m n : ℕ) → range_with_len a (m + n) ≡ range_with_len a m ++ range_with_len (a + m) n
-range_then a zero n = let d : 0 + n ≡ n = omega arith in let e : a + 0 ≡ a = omega arith in rw (d, e) refl
+pub range_then : (a m n : ℕ) → range_with_len a (m + n) ≡ range_with_len a m ++ range_with_len
+    (a + m) n
+range_then a zero n = let d : 0 + n ≡ n = omega arith in let e : a + 0 ≡ a = omega arith in rw
+    (d, e) refl
 range_then a (suc m) n =
     let d : suc m + n ≡ suc (m + n) = omega arith in
     let e : a + suc m ≡ (a + 1) + m = omega arith in
@@ -132,29 +137,37 @@ some_is : (o : Option Rule) → (o ≡ None → ⊥) → is_none o ≡ false
 some_is None denied = absurd (denied refl)
 some_is (Some rule) denied = refl
 
-filter_passed : (p : ℕ → Bool) (a n : ℕ) → ((k : ℕ) → a ≤ k → k < a + n → p k ≡ false) → filter p (range_with_len a n) ≡ []
+filter_passed : (p : ℕ → Bool) (a n : ℕ) → ((k : ℕ) → a ≤ k → k < a + n → p k ≡ false) → filter p
+    (range_with_len a n) ≡ []
 filter_passed p a zero none = refl
 filter_passed p a (suc n) none =
-    rw (none a (omega arith) (omega arith)) (filter_passed p (a + 1) n (λ k from below. none k (omega arith) (omega arith)))
+    rw (none a (omega arith) (omega arith)) (filter_passed p (a + 1) n
+    (λ k from below. none k (omega arith) (omega arith)))
 
 module _ (s : State) (worker owner : ℕ) where
   -- places that aren't listed have no lines
-  pub no_lines : (a n : ℕ) → ((k : ℕ) → a ≤ k → k < a + n → is_listed s worker owner k ≡ false) → own_lines s worker owner (range_with_len a n) ≡ []
+  pub no_lines : (a n : ℕ) → ((k : ℕ) → a ≤ k → k < a + n → is_listed s worker owner k ≡ false)
+      → own_lines s worker owner (range_with_len a n) ≡ []
   no_lines a n none =
-      ap (λ places. filter (λ line. line.owner == owner) (map (line_at s) places)) (filter_passed (is_listed s worker owner) a n none)
+      ap (λ places. filter (λ line. line.owner == owner) (map (line_at s) places))
+      (filter_passed (is_listed s worker owner) a n none)
 
   -- one that is home isn't listed, nor is one that the worker doesn't hold
-  pub home_unlisted : (place : ℕ) → (record_at s place).life ≡ home → is_listed s worker owner place ≡ false
+  pub home_unlisted : (place : ℕ) → (record_at s place).life ≡ home → is_listed s worker owner place
+      ≡ false
   home_unlisted place is =
       let r = record_at s place in
-      let denied = denial_on s.policy owner right.List (segment_of place) r.generation (slot_at s place) in
+      let denied = denial_on s.policy owner right.List (segment_of place) r.generation
+      (slot_at s place) in
       and_right (holds s worker (segment_of place)) (is_none denied)
       (some_is denied
       (λ none.
-      let p = parts s.policy owner right.List (segment_of place) r.generation (slot_at s place) none in
+      let p = parts s.policy owner right.List (segment_of place) r.generation (slot_at s place)
+      none in
       true≢false (sym p.2 ∙ ap is_live is)))
 
-  pub away_unlisted : (segment : ℕ) → holds s worker segment ≡ false → own_lines s worker owner (range_with_len (segment * 8192) 8192) ≡ []
+  pub away_unlisted : (segment : ℕ) → holds s worker segment ≡ false → own_lines s worker owner
+      (range_with_len (segment * 8192) 8192) ≡ []
   away_unlisted segment away =
       no_lines (segment * 8192) 8192
       (λ k from below.

@@ -1,5 +1,7 @@
 -- Looks at places, one after another.
-use Rattle.std.proofs.Common.{◌≡◌, ℕ, ◌+◌, ◌*◌, ◌-◌, ◌<◌, ◌≤◌, zero, suc, Bool, true, false, not, max, Option, Some, None, List, [], ◌∷◌, ◌++◌, length, filter, refl, sym, ap, subst, ◌∙◌, arith, append-nil, length-append}
+use Rattle.std.proofs.Common.{◌≡◌, ℕ, ◌+◌, ◌*◌, ◌-◌, ◌<◌, ◌≤◌, zero, suc, Bool, true, false, not}
+use Rattle.std.proofs.Common.{max, Option, Some, None, List, [], ◌∷◌, ◌++◌, length, filter, refl}
+use Rattle.std.proofs.Common.{sym, ap, subst, ◌∙◌, arith, append-nil, length-append}
 use Rattle.std.specs.List.{range_with_len}
 use Rattle.std.proofs.lemmas.Bool.{true≢false}
 use Rattle.std.proofs.lemmas.List.{map-append}
@@ -117,14 +119,18 @@ range_then a (suc m) n =
     rw (d, e) (ap (λ l. a ∷ l) (range_then (a + 1) m n))
 
 -- more places of a range are looked at
-pub looked_more : (k : Kept) (worker : ℕ) (actor : Actor) (first n many at next m rows : ℕ) (a b c : Seen) (x y z : Output)
+pub looked_more : (k : Kept) (worker : ℕ) (actor : Actor) (first n many at next m rows : ℕ)
+    (a b c : Seen) (x y z : Output)
     → at ≡ first + n → next ≡ n + many
-    → Looked k worker actor (range_with_len first n) m a x b y → Looked k worker actor (range_with_len at many) rows b y c z
+    → Looked k worker actor (range_with_len first n) m a x b y → Looked k worker actor
+    (range_with_len at many) rows b y c z
     → Looked k worker actor (range_with_len first next) (m + rows) a x c z
 looked_more k worker actor first n many at next m rows a b c x y z here then one two =
     subst (λ places. Looked k worker actor places (m + rows) a x c z)
-    (ap (λ p. range_with_len first n ++ range_with_len p many) here ∙ sym (range_then first n many) ∙ ap (range_with_len first) (sym then))
-    (looked_then k worker actor (range_with_len first n) (range_with_len at many) m rows a b c x y z one two)
+    (ap (λ p. range_with_len first n ++ range_with_len p many) here ∙ sym (range_then first n many)
+    ∙ ap (range_with_len first) (sym then))
+    (looked_then k worker actor (range_with_len first n) (range_with_len at many) m rows a b c x y z
+    one two)
 
 -- a place that is home has no block, so a Look at it is denied
 rule_of : (o : Option Rule) → (o ≡ None → ⊥) → (rule : Rule) × (o ≡ Some rule)
@@ -132,46 +138,58 @@ rule_of None denied = absurd (denied refl)
 rule_of (Some rule) denied = (rule, refl)
 
 module _ (k : Kept) (worker : ℕ) (actor : Actor) (a : Seen) (x : Output) where
-  looked_home : (n : ℕ) → n < 64 * 8192 → (record_at k.state n).life ≡ home → Looked k worker actor (n ∷ []) 0 a x a x
+  looked_home : (n : ℕ) → n < 64 * 8192 → (record_at k.state n).life ≡ home → Looked k worker actor
+      (n ∷ []) 0 a x a x
   looked_home n below is =
       let place = place_at n in
       let r = record_at k.state (number_of place) in
       let same : number_of place ≡ n = omega (arith, below) in
-      let dead : is_live r.life ≡ false = ap (λ p. is_live (record_at k.state p).life) same ∙ ap is_live is in
+      let dead : is_live r.life ≡ false = ap (λ p. is_live (record_at k.state p).life) same ∙ ap
+      is_live is in
       let expected = max 1 r.generation in
       let rule = rule_of (denial k.state actor.0 right.List place expected)
-      (λ none. true≢false (sym (allowed k.state actor.0 right.List place expected none).alive ∙ dead)) in
+      (λ none. true≢false (sym (allowed k.state actor.0 right.List place expected none).alive
+      ∙ dead)) in
       let event = event.Look actor place in
       let refused = answer.Denied rule.0 in
       let why : refusal k.state worker event ≡ Some refused =
-      ap (λ d. denial_or d ((not (holds k.state worker place.segment), answer.Elsewhere) ∷ [])) rule.1 in
+      ap (λ d. denial_or d ((not (holds k.state worker place.segment), answer.Elsewhere) ∷ []))
+      rule.1 in
       looked_past k worker actor n refused
       (record {
-        step = of_some (refusal k.state worker event) _ (λ r. (refused ≡ r) × (k.state ≡ k.state)) refused why (refl, refl);
+        step = of_some (refusal k.state worker event) _ (λ r. (refused ≡ r) × (k.state ≡ k.state))
+            refused why (refl, refl);
         chosen = tt;
         lists = refl;
         queues = refl;
       })
       a x refl
 
-  looked_homes : (first n : ℕ) → first + n ≤ 64 * 8192 → ((p : ℕ) → first ≤ p → p < first + n → (record_at k.state p).life ≡ home)
+  looked_homes : (first n : ℕ) → first + n ≤ 64 * 8192
+      → ((p : ℕ) → first ≤ p → p < first + n → (record_at k.state p).life ≡ home)
       → Looked k worker actor (range_with_len first n) 0 a x a x
   looked_homes first zero below all = looked_none k worker actor a x
   looked_homes first (suc n) below all =
       looked_then k worker actor (first ∷ []) (range_with_len (first + 1) n) 0 0 a a a x x x
       (looked_home first (omega (arith, below)) (all first (omega arith) (omega arith)))
-      (looked_homes (first + 1) n (omega (arith, below)) (λ p from less. all p (omega (arith, from)) (omega (arith, less))))
+      (looked_homes (first + 1) n (omega (arith, below))
+      (λ p from less. all p (omega (arith, from)) (omega (arith, less))))
 
 -- the first places of a range are looked at, and the others are home
-pub looked_past_home : (k : Kept) (worker : ℕ) (actor : Actor) (first n all rows : ℕ) (a b : Seen) (x y : Output) → n ≤ all
-    → first + all ≤ 64 * 8192 → ((p : ℕ) → first + n ≤ p → p < first + all → (record_at k.state p).life ≡ home)
-    → Looked k worker actor (range_with_len first n) rows a x b y → Looked k worker actor (range_with_len first all) rows a x b y
+pub looked_past_home : (k : Kept) (worker : ℕ) (actor : Actor) (first n all rows : ℕ) (a b : Seen)
+    (x y : Output) → n ≤ all
+    → first + all ≤ 64 * 8192 → ((p : ℕ) → first + n ≤ p → p < first + all
+    → (record_at k.state p).life ≡ home)
+    → Looked k worker actor (range_with_len first n) rows a x b y → Looked k worker actor
+    (range_with_len first all) rows a x b y
 looked_past_home k worker actor first n all rows a b x y low below others looked =
     let rest = all - n in
     let none : rows + 0 ≡ rows = omega arith in
     subst (λ m. Looked k worker actor (range_with_len first all) m a x b y) none
-    (looked_more k worker actor first n rest (first + n) all rows 0 a b b x y y refl (omega (arith, low)) looked
-    (looked_homes k worker actor b y (first + n) rest (omega (arith, low, below)) (λ p from less. others p from (omega (arith, less, low)))))
+    (looked_more k worker actor first n rest (first + n) all rows 0 a b b x y y refl
+    (omega (arith, low)) looked
+    (looked_homes k worker actor b y (first + n) rest (omega (arith, low, below))
+    (λ p from less. others p from (omega (arith, less, low)))))
 
 -- a range that a test takes whole, or not at all
 pub filter_taken : (p : ℕ → Bool) (a n : ℕ) → ((k : ℕ) → a ≤ k → k < a + n → p k ≡ true) → filter p (range_with_len a n) ≡ range_with_len a n

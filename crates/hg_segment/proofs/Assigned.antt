@@ -55,7 +55,8 @@ begins_inside g rs ws pages classes cs page size p h below may is =
 module _ (g : ℕ) (rs : List Standing) (ws new : List ℕ) (pages : List Page) (classes : List (Option ℕ)) (cs : List ℕ) (page size : ℕ) (worn : List Bool) (p q : Page)
     (h : IsRight g rs ws pages classes cs) (below : page < 16) (may : may_begin (class_at classes) size page ≡ true) (is : p ≡ slice_index_or pages page p)
     (sized : Contains sizes size)
-    (marked : (i : ℕ) → i < places_of size → slice_index_or worn i false ≡ is_worn g (standing_at rs (page * 512 + i)))
+    (marked : (i : ℕ) → i < places_of size → slice_index_or worn i false ≡ is_worn g
+    (standing_at rs (page * 512 + i)))
     (linked : IsLinked q new) (shown : lists_of q new ≡ fresh (unworn worn 0 (places_of size)))
     (others : KeepsOthers (shape_of q) (listed (lists_of q new)) ws new)
     (shape : shape_of q ≡ record (shape_of p) { size = size; places = places_of size }) where
@@ -74,8 +75,10 @@ module _ (g : ℕ) (rs : List Standing) (ws new : List ℕ) (pages : List Page) 
   small : (i : ℕ) → i < places_of size → i < 512
   small i lt = omega (arith, lt, places_small size)
 
-  vacancy : (i : ℕ) → i < places_of size → not (slice_index_or worn i false) ≡ is_vacant g (standing_at rs (page * 512 + i))
-  vacancy i lt = ap not (marked i lt) ∙ worn_vacant g (standing_at rs (page * 512 + i)) (home i (small i lt))
+  vacancy : (i : ℕ) → i < places_of size → not (slice_index_or worn i false) ≡ is_vacant g
+      (standing_at rs (page * 512 + i))
+  vacancy i lt = ap not (marked i lt) ∙ worn_vacant g (standing_at rs (page * 512 + i))
+      (home i (small i lt))
 
   not_worn : (b : Bool) → not b ≡ true → b ≡ false
   not_worn true e = sym e
@@ -133,7 +136,9 @@ module _ (g : ℕ) (rs : List Standing) (ws new : List ℕ) (pages : List Page) 
   pub lists : map (λ x. lists_of x new) (slice_set pages page q) ≡ slice_set (map (λ x. lists_of x ws) pages) page (fresh (vacant_in g rs page (places_of size)))
   lists = lists_set ws new pages page p q (others_shown g rs ws new pages classes cs page p h linked.whole pages_kept)
       ∙ ap (slice_set (map (λ x. lists_of x ws) pages) page) (shown
-      ∙ ap fresh (freed_is (λ i. not (slice_index_or worn i false)) (λ i. is_vacant g (standing_at rs (page * 512 + i))) 0 (places_of size) (λ i lt. vacancy i (omega (arith, lt)))))
+      ∙ ap fresh (freed_is (λ i. not (slice_index_or worn i false))
+      (λ i. is_vacant g (standing_at rs (page * 512 + i))) 0 (places_of size)
+      (λ i lt. vacancy i (omega (arith, lt)))))
 
   pub blocks : KeepsBlocks rs classes ws new
   blocks other i low lt away = blocks_kept g rs rs ws new pages classes page (pages_of size) p beside linked.whole h.each out_of other i low lt away

@@ -18,9 +18,12 @@ loop-segment-preserved c =
     let l = c.loop-segment in
     let here = c.free_segment-freed in record {
       freed =
-          frees_more c.args.core.now l.core here.new.core c.args.worker c.args.actor c.args.owner 0 (l.segment * 8192) 8192 (l.segment * 8192)
-          ((l.segment + 1) * 8192) l.freed here.result (omega arith) (omega arith) l.invariant.later l.invariant.freed here.ensures.freed;
-      later = same_past (same_then l.invariant.later here.ensures.later (omega arith)) (omega arith);
+          frees_more c.args.core.now l.core here.new.core c.args.worker c.args.actor c.args.owner 0
+          (l.segment * 8192) 8192 (l.segment * 8192)
+          ((l.segment + 1) * 8192) l.freed here.result (omega arith) (omega arith) l.invariant.later
+          l.invariant.freed here.ensures.freed;
+      later = same_past (same_then l.invariant.later here.ensures.later (omega arith))
+          (omega arith);
       few = (let a = l.invariant.few in let b = here.ensures.few in omega arith);
       kept = here.ensures.kept;
     }
@@ -32,5 +35,7 @@ returns-clause-freed c =
     let count : c.segments-segment-end.result ≡ length s.policy.segments =
     c.segments-segment-end.ensures.segments ∙ ap (λ p. length p.segments) c.policy.ensures.value in
     let end : l.segment * 8192 ≡ length s.records =
-    (let a : l.segment ≡ c.segments-segment-end.result = omega arith in ap (λ n. n * 8192) (a ∙ count)) ∙ sym c.policy.ensures.kept.0.whole.records in
-    subst (λ n. FreesAmong c.args.core.now c.args.worker c.args.actor c.args.owner (range_with_len 0 n) l.freed l.core) end l.invariant.freed
+    (let a : l.segment ≡ c.segments-segment-end.result = omega arith in ap (λ n. n * 8192)
+    (a ∙ count)) ∙ sym c.policy.ensures.kept.0.whole.records in
+    subst (λ n. FreesAmong c.args.core.now c.args.worker c.args.actor c.args.owner
+    (range_with_len 0 n) l.freed l.core) end l.invariant.freed

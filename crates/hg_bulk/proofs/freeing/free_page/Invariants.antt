@@ -12,7 +12,8 @@ abbrev pub invariant-loop-index : goal.invariant-loop-index
 invariant-loop-index l =
     let first = first_place l.fn.segment l.fn.page in
     record {
-      freed : FreesAmong l.fn.core l.fn.worker l.fn.actor l.fn.owner (range_with_len first l.index) l.freed l.core;
+      freed : FreesAmong l.fn.core l.fn.worker l.fn.actor l.fn.owner (range_with_len first l.index)
+          l.freed l.core;
       later : IsSameFrom l.fn.core.state l.core.state (first + l.index);
       few : l.freed ≤ l.index;
       kept : IsSound l.core.state × IsPartition l.core;

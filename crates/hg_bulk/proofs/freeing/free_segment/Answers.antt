@@ -9,15 +9,18 @@ use Rattle.hg_bulk.proofs.freeing.free_segment.Goals as goal
 pub returns-then-not-holds : goal.returns-then-not-holds
 returns-then-not-holds c = record {
   freed =
-      frees_none c.args.core.now c.args.worker c.args.actor c.args.owner (range_with_len (c.args.segment * 8192) 8192)
-      (away_unlisted c.args.core.now.state c.args.worker c.args.owner c.args.segment (sym c.holds.ensures ∙ c.if-not-holds.true));
+      frees_none c.args.core.now c.args.worker c.args.actor c.args.owner
+      (range_with_len (c.args.segment * 8192) 8192)
+      (away_unlisted c.args.core.now.state c.args.worker c.args.owner c.args.segment
+      (sym c.holds.ensures ∙ c.if-not-holds.true));
   later = same_all c.args.core.now.state _;
   few = omega arith;
   kept = c.policy-policy.ensures.kept;
 }
 
 pub free_page-freed-requires-clause-held : goal.free_page-freed-requires-clause-held
-free_page-freed-requires-clause-held c = rw c.loop-page.invariant.later.holders (sym c.holds.ensures ∙ c.if-not-holds.false)
+free_page-freed-requires-clause-held c = rw c.loop-page.invariant.later.holders
+    (sym c.holds.ensures ∙ c.if-not-holds.false)
 
 pub loop-page-init : goal.loop-page-init
 loop-page-init c = record {
@@ -33,10 +36,13 @@ loop-page-preserved c =
     let first = c.args.segment * 8192 in
     let here = c.free_page-freed in record {
       freed =
-          frees_more c.args.core.now l.core here.new.core c.args.worker c.args.actor c.args.owner first (l.page * 512) 512
-          ((c.args.segment * 16 + l.page) * 512) ((l.page + 1) * 512) l.freed here.result (omega arith) (omega arith)
+          frees_more c.args.core.now l.core here.new.core c.args.worker c.args.actor c.args.owner
+          first (l.page * 512) 512
+          ((c.args.segment * 16 + l.page) * 512) ((l.page + 1) * 512) l.freed here.result
+          (omega arith) (omega arith)
           (same_past l.invariant.later (omega arith)) l.invariant.freed here.ensures.freed;
-      later = same_past (same_then l.invariant.later here.ensures.later (omega arith)) (omega arith);
+      later = same_past (same_then l.invariant.later here.ensures.later (omega arith))
+          (omega arith);
       few = (let a = l.invariant.few in let b = here.ensures.few in omega arith);
       kept = here.ensures.kept;
     }
@@ -45,7 +51,8 @@ pub returns-clause-freed : goal.returns-clause-freed
 returns-clause-freed c =
     let l = c.loop-page in
     let end : l.page * 512 ≡ 8192 = omega arith in
-    subst (λ n. FreesAmong c.args.core.now c.args.worker c.args.actor c.args.owner (range_with_len (c.args.segment * 8192) n) l.freed l.core) end l.invariant.freed
+    subst (λ n. FreesAmong c.args.core.now c.args.worker c.args.actor c.args.owner
+    (range_with_len (c.args.segment * 8192) n) l.freed l.core) end l.invariant.freed
 
 pub returns-clause-later : goal.returns-clause-later
 returns-clause-later c = same_past c.loop-page.invariant.later (omega arith)

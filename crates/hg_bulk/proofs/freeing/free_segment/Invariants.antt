@@ -11,7 +11,8 @@ abbrev pub invariant-loop-page : goal.invariant-loop-page
 invariant-loop-page l =
     let first = l.fn.segment * 8192 in
     record {
-      freed : FreesAmong l.fn.core l.fn.worker l.fn.actor l.fn.owner (range_with_len first (l.page * 512)) l.freed l.core;
+      freed : FreesAmong l.fn.core l.fn.worker l.fn.actor l.fn.owner
+          (range_with_len first (l.page * 512)) l.freed l.core;
       later : IsSameFrom l.fn.core.state l.core.state (first + l.page * 512);
       few : l.freed ≤ l.page * 512;
       kept : IsSound l.core.state × IsPartition l.core;

@@ -8,7 +8,8 @@ pub returns-clause-value : goal.returns-clause-value
 returns-clause-value g c =
     told_of g.S.SlotWords.number
     (λ (k : Kept g.row.S.Denot). places_by (class_at k.classes c.args.page))
-    c.args.self.now.segments c.args.segment c.in-Some.found c.index.result.now c.in-Some.ensures.some
+    c.args.self.now.segments c.args.segment c.in-Some.found c.index.result.now
+    c.in-Some.ensures.some
     (c.index.ensures ∙ ap (λ h. get_or h.segments c.in-Some.found c.index.result.now)
     c.self.view_is)
     ∙ ap Some (sym c.places_on.ensures.value)

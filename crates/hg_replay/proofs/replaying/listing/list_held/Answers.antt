@@ -15,14 +15,16 @@ returns-then-not-holds-clause-looked g c =
 
 pub list_page-rows-requires-clause-held : goal.list_page-rows-requires-clause-held
 list_page-rows-requires-clause-held g c =
-    ap (λ k. holds k.state c.args.worker c.args.segment) c.loop-page.invariant.same ∙ sym c.holds.ensures ∙ c.if-not-holds.false
+    ap (λ k. holds k.state c.args.worker c.args.segment) c.loop-page.invariant.same ∙ sym
+    c.holds.ensures ∙ c.if-not-holds.false
 
 pub loop-page-init : goal.loop-page-init
 loop-page-init g c =
     let seen = g.W.Sink.seen in
     record {
       same = refl;
-      looked = looked_none c.args.core.now c.args.worker c.args.actor (seen c.args.out.now) c.args.output.now;
+      looked = looked_none c.args.core.now c.args.worker c.args.actor (seen c.args.out.now)
+          c.args.output.now;
       few = omega arith;
     }
 
@@ -38,11 +40,13 @@ loop-page-preserved g c =
     let so_far = l.invariant in
     let rows = c.list_page-rows.result in
     let new = c.list_page-rows.new in
-    let here = subst (λ t. Looked t w actor (range_with_len at 512) rows (seen l.out) l.output (seen new.out) new.output) so_far.same c.list_page-rows.ensures.looked in
+    let here = subst (λ t. Looked t w actor (range_with_len at 512) rows (seen l.out) l.output
+    (seen new.out) new.output) so_far.same c.list_page-rows.ensures.looked in
     record {
       same = c.list_page-rows.ensures.same ∙ so_far.same;
       looked =
-          looked_more k w actor first (l.page * 512) 512 at ((l.page + 1) * 512) l.rows rows (seen c.args.out.now) (seen l.out) (seen new.out)
+          looked_more k w actor first (l.page * 512) 512 at ((l.page + 1) * 512) l.rows rows
+          (seen c.args.out.now) (seen l.out) (seen new.out)
           c.args.output.now l.output new.output refl (omega arith) so_far.looked here;
       few = let a = so_far.few in let b = c.list_page-rows.ensures.few in omega arith;
     }
@@ -54,6 +58,8 @@ returns-clause-looked g c =
     let seen = g.W.Sink.seen in
     let first = c.args.segment * 8192 in
     let end : l.page * 512 ≡ 8192 = omega arith in
-    subst (λ places. Looked k c.args.worker c.args.actor places l.rows (seen c.args.out.now) c.args.output.now (seen l.out) l.output)
-    (ap (range_with_len first) end ∙ sym (held_whole k.state c.args.worker c.args.segment (sym c.holds.ensures ∙ c.if-not-holds.false)))
+    subst (λ places. Looked k c.args.worker c.args.actor places l.rows (seen c.args.out.now)
+    c.args.output.now (seen l.out) l.output)
+    (ap (range_with_len first) end ∙ sym (held_whole k.state c.args.worker c.args.segment
+    (sym c.holds.ensures ∙ c.if-not-holds.false)))
     l.invariant.looked

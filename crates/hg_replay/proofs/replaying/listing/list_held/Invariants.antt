@@ -10,7 +10,8 @@ invariant-loop-page g l =
     record {
       same : l.core ≡ l.fn.core;
       looked :
-          Looked l.fn.core l.fn.worker l.fn.actor (range_with_len (l.fn.segment * 8192) (l.page * 512)) l.rows (seen l.fn.out) l.fn.output
+          Looked l.fn.core l.fn.worker l.fn.actor (range_with_len (l.fn.segment * 8192)
+          (l.page * 512)) l.rows (seen l.fn.out) l.fn.output
           (seen l.out) l.output;
       few : l.rows ≤ l.page * 512;
     }
