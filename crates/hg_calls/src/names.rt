@@ -14,9 +14,8 @@ pub struct Names {
 }
 
 impl Names {
-    /// The names of a policy that was read from this document. A policy tells no names of arenas,
-    /// so they are looked for between the document's double quotes.
-    pub fn of(alloc: Global, policy: &Policy, document: &str) -> Result<Names, AllocError> {
+    /// The names that a policy gives. The one error is want of memory.
+    pub fn of(alloc: Global, policy: &Policy) -> Result<Names, AllocError> {
         let mut tenants = Vec::new(alloc);
         for number in 0..policy.tenants() {
             let name = policy.tenant_name(number).unwrap_or(NOBODY);
@@ -24,7 +23,7 @@ impl Names {
         }
         let mut arenas = Vec::new(alloc);
         for number in 0..policy.arenas() {
-            let name = arena_name(policy, document, number);
+            let name = policy.arena_name(number).unwrap_or(NOBODY);
             arenas.push(String::from_str(alloc, name)?)?;
         }
         Ok(Names { tenants, arenas })
@@ -45,14 +44,4 @@ impl Names {
             None => NOBODY,
         }
     }
-}
-
-/// The name of an arena, as it stands in the document.
-fn arena_name<'a>(policy: &Policy, document: &'a str, number: u8) -> &'a str {
-    for word in document.split('"') {
-        if policy.arena(word) == Some(number) {
-            return word;
-        }
-    }
-    NOBODY
 }

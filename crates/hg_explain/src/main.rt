@@ -88,10 +88,7 @@ fn main(rt: HostRuntime) -> Result<ExitCode, anyhow::Error> {
     rt.reader().read_to_end(&mut input)?;
     let (document, log) = split_joined(&input);
     let policy = read_policy(alloc, document)?;
-    let Ok(text) = str::from_utf8(document) else {
-        bail!("the policy is no text");
-    };
-    let names = Names::of(alloc, &policy, text)?;
+    let names = Names::of(alloc, &policy)?;
     let calls = match read_log(alloc, &policy, log) {
         Ok(calls) => calls,
         Err(fault) => bail!("{fault}"),

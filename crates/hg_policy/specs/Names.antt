@@ -12,3 +12,6 @@ arena_number policy name = position (λ arena. bytes_eq name arena) policy.arena
 
 abbrev pub tenant_name : meaning.Policy → ℕ → Option (List ℕ)
 tenant_name policy tenant = option_map (λ one. one.name) (slice_get policy.tenants tenant)
+
+abbrev pub arena_name : meaning.Policy → ℕ → Option (List ℕ)
+arena_name policy arena = slice_get policy.arenas arena

@@ -9,7 +9,8 @@ ghost use Rattle.hg_policy.specs.Rights.{rights_of};
 ghost use Rattle.hg_policy.specs.declared.granted.Standing.{Standing};
 ghost use Rattle.hg_policy.specs.Refusals.{refusal_of};
 ghost use Rattle.hg_machine.specs.SoundPolicy.{IsSoundPolicy};
-ghost use Rattle.hg_policy.specs.Names.{tenant_number, tenant_name, arena_number};
+ghost use Rattle.hg_policy.specs.Names.{tenant_number, tenant_name};
+ghost use Rattle.hg_policy.specs.Names.{arena_number, arena_name};
 
 use crate::copied::copied;
 use crate::granted::{Refusal, Standing, Standings};
@@ -163,6 +164,14 @@ impl Policy {
             Some(arena) => Some(arena as u8),
             None => None,
         }
+    }
+
+    /// The name of an arena.
+    pub fn arena_name(&self, arena: u8) -> Option<&str>
+        ensures { option_map (λ name. name.now) result ≡ arena_name self.now arena }
+    {
+        let (name, _) = self.arenas.get_index(usize::from(arena))?;
+        Some(name.as_str())
     }
 
     /// The arena of a segment.

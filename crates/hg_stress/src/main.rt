@@ -30,7 +30,7 @@ use crate::plan::Plan;
 use crate::shared::Shared;
 use crate::telling::tell;
 use hg_calls::Names;
-use hg_policy::{Policy, PolicyFault, read_policy};
+use hg_policy::{Policy, read_policy};
 use hg_replay::{ReadFault, read_limited};
 use hg_service::Service;
 use hg_table::LifeTable;
@@ -101,8 +101,8 @@ fn stress<N: ServiceName + Send + Sync, R: Threads + Wait + Print + AllocGlobal 
     Ok(tell(&mut out, names, &done, &shared, ending)?)
 }
 
-/// The policy that is asked for, and its text.
-fn policy_of(rt: &HostRuntime, request: &Request) -> Result<(Policy, Vec<u8>), Fault> {
+/// The policy that is asked for.
+fn policy_of(rt: &HostRuntime, request: &Request) -> Result<Policy, Fault> {
     let Ok(mut file) = fs::open(rt, request.path.as_str()) else {
         return Err(Fault::Read(ReadFault::Failed));
     };
@@ -111,7 +111,7 @@ fn policy_of(rt: &HostRuntime, request: &Request) -> Result<(Policy, Vec<u8>), F
     if request.workers > policy.workers() {
         return Err(Fault::ManyWorkers(policy.workers()));
     }
-    Ok((policy, document))
+    Ok(policy)
 }
 
 /// The words of the command.
@@ -135,11 +135,8 @@ struct Job {
 fn job_of(rt: &HostRuntime) -> Result<Job, Fault> {
     let alloc = rt.alloc();
     let request = asked(alloc, &words(rt)?)?;
-    let (policy, document) = policy_of(rt, &request)?;
-    let Ok(text) = str::from_utf8(&document) else {
-        return Err(Fault::Policy(PolicyFault::NotToml));
-    };
-    let names = Names::of(alloc, &policy, text)?;
+    let policy = policy_of(rt, &request)?;
+    let names = Names::of(alloc, &policy)?;
     let plan = Plan::of(&policy, &request);
     Ok(Job {
         policy,

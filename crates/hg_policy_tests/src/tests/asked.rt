@@ -73,6 +73,13 @@ pub(crate) fn arenas_are(rt: &impl Abort, policy: &Policy, rows: &[(&str, Option
     }
 }
 
+/// The names of arenas.
+pub(crate) fn arena_names_are(rt: &impl Abort, policy: &Policy, rows: &[(u8, Option<&str>)]) {
+    for (number, name) in rows {
+        assert!(rt; policy.arena_name(*number) == *name, "arena {number}");
+    }
+}
+
 /// The limits of tenants.
 pub(crate) fn limits_are(rt: &impl Abort, policy: &Policy, rows: &[(u8, Option<u64>)]) {
     for (tenant, limit) in rows {

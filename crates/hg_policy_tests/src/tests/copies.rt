@@ -1,8 +1,8 @@
 //! A copy of a policy answers as the policy does, and is there when the policy is gone.
 
 use crate::tests::asked::{
-    Which, admits_are, arenas_are, counts, limits_are, names_are, read, read_or_refused,
-    segments_are, table_is, tenants_are,
+    Which, admits_are, arena_names_are, arenas_are, counts, limits_are, names_are, read,
+    read_or_refused, segments_are, table_is, tenants_are,
 };
 use hg_policy::Policy;
 use std::alloc::Global;
@@ -61,6 +61,11 @@ fn is_meant(rt: &impl Abort, policy: &Policy) {
         &[(0, Some(8192)), (1, Some(64)), (2, Some(1)), (3, None)],
     );
     arenas_are(rt, policy, &[("main", Some(0)), ("vault", Some(1))]);
+    arena_names_are(
+        rt,
+        policy,
+        &[(0, Some("main")), (1, Some("vault")), (2, None)],
+    );
     segments_are(
         rt,
         policy,

@@ -1,8 +1,8 @@
 //! Documents and what they mean.
 
 use crate::tests::asked::{
-    Which, admits_are, arenas_are, counts, fails_or_refused, limits_are, names_are, read,
-    read_or_refused, rights_are, segments_are, table_is, tenants_are,
+    Which, admits_are, arena_names_are, arenas_are, counts, fails_or_refused, limits_are,
+    names_are, read, read_or_refused, rights_are, segments_are, table_is, tenants_are,
 };
 use hg_policy::{PolicyFault, read_policy};
 
@@ -95,12 +95,22 @@ static NAMES: [(u8, Option<&str>); 3] = [(0, Some("alice")), (1, Some("bob")), (
 
 static ARENAS: [(&str, Option<u8>); 3] = [("main", Some(0)), ("bob", Some(2)), ("alice", None)];
 
+static ARENA_NAMES: [(u8, Option<&str>); 6] = [
+    (0, Some("main")),
+    (1, Some("empty")),
+    (2, Some("bob")),
+    (3, Some("shut")),
+    (4, None),
+    (255, None),
+];
+
 #[test]
 fn numbers_names(rt: HostRuntime) {
     let policy = read(&rt, rt.alloc(), SHARED);
     tenants_are(&rt, &policy, &TENANTS);
     names_are(&rt, &policy, &NAMES);
     arenas_are(&rt, &policy, &ARENAS);
+    arena_names_are(&rt, &policy, &ARENA_NAMES);
     drop(policy);
 }
 
