@@ -5,7 +5,11 @@ mod disk;
 
 use disk::Disk;
 use hg_program::start;
+use hg_replay::Sink;
+use std::io::{LineWriter, Write};
 use std::process::ExitCode;
+use std::sync::Wait;
+use std::thread::Threads;
 use std::{env, io};
 
 /// The words after the program's name.
@@ -17,14 +21,23 @@ fn arguments(rt: &HostRuntime) -> io::Result<Vec<String>> {
     Ok(words)
 }
 
-fn main(rt: HostRuntime) -> ExitCode {
+/// The whole program, which tells on `err` what goes wrong.
+fn run<T: Threads + Wait, E: Sink + Write>(threads: &T, rt: &HostRuntime, err: &mut E) -> ExitCode {
     start(
-        &rt,
+        threads,
         rt.alloc(),
-        arguments(&rt),
-        &Disk { rt: &rt },
+        arguments(rt),
+        &Disk { rt },
         &mut rt.reader(),
-        &mut io::writer(&rt),
-        &mut rt.stderr(),
+        &mut io::writer(rt),
+        err,
     )
+}
+
+fn main(rt: HostRuntime) -> ExitCode {
+    // a line goes out when it ends or fills a piece, and not as it is written, a character at a time
+    if let Ok(mut err) = LineWriter::new(rt.alloc(), rt.stderr()) {
+        return run(&rt, &rt, &mut err);
+    }
+    run(&rt, &rt, &mut rt.stderr())
 }

@@ -4,7 +4,7 @@ use Rattle.std.proofs.lemmas.List.{take_more}
 use Rattle.hg_trace.specs.declared.line.Line.{Line}
 use Rattle.hg_replay.specs.Replays.{Progress, Answered}
 use Rattle.hg_expect.specs.Findings.{Findings, Finds, found_at, agrees}
-use Rattle.hg_expect.specs.Words.{words, last_line}
+use Rattle.hg_expect.specs.Words.{words, last_line, is_slip}
 use Rattle.hg_expect.specs.Judging.{Judges, text_of}
 
 -- a line more
@@ -36,7 +36,11 @@ judges_next texts lines i line from mid end found here next reply within is so_f
 -- a line adds one to a count at most
 module _ (found : Findings) (number : ℕ) (line answer : List ℕ) where
   one_stated : (mark : Option ℕ) → (found_at found number line answer mark).stated ≤ found.stated + 1
-  one_stated None = omega arith
+  one_stated None = by_slip (is_slip line) refl
+    where
+      by_slip : (slips : Bool) → is_slip line ≡ slips → (found_at found number line answer None).stated ≤ found.stated + 1
+      by_slip true e = rw e (omega arith)
+      by_slip false e = rw e (omega arith)
   one_stated (Some at) = by_case (agrees line (at + 4) answer) refl
     where
       by_case : (same : Bool) → agrees line (at + 4) answer ≡ same → (found_at found number line answer (Some at)).stated ≤ found.stated + 1
@@ -44,10 +48,26 @@ module _ (found : Findings) (number : ℕ) (line answer : List ℕ) where
       by_case false e = rw e (omega arith)
 
   one_differs : (mark : Option ℕ) → (found_at found number line answer mark).differ ≤ found.differ + 1
-  one_differs None = omega arith
+  one_differs None = by_slip (is_slip line) refl
+    where
+      by_slip : (slips : Bool) → is_slip line ≡ slips → (found_at found number line answer None).differ ≤ found.differ + 1
+      by_slip true e = rw e (omega arith)
+      by_slip false e = rw e (omega arith)
   one_differs (Some at) = by_case (agrees line (at + 4) answer) refl
     where
       by_case : (same : Bool) → agrees line (at + 4) answer ≡ same → (found_at found number line answer (Some at)).differ ≤ found.differ + 1
+      by_case true e = rw e (omega arith)
+      by_case false e = rw e (omega arith)
+
+  one_slips : (mark : Option ℕ) → (found_at found number line answer mark).slips ≤ found.slips + 1
+  one_slips None = by_slip (is_slip line) refl
+    where
+      by_slip : (slips : Bool) → is_slip line ≡ slips → (found_at found number line answer None).slips ≤ found.slips + 1
+      by_slip true e = rw e (omega arith)
+      by_slip false e = rw e (omega arith)
+  one_slips (Some at) = by_case (agrees line (at + 4) answer) refl
+    where
+      by_case : (same : Bool) → agrees line (at + 4) answer ≡ same → (found_at found number line answer (Some at)).slips ≤ found.slips + 1
       by_case true e = rw e (omega arith)
       by_case false e = rw e (omega arith)
 
@@ -59,3 +79,7 @@ module _ (found next : Findings) (number : ℕ) (line text : List ℕ) where
   pub finds_differ : Finds found number line text next → next.differ ≤ found.differ + 1
   finds_differ (mark, first, is) =
       subst (λ f. f.differ ≤ found.differ + 1) (sym is) (one_differs found number line (words (last_line text)) mark)
+
+  pub finds_slips : Finds found number line text next → next.slips ≤ found.slips + 1
+  finds_slips (mark, first, is) =
+      subst (λ f. f.slips ≤ found.slips + 1) (sym is) (one_slips found number line (words (last_line text)) mark)

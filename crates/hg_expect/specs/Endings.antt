@@ -18,9 +18,3 @@ WritesReport summary old new (Ok differs) =
 WritesReport summary old new (Err fault.Write) = StopsIn old new (report summary)
 WritesReport summary old new (Err fault.Memory) = new ≡ old
 WritesReport summary old new (Err (fault.Worker line)) = ⊥
-
--- the status of a test by whether some line differs, or by its fault
-abbrev pub ended_by : Result Bool RunFault → Status
-ended_by (Ok true) = status.Differs
-ended_by (Ok false) = status.Done
-ended_by (Err fault) = status_of fault

@@ -1,6 +1,6 @@
 -- How a test of traces under the policy of some bytes ends: its status, and what it writes.
 use Rattle.std.specs.Prelude.{⊤, ◌≡◌, ◌≢◌, ◌⊎◌, ℕ, ◌+◌, ◌==◌, List, [], ◌∷◌, ◌++◌, Ok, codes, decimal}
-use Rattle.std.specs.Prelude.{if◌then◌else◌}
+use Rattle.std.specs.Prelude.{Option, Some, None, if◌then◌else◌}
 use Rattle.hg_machine.specs.Policy.{Policy}
 use Rattle.hg_policy.specs.Document.{document_of}
 use Rattle.hg_replay.specs.Sinks.{Seen}
@@ -9,7 +9,7 @@ use Rattle.hg_replay.specs.Writes.{Wrote, StopsIn}
 use Rattle.hg_replay.specs.declared.run.status.Status.{Status}
 use Rattle.hg_replay.specs.declared.run.status.Status.TheVariants as status
 use Rattle.hg_expect.specs.declared.source.Source.{Source}
-use Rattle.hg_expect.specs.Findings.{Findings, trace_text}
+use Rattle.hg_expect.specs.Findings.{Findings, trace_text, warnings}
 use Rattle.hg_expect.specs.Judging.{Tested}
 
 -- what is told of the traces so far, how many there are, and in how many some line differs
@@ -72,6 +72,29 @@ Fails status.BadPolicy policy_bytes sources = FailsAt status.BadPolicy policy_by
 Fails status.BadTrace policy_bytes sources = FailsAt status.BadTrace policy_bytes sources
 Fails status.Failed policy_bytes sources = ⊤
 Fails _ policy_bytes sources = ⊥
+
+-- traces that are tested one after another: their summary, up to the first that has a fault, and the
+-- status of that
+pub record Progress : Type 0 where
+  pub summary : Summary
+  pub fault : Option Status
+
+abbrev pub no_tests : Progress
+no_tests = record { summary = no_traces; fault = None }
+
+-- so the traces stand under a policy: all are tested, and this is their summary, or there is a fault
+abbrev pub StandsBy : Option Status → List ℕ → List Source → Summary → Type 0
+StandsBy None policy_bytes sources summary = AllTested policy_bytes sources summary
+StandsBy (Some ended) policy_bytes sources summary = Fails ended policy_bytes sources
+
+abbrev pub Stands : List ℕ → List Source → Progress → Type 0
+Stands policy_bytes sources tests = StandsBy tests.fault policy_bytes sources tests.summary
+
+-- nothing is warned of in a trace, whatever a test finds of it
+abbrev pub IsUnwarned : List ℕ → Source → Type 0
+IsUnwarned policy_bytes source =
+    (found : Findings) → Tested policy_bytes source.bytes.items found
+    → warnings source.name.now found ≡ []
 
 -- by the status: Done where all traces are tested and no line differs, Differs where some does, with
 -- the text of the test written; BadPolicy and BadTrace where there is no policy, or the first trace

@@ -1,7 +1,8 @@
 -- Words of answers, and what is shown of a line.
 use Rattle.std.specs.Prelude.{ℕ, ◌==◌, ◌||◌, ◌&&◌, Bool, true, false, not, nat_lt, List, [], ◌∷◌, ◌++◌}
-use Rattle.std.specs.Prelude.{if◌then◌else◌}
-use Rattle.hg_trace.specs.Lines.{ends_line, is_blank}
+use Rattle.std.specs.Prelude.{codes, nat_eq, if◌then◌else◌}
+use Rattle.std.specs.List.{starts_with}
+use Rattle.hg_trace.specs.Lines.{ends_line, is_blank, is_hash}
 
 -- a blank or a line's end
 abbrev pub is_gap : ℕ → Bool
@@ -34,3 +35,14 @@ last_line text = last_from [] true text
 -- a byte as it is shown: for a control byte other than a tab a question mark
 abbrev pub shown : ℕ → ℕ
 shown b = if (nat_lt b 32 && not (b == 9)) || b == 127 then 63 else b
+
+-- `=>` stands behind blanks alone
+abbrev pub begins_answer : List ℕ → Bool
+begins_answer [] = false
+begins_answer (b ∷ bs) =
+    if is_gap b then begins_answer bs else starts_with nat_eq (b ∷ bs) (codes "=>")
+
+-- behind some `#` of a line stands a text like an answer
+abbrev pub is_slip : List ℕ → Bool
+is_slip [] = false
+is_slip (b ∷ bs) = (is_hash b && begins_answer bs) || is_slip bs

@@ -7,5 +7,5 @@ mod run;
 mod source;
 mod words;
 
-pub use run::run_tests;
+pub use run::{Tests, run_tests};
 pub use source::Source;

@@ -3,6 +3,7 @@
 ghost use Rattle.std.specs.Prelude.{◌≡◌, ◌++◌, OnOk, IfOk, map};
 ghost use Rattle.hg_trace.specs.Lines.{ends_line};
 ghost use Rattle.hg_expect.specs.Words.{is_gap, word_part, words, line_with, last_line, shown};
+ghost use Rattle.hg_expect.specs.Words.{begins_answer, is_slip};
 
 use std::alloc::{AllocError, Global};
 
@@ -90,4 +91,28 @@ pub(crate) fn push_shown(out: &mut Vec<u8>, text: &[u8]) -> Result<(), AllocErro
         out.push(shown(*b))?;
     }
     Ok(())
+}
+
+/// Whether `=>` stands in a text behind blanks alone.
+fn begins_answer(text: &[u8]) -> bool
+    ensures { result ≡ begins_answer text.now }
+{
+    for at in 0..text.len() {
+        if !is_gap(text[at]) {
+            return text[at..].starts_with(b"=>");
+        }
+    }
+    false
+}
+
+/// Whether a line that states no answer has a comment like one.
+pub(crate) fn is_slip(line: &[u8]) -> bool
+    ensures { result ≡ is_slip line.now }
+{
+    for at in 0..line.len() {
+        if line[at] == b'#' && begins_answer(&line[at + 1..]) {
+            return true;
+        }
+    }
+    false
 }

@@ -49,6 +49,22 @@ impl From<AllocError> for JobFault {
     }
 }
 
+/// A refusal's text without the parser's tip to pass a flag behind `--`, which would have it read
+/// as the name of a file. No two lines of what is left are empty one after another.
+fn without_tip(alloc: Global, text: &str) -> Result<String, AllocError> {
+    let mut left = String::new(alloc);
+    let mut is_behind_empty = false;
+    for line in text.split_inclusive('\n') {
+        let is_empty = line == "\n";
+        let is_tip = line.starts_with("  tip: to pass '");
+        if !is_tip && !(is_empty && is_behind_empty) {
+            left.push_str(line)?;
+            is_behind_empty = is_empty;
+        }
+    }
+    Ok(left)
+}
+
 /// The refusal of words that the parser refused.
 fn fault_in(alloc: Global, error: &Error) -> JobFault
     ensures memory { kind_of error.now ≡ ErrorKind.OutOfMemory → result ≡ JobFault.Memory }
@@ -60,7 +76,10 @@ fn fault_in(alloc: Global, error: &Error) -> JobFault
         Ok(_) if kind == ErrorKind::OutOfMemory => JobFault::Memory,
         Ok(text) if kind == ErrorKind::DisplayHelp => JobFault::Print(text),
         Ok(text) if kind == ErrorKind::DisplayVersion => JobFault::Print(text),
-        Ok(text) => JobFault::Line(text),
+        Ok(text) => match without_tip(alloc, &text) {
+            Ok(left) => JobFault::Line(left),
+            Err(_) => JobFault::Memory,
+        },
     }
 }
 

@@ -1,5 +1,5 @@
 pub mod Names
-pub mod OneLine
+pub mod WrittenOut
 pub mod Unknown
 pub mod InTurn
 pub mod Tables

@@ -26,4 +26,5 @@ pub use fault::PolicyFault;
 pub use granted::Refusal;
 pub use key::{Counted, Key, Level};
 pub use name_form::{is_name, is_name_byte};
+pub use one_line::OneLine;
 pub use policy::Policy;

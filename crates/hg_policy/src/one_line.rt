@@ -8,9 +8,10 @@ use std::fmt;
 
 /// A text with its control characters written out, as TOML's basic strings write them, and so what
 /// breaks a line or turns the direction of writing: so it is one line, drives no terminal, and
-/// shows its characters in their order. A backslash and a quote stay as they are.
+/// shows its characters in their order. A backslash and a quote stay as they are. Names that
+/// somebody else chose, of keys or of files, are told so.
 #[derive(Clone, Copy, Debug)]
-pub(crate) struct OneLine<'a>(pub(crate) &'a str);
+pub struct OneLine<'a>(pub &'a str);
 
 impl<'a> fmt::Display for OneLine<'a> {
     ghost output = { λ line. Some (one_line line.0.now) };

@@ -14,7 +14,7 @@ use Rattle.hg_policy.specs.declared.key.Counted.TheVariants as counted
 use Rattle.hg_policy.specs.Keys.{key_text, counted_text}
 use Rattle.hg_policy.specs.OneLine.{hex_digit, four_digits, is_written_out, written, one_line}
 use Rattle.hg_policy.specs.FaultLines.{fault_line}
-use Rattle.hg_policy.proofs.OneLine.{out-below, written-out}
+use Rattle.hg_policy.proofs.WrittenOut.{out-below, written-out}
 
 -- a byte of ASCII that isn't written out
 abbrev pub is_plain : ℕ → Bool

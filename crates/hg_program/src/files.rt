@@ -1,13 +1,15 @@
 //! Policies and traces from files. A file that can't be read, or that is too long, is a read fault.
 
-ghost use Rattle.std.specs.Prelude.{◌≡◌, ◌≤◌, IfOk, IfSome, map, vec_len};
+ghost use Rattle.std.specs.Prelude.{◌≡◌, ◌≤◌, ℕ, List, IfOk, IfSome, map, vec_len};
+ghost use Rattle.hg_expect.specs.Tests.{Stands};
+ghost use Rattle.hg_expect.specs.declared.source.Source.{Source};
 ghost use Rattle.hg_replay.specs.declared.run.input.TheConstants.{LIMIT};
 ghost use Rattle.hg_program.specs.Ends.{AreOf, EndsOnFile, EndsOnFiles, EndsOnRace, EndsOnTests};
-ghost use Rattle.hg_program.specs.Ends.{IsOf};
+ghost use Rattle.hg_program.specs.Ends.{AreUnwarned, IsOf, IsUnwarnedTest};
 
 use crate::host::Host;
 use crate::refusal::fails;
-use hg_expect::{Source, run_tests};
+use hg_expect::{Source, Tests};
 use hg_race::run_race;
 use hg_replay::{ReadFault, Sink, Status, run_check, run_texts};
 use std::alloc::Global;
@@ -68,41 +70,46 @@ pub(crate) fn replay_files<H: Host, W: Sink, E: Write>(
     }
 }
 
-/// The traces of files, in their order.
-fn read_traces<'a, H: Host>(
+/// Tests of the traces of files, in their order, each read and given back before the next is read.
+fn test_each<'a, H: Host, E: Write>(
     alloc: Global,
     host: &H,
+    policy: &[u8],
     names: &[&'a str],
-) -> Result<Vec<Source<'a>>, ReadFault>
-    ensures { IfOk result (λ sources.
-        AreOf (H.holds host.now) (map (λ name. name.now) names.now) sources.items) }
+    err: &mut E,
+) -> Result<Tests<'a>, ReadFault>
+    ensures stands { IfOk result (λ tests. (sources : List Source)
+        × AreOf (H.holds host.now) (map (λ name. name.now) names.now) sources
+        × Stands policy.now sources tests) }
+    ensures quiet { AreUnwarned (H.holds host.now) policy.now (map (λ name. name.now) names.now)
+        → IfOk result (λ _. err.new ≡ err.old) }
 {
-    let mut sources = Vec::new(alloc);
+    let mut tests = Tests::new(alloc);
     for name in names {
         let bytes = host.read_file(alloc, name)?;
         let source = Source { name: *name, bytes };
-        match sources.push(source) {
-            Ok(()) => {}
-            Err(_) => return Err(ReadFault::Memory),
-        }
+        tests.add(alloc, policy, &source, err);
     }
-    Ok(sources)
+    Ok(tests)
 }
 
-/// The policy's file and those of traces, the policy's first.
-fn read_sources<'a, H: Host>(
+/// The same under the policy of another file, which is read first.
+fn test_all<'a, H: Host, E: Write>(
     alloc: Global,
     host: &H,
     policy: &str,
     names: &[&'a str],
-) -> Result<(Vec<u8>, Vec<Source<'a>>), ReadFault>
-    ensures policy { IfOk result (λ files. IsOf (H.holds host.now policy.now) files.0.items) }
-    ensures traces { IfOk result (λ files.
-        AreOf (H.holds host.now) (map (λ name. name.now) names.now) files.1.items) }
+    err: &mut E,
+) -> Result<Tests<'a>, ReadFault>
+    ensures stands { IfOk result (λ tests. (bytes : List ℕ) × (sources : List Source)
+        × IsOf (H.holds host.now policy.now) bytes
+        × AreOf (H.holds host.now) (map (λ name. name.now) names.now) sources
+        × Stands bytes sources tests) }
+    ensures quiet { IsUnwarnedTest (H.holds host.now) policy.now (map (λ name. name.now) names.now)
+        → IfOk result (λ _. err.new ≡ err.old) }
 {
     let policy = host.read_file(alloc, policy)?;
-    let sources = read_traces(alloc, host, names)?;
-    Ok((policy, sources))
+    test_each(alloc, host, policy.as_slice(), names, err)
 }
 
 /// Tests the traces of files under the policy of another. All are read before any fault of one is
@@ -117,12 +124,11 @@ pub(crate) fn test_files<H: Host, W: Sink, E: Write>(
 ) -> Status
     ensures ends { EndsOnTests (H.holds host.now) policy.now (map (λ name. name.now) names.now)
         result (W.seen out.old) (W.seen out.new) }
-    ensures quiet { result ≡ Status.Done → err.new ≡ err.old }
+    ensures quiet { IsUnwarnedTest (H.holds host.now) policy.now (map (λ name. name.now) names.now)
+        → result ≡ Status.Done → err.new ≡ err.old }
 {
-    match read_sources(alloc, host, policy, names) {
-        Ok((policy, sources)) => {
-            run_tests(alloc, policy.as_slice(), sources.as_slice(), out, err)
-        }
+    match test_all(alloc, host, policy, names, err) {
+        Ok(tests) => tests.end(names.len() > 1, out, err),
         Err(fault) => fails(fault, err),
     }
 }

@@ -60,6 +60,31 @@ wrong: expected 5 differ 4
 traces 1 differ 1
 ";
 
+/// One answer is stated, three lines have a comment like one, and four haven't: that of another
+/// arrow, of an arrow in the middle of a comment, and of a line without a command.
+const SLIPS: &str = "w0 refill main # => segment 0
+w0 alloc alice main 24 as x #=> ok
+w0 list bob # or # \t =>
+w0 look alice 0.0.0 #   => ok
+w0 collect # -> pages 0
+w0 collect # so => none
+w0 collect # = > pages 0
+#=> ok
+";
+
+/// A file's name that breaks a line, drives a terminal and turns the direction of writing.
+const NAMED: &str = "ev\nil\u{1b}[31m\u{202e}.t";
+
+/// What is told of it, in one line each time.
+const TOLD: &str = "--- ev\\nil\\u001B[31m\\u202E.t
++++ ev\\nil\\u001B[31m\\u202E.t
+@@ -1 +1 @@
+-w0 refill main # => segment 1
++w0 refill main # => segment 0
+ev\\nil\\u001B[31m\\u202E.t: expected 1 differ 1
+traces 1 differ 1
+";
+
 /// Files in memory, by their names.
 #[derive(Drop)]
 struct Files;
@@ -76,6 +101,9 @@ impl Host for Files {
             "wrong" => WRONG,
             "silent" => "w0 refill main\n# w0 collect # => pages 3\n",
             "empty" => "",
+            "slips" => SLIPS,
+            NAMED => "w0 refill main # => segment 1\n",
+            "fau\rlty" => "w0 refil main # => ok\n",
             "faulty" => "w0 refill main # => segment 0\nw0 refil main # => ok\n",
             "stranger" => "w2 refill main # => segment 0\n",
             _ => return Err(ReadFault::Failed),
@@ -114,7 +142,7 @@ fn end_each<T: Abort + Threads + Wait>(rt: &T, alloc: Global, rows: &[Row]) {
     }
 }
 
-static ENDINGS: [Row; 4] = [
+static ENDINGS: [Row; 7] = [
     (
         &["test", "policy", "right"],
         Status::Done,
@@ -131,8 +159,22 @@ static ENDINGS: [Row; 4] = [
         &["test", "policy", "silent", "empty"],
         Status::Done,
         "silent: expected 0 differ 0\nempty: expected 0 differ 0\ntraces 2 differ 0\n",
-        "",
+        "warning: silent: no line states an answer\nwarning: empty: no line states an answer\n",
     ),
+    (
+        &["test", "policy", "slips"],
+        Status::Done,
+        "slips: expected 1 differ 0\ntraces 1 differ 0\n",
+        "warning: slips: line 2 states nothing: an answer stands behind `# =>` (such lines: 3)\n",
+    ),
+    // Warnings go before the line of a fault.
+    (
+        &["test", "policy", "silent", "faulty"],
+        Status::BadTrace,
+        "",
+        "warning: silent: no line states an answer\nin faulty\ntrace fault 2 at line 2: command\n",
+    ),
+    (&["test", "policy", NAMED], Status::Differs, TOLD, ""),
     // What a line states is a comment for a replay.
     (
         &["replay", "policy", "silent"],
@@ -147,7 +189,7 @@ fn lines_state_their_answers(rt: HostRuntime) {
     end_each(&rt, rt.alloc(), &ENDINGS);
 }
 
-static FAULTS: [Row; 8] = [
+static FAULTS: [Row; 9] = [
     (
         &["test", "right", "wrong"],
         Status::BadPolicy,
@@ -172,6 +214,12 @@ static FAULTS: [Row; 8] = [
         Status::BadTrace,
         "",
         "in faulty\ntrace fault 2 at line 2: command\n",
+    ),
+    (
+        &["test", "policy", "right", "fau\rlty"],
+        Status::BadTrace,
+        "",
+        "in fau\\rlty\ntrace fault 2 at line 1: command\n",
     ),
     (
         &["test", "policy", "stranger"],

@@ -148,6 +148,35 @@ fn job_words(rt: HostRuntime) {
     }
 }
 
+/// Refusals of a flag, whole: no tip says how to pass it as the name of a file.
+static NO_FLAGS: [(&[&str], &str); 3] = [
+    (
+        &["show", "--json"],
+        "err\nerror: unexpected argument '--json' found\n\nUsage: heapguard show <POLICY>\n\n\
+         For more information, try '--help'.\n",
+    ),
+    (
+        &["test", "p", "t", "-u"],
+        "err\nerror: unexpected argument '-u' found\n\nUsage: heapguard test <POLICY> <TRACE>...\n\n\
+         For more information, try '--help'.\n",
+    ),
+    (
+        &["check", "--hlep", "p"],
+        "err\nerror: unexpected argument '--hlep' found\n\n  \
+         tip: a similar argument exists: '--help'\n\nUsage: heapguard check --help <POLICY>\n\n\
+         For more information, try '--help'.\n",
+    ),
+];
+
+#[test]
+fn no_tip_where_nothing_follows(rt: HostRuntime) {
+    for (words, want) in NO_FLAGS {
+        let text = text(rt.alloc(), words).expect(&rt, "memory");
+        assert_eq!(&rt; text.as_str(), want);
+        drop(text);
+    }
+}
+
 /// Parts of the program's help.
 static HELP: [&str; 17] = [
     "out\nReplays traces",

@@ -1,4 +1,4 @@
-use Rattle.std.proofs.Common.{◌≡◌, ◌+◌, ◌<◌, map, take, sym, ap, subst, ◌∙◌, arith}
+use Rattle.std.proofs.Common.{◌+◌, ◌<◌, map, take, sym, ap, subst, ◌∙◌, arith}
 use Rattle.std.specs.Prelude.{if◌then◌else◌}
 use Rattle.hg_trace.specs.Labels.{label_count}
 use Rattle.hg_trace.specs.Stored.{line_in, lines_in}
@@ -9,7 +9,7 @@ use Rattle.hg_replay.proofs.LinesSaid.{label_count_more, label_within, binds_sai
 use Rattle.hg_replay.proofs.LinesSaid.{said_here, numbered_here}
 use Rattle.hg_expect.specs.Findings.{Finds, nothing}
 use Rattle.hg_expect.specs.Judging.{text_of}
-use Rattle.hg_expect.proofs.Judging.{judges_next, finds_stated, finds_differ}
+use Rattle.hg_expect.proofs.Judging.{judges_next, finds_stated, finds_differ, finds_slips}
 use Rattle.hg_expect.proofs.judge.judge.Goals as goal
 
 pub reply_to-requires-clause-worker : goal.reply_to-requires-clause-worker
@@ -71,4 +71,5 @@ loop-line-preserved c =
       room = c.reply_to.ensures.room ∙ c.loop-line.invariant.room;
       stated = omega (arith, finds_stated here next line.number (text_of texts line.number) reply finds, c.loop-line.invariant.stated);
       differ = omega (arith, finds_differ here next line.number (text_of texts line.number) reply finds, c.loop-line.invariant.differ);
+      slips = omega (arith, finds_slips here next line.number (text_of texts line.number) reply finds, c.loop-line.invariant.slips);
     }

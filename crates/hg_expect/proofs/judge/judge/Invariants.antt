@@ -18,4 +18,5 @@ invariant-loop-line l = record {
   room : vec_capacity l.ready.handles ≡ vec_capacity l.fn.ready.handles;
   stated : l.found.stated ≤ l.line-index;
   differ : l.found.differ ≤ l.line-index;
+  slips : l.found.slips ≤ l.line-index;
 }

@@ -1,6 +1,6 @@
 use Rattle.std.proofs.Common.{◌≡◌, ◌/◌, ◌%◌, ◌==◌, false, arith, sym, ◌∙◌}
 use Rattle.std.proofs.Output.{has_written_of_eq}
-use Rattle.hg_policy.proofs.OneLine.{encode-hex_digit, written-out}
+use Rattle.hg_policy.proofs.WrittenOut.{encode-hex_digit, written-out}
 use Rattle.hg_policy.proofs.one_line.WrittenDisplay.fmt.Goals as goal
 
 pub returns-in_default-clause-writes : goal.returns-in_default-clause-writes
