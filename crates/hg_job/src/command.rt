@@ -68,7 +68,8 @@ const TEST_MORE: &str = "\
 Behind `# =>` a line of a trace states the answer that is expected; of a `list` it is the
 last line, `rows N`. Blanks between words count as one. Each line that is answered
 otherwise is printed as a diff, then a line for each trace, and at the end how many
-traces there are and how many differ.
+traces there are and how many differ. Standard error warns of a trace in which no line
+states an answer, and of comments like one (`#=>`).
 
 Exit status:
   0  each stated answer is the answer

@@ -50,19 +50,15 @@ impl From<AllocError> for JobFault {
 }
 
 /// A refusal's text without the parser's tip to pass a flag behind `--`, which would have it read
-/// as the name of a file. No two lines of what is left are empty one after another.
+/// as the name of a file.
 fn without_tip(alloc: Global, text: &str) -> Result<String, AllocError> {
-    let mut left = String::new(alloc);
-    let mut is_behind_empty = false;
-    for line in text.split_inclusive('\n') {
-        let is_empty = line == "\n";
-        let is_tip = line.starts_with("  tip: to pass '");
-        if !is_tip && !(is_empty && is_behind_empty) {
-            left.push_str(line)?;
-            is_behind_empty = is_empty;
+    if let Some((front, tip)) = text.split_once("\n  tip: to pass '") {
+        if let Some((_, usage)) = tip.rsplit_once("\n\nUsage: ") {
+            let front = front.trim_end();
+            return format!(in alloc; "{front}\n\nUsage: {usage}");
         }
     }
-    Ok(left)
+    String::from_str(alloc, text)
 }
 
 /// The refusal of words that the parser refused.

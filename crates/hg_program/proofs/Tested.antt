@@ -1,38 +1,38 @@
 -- Traces of files are tested one after another.
 use Rattle.std.proofs.Common.{◌≡◌, ◌∙◌, ◌<◌, ℕ, ◌+◌, List, [], ◌∷◌, ◌++◌, length, get_or, map, take}
-use Rattle.std.proofs.Common.{Option, Bor, sym, ap, subst}
-use Rattle.std.specs.Prelude.{Contains}
-use Rattle.std.proofs.lemmas.List.{take_more, map_push, get_or-map, length-map}
-use Rattle.std.proofs.lemmas.List.Elements.{All-push}
+use Rattle.std.proofs.Common.{All, Option, Bor, sym, ap, subst, arith}
+use Rattle.std.proofs.lemmas.List.{take_more, map_push}
+use Rattle.std.proofs.lemmas.List.Elements.{All-push, All-take, All-drop}
+use Rattle.std.proofs.Math.Seq.{take-append_seam, drop-append_seam}
 use Rattle.hg_expect.specs.declared.source.Source.{Source}
 use Rattle.hg_expect.specs.Tests.{IsUnwarned, Progress, Stands}
-use Rattle.hg_program.specs.Ends.{AreOf, AreUnwarned, IsOf}
+use Rattle.hg_program.specs.Ends.{IsOf, StandOf}
 
 abbrev pub texts : List (Bor (List ℕ)) → List (List ℕ)
 texts names = map (λ name. name.now) names
 
--- a name that stands among others
-among : (names : List (Bor (List ℕ))) (i : ℕ) (d : Bor (List ℕ)) → i < length names
-    → Contains (texts names) (get_or names i d).now
-among names i d lt = (
-  i,
-  subst (λ n. i < n) (sym (length-map names (λ name. name.now))) lt,
-  get_or-map (λ (name : Bor (List ℕ)). name.now) names i d (get_or names i d).now lt,
-)
+-- what holds of each of more holds of the first, and of the last
+fronts : {X : Type 0} (P : X → Type 0) (xs : List X) (x : X) → All P (xs ++ x ∷ []) → All P xs
+fronts P xs x all =
+    subst (λ ys. All P ys) (take-append_seam xs (x ∷ []))
+    (All-take P (length xs) (xs ++ x ∷ []) all)
+
+last : {X : Type 0} (P : X → Type 0) (xs : List X) (x : X) → All P (xs ++ x ∷ []) → P x
+last P xs x all =
+    subst (λ ys. All P ys) (drop-append_seam xs (x ∷ []))
+    (All-drop P (length xs) (xs ++ x ∷ []) all) 0 x (omega arith)
 
 module _ (holds : List ℕ → Option (List ℕ)) (policy : List ℕ) where
-  -- the traces of the first of these names stand so
-  abbrev pub StandOf : List (List ℕ) → Progress → Type 0
-  StandOf names tests =
-      (sources : List Source) × AreOf holds names sources × Stands policy sources tests
-
-  pub stand_more : (names : List (Bor (List ℕ))) (i : ℕ) (d : Bor (List ℕ)) (source : Source)
-      (old new : Progress) → i < length names → source.name ≡ get_or names i d
+  -- a trace of a further name
+  pub stand_more : {Q R : Type 0} (names : List (Bor (List ℕ))) (i : ℕ) (d : Bor (List ℕ))
+      (source : Source) (old new : Progress) → i < length names → source.name ≡ get_or names i d
       → IsOf (holds (get_or names i d).now) source.bytes.items
       → ((sources : List Source) → Stands policy sources old
       → Stands policy (sources ++ source ∷ []) new)
-      → StandOf (texts (take i names)) old → StandOf (texts (take (i + 1) names)) new
-  stand_more names i d source old new lt is of adds (sources, (same, each), so_far) = (
+      → (IsUnwarned policy source → Q → R)
+      → StandOf holds policy (texts (take i names)) old Q
+      → StandOf holds policy (texts (take (i + 1) names)) new R
+  stand_more names i d source old new lt is of adds quiet (sources, (same, each), so_far, before) = (
     sources ++ source ∷ [],
     (
       map_push (λ (s : Source). s.name.now) sources source
@@ -44,16 +44,6 @@ module _ (holds : List ℕ → Option (List ℕ)) (policy : List ℕ) where
           (subst (λ (name : Bor (List ℕ)). IsOf (holds name.now) source.bytes.items) (sym is) of),
     ),
     adds sources so_far,
+    λ all. quiet (last (IsUnwarned policy) sources source all)
+        (before (fronts (IsUnwarned policy) sources source all)),
   )
-
-  -- and none of them is warned of, where none of all is
-  pub unwarned_next : {A : Type 0} (names : List (Bor (List ℕ))) (i : ℕ) (d : Bor (List ℕ))
-      (source : Source) (old new : Progress) → i < length names → source.name ≡ get_or names i d
-      → IsOf (holds (get_or names i d).now) source.bytes.items
-      → ((sources : List Source) → Stands policy sources old
-      → Stands policy (sources ++ source ∷ []) new)
-      → (IsUnwarned policy source → A) → AreUnwarned holds policy (texts names) → A
-  unwarned_next names i d source old new lt is of adds quiet all =
-      quiet (all source
-      (subst (λ (name : Bor (List ℕ)). Contains (texts names) name.now) (sym is) (among names i d lt))
-      (subst (λ (name : Bor (List ℕ)). IsOf (holds name.now) source.bytes.items) (sym is) of))

@@ -1,6 +1,6 @@
 -- How the program ends, by the words of its command line: its status, and what it writes.
-use Rattle.std.specs.Prelude.{⊤, ◌≡◌, ◌≢◌, ◌≤◌, ◌⊎◌, ℕ, List, Option, Result, Ok, Err, IfSome}
-use Rattle.std.specs.Prelude.{length, string_bytes, All, Contains, map}
+use Rattle.std.specs.Prelude.{◌≡◌, ◌≢◌, ◌≤◌, ◌⊎◌, ℕ, List, Option, Result, Ok, Err, IfSome}
+use Rattle.std.specs.Prelude.{length, string_bytes, All, map}
 use Rattle.std.specs.declared.io.ErrorKind.{ErrorKind}
 use Rattle.std.specs.declared.io.ErrorKind.TheVariants as kind
 use Rattle.hg_replay.specs.Checks.{EndsCheck}
@@ -11,7 +11,7 @@ use Rattle.hg_replay.specs.declared.run.input.TheConstants.{LIMIT}
 use Rattle.hg_replay.specs.declared.run.status.Status.{Status}
 use Rattle.hg_replay.specs.declared.run.status.Status.TheVariants as status
 use Rattle.hg_race.specs.Races.{EndsRace}
-use Rattle.hg_expect.specs.Tests.{EndsTests, IsUnwarned}
+use Rattle.hg_expect.specs.Tests.{EndsTests, IsUnwarned, Progress, Stands}
 use Rattle.hg_expect.specs.declared.source.Source.{Source}
 use Rattle.hg_program.specs.ShowEnds.{EndsShow}
 use Rattle.hg_job.specs.Jobs.{IsAnswerTo}
@@ -60,21 +60,26 @@ EndsOnTests holds file names ended old new =
     ⊎ ((policy : List ℕ) × (sources : List Source) × IsOf (holds file) policy
     × AreOf holds names sources × EndsTests ended policy sources old new)
 
--- nothing is warned of in traces of files of these names under a policy, whatever is read of them;
--- nor under the policy of a file; nor where a job is done
-abbrev pub AreUnwarned : (List ℕ → Option (List ℕ)) → List ℕ → List (List ℕ) → Type 0
-AreUnwarned holds policy names =
-    (source : Source) → Contains names source.name.now
-    → IsOf (holds source.name.now) source.bytes.items → IsUnwarned policy source
+-- traces of files of these names stand so under a policy, and this holds where none of them is warned
+-- of
+abbrev pub StandOf
+    : (List ℕ → Option (List ℕ)) → List ℕ → List (List ℕ) → Progress → Type 0 → Type 0
+StandOf holds policy names tests Quiet =
+    (sources : List Source) × AreOf holds names sources × Stands policy sources tests
+    × (All (IsUnwarned policy) sources → Quiet)
 
-abbrev pub IsUnwarnedTest : (List ℕ → Option (List ℕ)) → List ℕ → List (List ℕ) → Type 0
-IsUnwarnedTest holds file names =
-    (policy : List ℕ) → IsOf (holds file) policy → AreUnwarned holds policy names
+-- this holds where nothing is warned of in the traces that were read of these files, under the policy
+-- that was read of that one; and so where a job is done, which warns of nothing unless it is a test
+abbrev pub IsQuietTest
+    : (List ℕ → Option (List ℕ)) → List ℕ → List (List ℕ) → Type 0 → Type 0
+IsQuietTest holds file names Quiet =
+    (policy : List ℕ) × (sources : List Source) × IsOf (holds file) policy
+    × AreOf holds names sources × (All (IsUnwarned policy) sources → Quiet)
 
-abbrev pub IsUnwarnedJob : (List ℕ → Option (List ℕ)) → Job → Type 0
-IsUnwarnedJob holds (job.Test policy traces) =
-    IsUnwarnedTest holds policy.now (map (λ trace. trace.now) traces.items)
-IsUnwarnedJob holds _ = ⊤
+abbrev pub IsQuietJob : (List ℕ → Option (List ℕ)) → Job → Type 0 → Type 0
+IsQuietJob holds (job.Test policy traces) Quiet =
+    IsQuietTest holds policy.now (map (λ trace. trace.now) traces.items) Quiet
+IsQuietJob holds _ Quiet = Quiet
 
 -- the file is not read, or what its bytes say is shown so
 abbrev pub EndsOnShow : Option (List ℕ) → Status → Seen → Seen → Type 0
@@ -125,9 +130,10 @@ EndsProgram words holds input ended old new err_old err_new =
     (answer : Result Job JobFault) × IsAnswerTo words answer
     × EndsAnswer holds input answer ended old new err_old err_new
 
--- nothing is warned of in what the words ask for
-abbrev pub AreUnwarnedWords : List (List ℕ) → (List ℕ → Option (List ℕ)) → Type 0
-AreUnwarnedWords words holds = (job : Job) → IsAnswerTo words (Ok job) → IsUnwarnedJob holds job
+-- this holds where what the words ask for warns of nothing
+abbrev pub AreQuietWords : List (List ℕ) → (List ℕ → Option (List ℕ)) → Type 0 → Type 0
+AreQuietWords words holds Quiet =
+    Quiet ⊎ ((job : Job) × IsAnswerTo words (Ok job) × IsQuietJob holds job Quiet)
 
 -- the system gives no words, and nothing is written: for want of memory the status is Failed, and
 -- else the words are no text

@@ -6,8 +6,8 @@ ghost use Rattle.std.specs.IoError.{error_kind};
 ghost use Rattle.hg_replay.specs.Numbers.{number_of};
 ghost use Rattle.hg_replay.specs.Statuses.{EndsJoined};
 ghost use Rattle.hg_replay.specs.declared.run.status.Status.{Status};
-ghost use Rattle.hg_program.specs.Ends.{AreUnwarnedWords, EndsJob, EndsProgram, EndsWordless};
-ghost use Rattle.hg_program.specs.Ends.{IsUnwarnedJob};
+ghost use Rattle.hg_program.specs.Ends.{AreQuietWords, EndsJob, EndsProgram, EndsWordless};
+ghost use Rattle.hg_program.specs.Ends.{IsQuietJob};
 
 use crate::files::{check_file, race_file, replay_files, test_files};
 use crate::host::Host;
@@ -54,8 +54,8 @@ fn do_job<T: Threads + Wait, H: Host, R: Read, W: Sink, E: Write>(
 ) -> Status
     ensures ends { EndsJob (H.holds host.now) (R.remaining input.old) job.now result
         (W.seen out.old) (W.seen out.new) }
-    ensures quiet { H.may_be_terminal host.now ≡ false → IsUnwarnedJob (H.holds host.now) job.now
-        → result ≡ Status.Done → err.new ≡ err.old }
+    ensures quiet { H.may_be_terminal host.now ≡ false → result ≡ Status.Done
+        → IsQuietJob (H.holds host.now) job.now (err.new ≡ err.old) }
 {
     match job {
         Job::Joined => replay_input(alloc, host, input, out, err),
@@ -70,7 +70,7 @@ fn do_job<T: Threads + Wait, H: Host, R: Read, W: Sink, E: Write>(
 }
 
 /// Does what the words after the program's name ask for: a job, with its output on `out` and what
-/// goes wrong in one line on `err`; help or the version, on `out`; or it tells on `err` what is
+/// goes wrong in one line on `err`, before which a test may warn; help or the version, on `out`; or it tells on `err` what is
 /// wrong with the words. Faults of `err` are ignored.
 pub fn program<T: Threads + Wait, H: Host, R: Read, W: Sink, E: Sink + Write>(
     rt: &T,
@@ -84,9 +84,8 @@ pub fn program<T: Threads + Wait, H: Host, R: Read, W: Sink, E: Sink + Write>(
     ensures ends { EndsProgram (map (λ w. w.now) words.now) (H.holds host.now)
         (R.remaining input.old) result
         (W.seen out.old) (W.seen out.new) (E.seen err.old) (E.seen err.new) }
-    ensures quiet { H.may_be_terminal host.now ≡ false
-        → AreUnwarnedWords (map (λ w. w.now) words.now) (H.holds host.now)
-        → result ≡ Status.Done → err.new ≡ err.old }
+    ensures quiet { H.may_be_terminal host.now ≡ false → result ≡ Status.Done
+        → AreQuietWords (map (λ w. w.now) words.now) (H.holds host.now) (err.new ≡ err.old) }
 {
     match job_of(alloc, words) {
         Ok(job) => do_job(rt, alloc, &job, host, input, out, err),

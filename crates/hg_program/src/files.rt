@@ -1,11 +1,9 @@
 //! Policies and traces from files. A file that can't be read, or that is too long, is a read fault.
 
 ghost use Rattle.std.specs.Prelude.{◌≡◌, ◌≤◌, ℕ, List, IfOk, IfSome, map, vec_len};
-ghost use Rattle.hg_expect.specs.Tests.{Stands};
-ghost use Rattle.hg_expect.specs.declared.source.Source.{Source};
 ghost use Rattle.hg_replay.specs.declared.run.input.TheConstants.{LIMIT};
-ghost use Rattle.hg_program.specs.Ends.{AreOf, EndsOnFile, EndsOnFiles, EndsOnRace, EndsOnTests};
-ghost use Rattle.hg_program.specs.Ends.{AreUnwarned, IsOf, IsUnwarnedTest};
+ghost use Rattle.hg_program.specs.Ends.{EndsOnFile, EndsOnFiles, EndsOnRace, EndsOnTests};
+ghost use Rattle.hg_program.specs.Ends.{IsOf, IsQuietTest, StandOf};
 
 use crate::host::Host;
 use crate::refusal::fails;
@@ -78,11 +76,8 @@ fn test_each<'a, H: Host, E: Write>(
     names: &[&'a str],
     err: &mut E,
 ) -> Result<Tests<'a>, ReadFault>
-    ensures stands { IfOk result (λ tests. (sources : List Source)
-        × AreOf (H.holds host.now) (map (λ name. name.now) names.now) sources
-        × Stands policy.now sources tests) }
-    ensures quiet { AreUnwarned (H.holds host.now) policy.now (map (λ name. name.now) names.now)
-        → IfOk result (λ _. err.new ≡ err.old) }
+    ensures { IfOk result (λ tests. StandOf (H.holds host.now) policy.now
+        (map (λ name. name.now) names.now) tests (err.new ≡ err.old)) }
 {
     let mut tests = Tests::new(alloc);
     for name in names {
@@ -101,12 +96,9 @@ fn test_all<'a, H: Host, E: Write>(
     names: &[&'a str],
     err: &mut E,
 ) -> Result<Tests<'a>, ReadFault>
-    ensures stands { IfOk result (λ tests. (bytes : List ℕ) × (sources : List Source)
-        × IsOf (H.holds host.now policy.now) bytes
-        × AreOf (H.holds host.now) (map (λ name. name.now) names.now) sources
-        × Stands bytes sources tests) }
-    ensures quiet { IsUnwarnedTest (H.holds host.now) policy.now (map (λ name. name.now) names.now)
-        → IfOk result (λ _. err.new ≡ err.old) }
+    ensures { IfOk result (λ tests. (bytes : List ℕ) × IsOf (H.holds host.now policy.now) bytes
+        × StandOf (H.holds host.now) bytes (map (λ name. name.now) names.now) tests
+        (err.new ≡ err.old)) }
 {
     let policy = host.read_file(alloc, policy)?;
     test_each(alloc, host, policy.as_slice(), names, err)
@@ -124,8 +116,8 @@ pub(crate) fn test_files<H: Host, W: Sink, E: Write>(
 ) -> Status
     ensures ends { EndsOnTests (H.holds host.now) policy.now (map (λ name. name.now) names.now)
         result (W.seen out.old) (W.seen out.new) }
-    ensures quiet { IsUnwarnedTest (H.holds host.now) policy.now (map (λ name. name.now) names.now)
-        → result ≡ Status.Done → err.new ≡ err.old }
+    ensures quiet { result ≡ Status.Done → IsQuietTest (H.holds host.now) policy.now
+        (map (λ name. name.now) names.now) (err.new ≡ err.old) }
 {
     match test_all(alloc, host, policy, names, err) {
         Ok(tests) => tests.end(names.len() > 1, out, err),

@@ -72,6 +72,9 @@ w0 collect # = > pages 0
 #=> ok
 ";
 
+const WARNED: &str =
+    "warning: slips: line 2 states nothing: an answer stands behind `# =>` (such lines: 3)\n";
+
 /// A file's name that breaks a line, drives a terminal and turns the direction of writing.
 const NAMED: &str = "ev\nil\u{1b}[31m\u{202e}.t";
 
@@ -165,7 +168,7 @@ static ENDINGS: [Row; 7] = [
         &["test", "policy", "slips"],
         Status::Done,
         "slips: expected 1 differ 0\ntraces 1 differ 0\n",
-        "warning: slips: line 2 states nothing: an answer stands behind `# =>` (such lines: 3)\n",
+        WARNED,
     ),
     // Warnings go before the line of a fault.
     (
@@ -189,7 +192,7 @@ fn lines_state_their_answers(rt: HostRuntime) {
     end_each(&rt, rt.alloc(), &ENDINGS);
 }
 
-static FAULTS: [Row; 9] = [
+static FAULTS: [Row; 10] = [
     (
         &["test", "right", "wrong"],
         Status::BadPolicy,
@@ -238,6 +241,13 @@ static FAULTS: [Row; 9] = [
         Status::Failed,
         "",
         "read fault\n",
+    ),
+    // What is warned of in the traces before stands before the line of a fault.
+    (
+        &["test", "policy", "silent", "none"],
+        Status::Failed,
+        "",
+        "warning: silent: no line states an answer\nread fault\n",
     ),
     // All files are read before a fault of one is told.
     (
@@ -312,4 +322,29 @@ fn tests_refused_in_turn(rt: HostRuntime) {
         assert!(&rt; out.len() == 0);
         assert!(&rt; err.as_slice() == b"no memory\n".as_slice());
     }
+}
+
+/// A trace that is warned of: the same, and its warning, or want of memory and nothing written.
+#[test]
+fn warnings_refused_in_turn(rt: HostRuntime) {
+    let mut out = Held::new();
+    let mut err = Held::new();
+    let status = ended(
+        &rt,
+        rt.alloc(),
+        &["test", "policy", "slips"],
+        &mut out,
+        &mut err,
+    );
+    if status == Status::Done {
+        assert!(&rt;
+            out.as_slice() == b"slips: expected 1 differ 0\ntraces 1 differ 0\n".as_slice()
+        );
+        assert!(&rt; err.as_slice() == WARNED.as_bytes());
+        return;
+    }
+    assert!(&rt; status == Status::Failed);
+    assert!(&rt; out.len() == 0);
+    // all may have been tested, and the text of the test refused
+    assert!(&rt; err.as_slice().ends_with(b"no memory\n"));
 }

@@ -149,7 +149,12 @@ fn job_words(rt: HostRuntime) {
 }
 
 /// Refusals of a flag, whole: no tip says how to pass it as the name of a file.
-static NO_FLAGS: [(&[&str], &str); 3] = [
+static NO_FLAGS: [(&[&str], &str); 4] = [
+    (
+        &["show", "--a\nb"],
+        "err\nerror: unexpected argument '--a\nb' found\n\nUsage: heapguard show <POLICY>\n\n\
+         For more information, try '--help'.\n",
+    ),
     (
         &["show", "--json"],
         "err\nerror: unexpected argument '--json' found\n\nUsage: heapguard show <POLICY>\n\n\

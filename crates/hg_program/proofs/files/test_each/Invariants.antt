@@ -1,13 +1,14 @@
 use Rattle.std.proofs.Common.{◌≡◌, ◌≤◌, take}
-use Rattle.hg_program.specs.Ends.{AreUnwarned}
-use Rattle.hg_program.proofs.Tested.{StandOf, texts}
+use Rattle.hg_program.specs.Ends.{StandOf}
+use Rattle.hg_program.proofs.Tested.{texts}
 use Rattle.hg_program.proofs.files.test_each.Given as goal
 
 -- the traces of the names so far stand so
 abbrev pub invariant-loop-name : goal.invariant-loop-name
 invariant-loop-name g l = record {
-  stands : StandOf (g.H.Host.holds l.host) l.policy (texts (take l.name-index l.names)) l.tests;
-  quiet : AreUnwarned (g.H.Host.holds l.host) l.policy (texts l.names) → l.err ≡ l.fn.err;
+  stands :
+      StandOf (g.H.Host.holds l.host) l.policy (texts (take l.name-index l.names)) l.tests
+      (l.err ≡ l.fn.err);
   traces : l.tests.summary.traces ≤ l.name-index;
   differ : l.tests.summary.differ ≤ l.name-index;
 }
