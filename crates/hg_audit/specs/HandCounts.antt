@@ -1,4 +1,4 @@
--- In how many hands places are.
+-- In how many hands places are, and what an audit knows when it asks for places.
 use Rattle.std.specs.Prelude.{◌≡◌, ℕ, ◌<◌, ◌*◌, ◌+◌, List, Option, None, Some, length, count_by}
 use Rattle.std.specs.Prelude.{slice_index, slice_set}
 use Rattle.hg_place.specs.declared.geometry.TheConstants.{SEGMENT_PLACES}
@@ -20,11 +20,12 @@ abbrev pub with_hand : List ℕ → Option ℕ → List ℕ
 with_hand counts None = counts
 with_hand counts (Some place) = slice_set counts place (slice_index counts place + 1)
 
--- an audit asks for a place of a segment of the policy, when it has counted the hands and segments
--- and remote lists keep what they promise
+-- what an audit knows when it asks for places of a segment: the parts are complete, segments and
+-- remote lists keep what they promise, the policy has the segment, and the hands are counted
 pub record IsAsked (handed : Handed) (counts : List ℕ) (segment : ℕ) : Type 0 where
   pub complete : IsComplete handed
   pub segments : AreSegmentsRight (parts_in handed)
   pub remotes : AreRemotesRight (parts_in handed)
   pub within : segment < length handed.policy.segments
-  pub counts_are : AreHandCounts (hands_in handed.hands.items) (length handed.policy.segments) counts
+  pub counts_are :
+      AreHandCounts (hands_in handed.hands.items) (length handed.policy.segments) counts
