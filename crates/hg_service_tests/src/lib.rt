@@ -22,7 +22,7 @@ mod memory;
 #[cfg(test)]
 mod parts;
 #[cfg(test)]
-mod rows;
+mod rows_on_service;
 #[cfg(test)]
 mod sending;
 #[cfg(test)]

@@ -1,14 +1,16 @@
-//! Closing where the process has no memory left, as under a limit of its address space, which
-//! tools/refusals sets and then looks for the line below. With ample memory it is told what else is
-//! wrong.
+//! Closing, and an audit, where the process has no memory left, as under a limit of its address
+//! space, which tools/refusals sets and then looks for the line below. With ample memory it is told
+//! what else is wrong.
 
 ghost use Rattle.std.specs.Prelude.{◌≡◌, length};
+ghost use Rattle.hg_audit.specs.Handed.{IsComplete};
 ghost use Rattle.hg_table.specs.Named.{table_of};
 
 use crate::services::{DOCUMENT, MAIN, made};
 use hg_close::CloseFault;
+use hg_core::{AuditFault, Core, Parts};
 use hg_machine::Answer;
-use hg_policy::Policy;
+use hg_policy::{Policy, read_policy};
 use hg_service::{CallerLocked, Service, Unclosed, UnclosedParts};
 use hg_table::LifeTable;
 use hg_worker::ServiceName;
@@ -161,4 +163,45 @@ fn memory_before_who_is_out_where_used_up(rt: HostRuntime) {
 #[test]
 fn memory_before_what_is_held_where_used_up(rt: HostRuntime) {
     tried(&rt, rt.alloc(), true);
+}
+
+/// The fault that an audit tells of parts, which come back.
+fn fault_of<R: Abort>(rt: &R, alloc: Global, parts: Parts) -> (Parts, AuditFault)
+    requires { IsComplete parts }
+    ensures { result.0 ≡ parts }
+{
+    match Core::audit(alloc, parts) {
+        Ok(core) => {
+            drop(core);
+            panic!(rt; "no fault")
+        }
+        Err(refused) => refused,
+    }
+}
+
+/// Of a core's parts without segment 0 an audit asks for memory before it tells of that.
+fn audited<R: Abort + Print>(rt: &R, alloc: Global, core: Core) {
+    let mut parts = core.into_parts();
+    drop(parts.pool.pick(0));
+    let mut pieces = Vec::with_capacity(alloc, SIZES * PIECES).expect(rt, "memory");
+    let is_used_up = is_used_up(rt, alloc, &mut pieces);
+    let (parts, why) = fault_of(rt, alloc, parts);
+    drop(pieces);
+    if is_used_up {
+        assert_eq!(rt; why, AuditFault::Memory);
+        println!(rt; "memory was used up").expect(rt, "output");
+    } else {
+        assert_eq!(rt; why, AuditFault::Segment(0));
+    }
+    let (parts, why) = fault_of(rt, alloc, parts);
+    assert_eq!(rt; why, AuditFault::Segment(0));
+    drop(parts);
+}
+
+/// And an audit tells it before a segment that is missing.
+#[test]
+fn memory_before_what_is_missing_where_used_up(rt: HostRuntime) {
+    let policy = read_policy(rt.alloc(), DOCUMENT.as_bytes()).expect(&rt, "a policy");
+    let core = Core::open(rt.alloc(), policy).expect(&rt, "memory");
+    audited(&rt, rt.alloc(), core);
 }

@@ -2,7 +2,7 @@
 
 use crate::calls::{block, frees};
 use crate::services::{ALICE, DOCUMENT, Service, Trial, tried};
-use hg_machine::Answer;
+use hg_machine::{Answer, Row};
 use hg_place::{Handle, Place};
 use hg_worker::{ServiceName, Worker};
 use std::alloc::Global;
@@ -21,9 +21,16 @@ fn beyond() -> Handle {
     }
 }
 
-/// The holder sees that a block lives.
-fn is_listed<N: ServiceName>(rt: &impl Abort, worker: &mut Worker<N>, x: Handle) {
-    assert!(rt; matches!(worker.look(ALICE, x.place), Answer::Listed(_)));
+/// The holder lists one block of alice's, this one.
+fn is_listed<N: ServiceName>(rt: &impl Abort, alloc: Global, worker: &mut Worker<N>, x: Handle) {
+    let rows = [Row {
+        handle: x,
+        owner: ALICE.0,
+        bytes: 24,
+    }];
+    let listed = worker.list(alloc, ALICE).expect(rt, "a listing");
+    assert_eq!(rt; listed.as_slice(), rows.as_slice());
+    drop(listed);
 }
 
 /// The word that two workers see where they meet.
@@ -38,9 +45,14 @@ fn see<N: ServiceName>(
 }
 
 /// A worker's block is freed by another: both see the word where they meet, whoever calls.
-fn met<N: ServiceName>(rt: &impl Abort, worker: &mut Worker<N>, other: &mut Worker<N>) {
+fn met<N: ServiceName>(
+    rt: &impl Abort,
+    alloc: Global,
+    worker: &mut Worker<N>,
+    other: &mut Worker<N>,
+) {
     let x = block(rt, worker, ALICE, 24);
-    is_listed(rt, worker, x);
+    is_listed(rt, alloc, worker, x);
     see(rt, worker, other, x, 0x0000_0001_0000_0001);
     frees(rt, other, ALICE, x, Answer::Parted);
     see(rt, worker, other, x, 0x0000_0001_0000_0000);
@@ -53,10 +65,10 @@ fn met<N: ServiceName>(rt: &impl Abort, worker: &mut Worker<N>, other: &mut Work
 struct Meeting;
 
 impl Trial for Meeting {
-    fn go<N: ServiceName, R: Abort>(&self, rt: &R, _alloc: Global, all: &mut Service<N>) {
+    fn go<N: ServiceName, R: Abort>(&self, rt: &R, alloc: Global, all: &mut Service<N>) {
         all.begin(rt);
         let (worker, other) = all.two(rt, 0, 1);
-        met(rt, worker, other);
+        met(rt, alloc, worker, other);
     }
 }
 

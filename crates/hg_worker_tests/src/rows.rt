@@ -111,6 +111,7 @@ fn hand_is_not_taken(rt: HostRuntime) {
         (1, free(ALICE, x), Answer::Parted),
         (0, abandon(0), Answer::Done),
         (1, refill(MAIN), Answer::Refilled(0)),
+        (1, take(0), Answer::Taken(0)),
         (1, Event::Deliver, Answer::Done),
         (1, take(0), Answer::Taken(1)),
         (0, take(0), Answer::NotHeld),

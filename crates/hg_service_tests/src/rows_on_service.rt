@@ -16,6 +16,22 @@ use std::sync::Wait;
 /// An event of a worker, and what it answers.
 type Row = (u8, Event, Answer);
 
+/// The first life of a place of the first page of a segment.
+fn first_life(segment: u8, index: u16) -> Handle
+    requires segment { segment < 64 }
+    requires index { index < 512 }
+{
+    let place = Place {
+        segment,
+        page: 0,
+        index,
+    };
+    Handle {
+        place,
+        generation: 1,
+    }
+}
+
 /// A life of the first place of a page of segment 0.
 fn life(page: u8, generation: u32) -> Handle
     requires page { page < 16 }
@@ -95,6 +111,7 @@ fn hand_is_not_taken(rt: HostRuntime) {
         (1, free(ALICE, x), Answer::Parted),
         (0, abandon(0), Answer::Done),
         (1, refill(MAIN), Answer::Refilled(0)),
+        (1, take(0), Answer::Taken(0)),
         (1, Event::Deliver, Answer::Done),
         (1, take(0), Answer::Taken(1)),
         (0, take(0), Answer::NotHeld),
@@ -123,28 +140,66 @@ fn parted_block_counts_in_charge(rt: HostRuntime) {
 /// What is sent goes to the list of its own segment, and is taken in by that segment's holder.
 #[test]
 fn each_segment_has_its_list(rt: HostRuntime) {
-    let place = Place {
-        segment: 1,
-        page: 0,
-        index: 0,
-    };
-    let y = Handle {
-        place,
-        generation: 1,
-    };
+    let x = first_life(0, 0);
+    let y = first_life(1, 0);
     let rows = [
         (0, refill(MAIN), Answer::Refilled(0)),
         (1, refill(MAIN), Answer::Refilled(1)),
         (1, alloc(ALICE, 24), Answer::Block(y)),
-        (0, alloc(ALICE, 24), Answer::Block(life(0, 1))),
+        (0, alloc(ALICE, 24), Answer::Block(x)),
         (0, free(ALICE, y), Answer::Parted),
         (0, Event::Deliver, Answer::Done),
         (0, take(0), Answer::Taken(0)),
         (1, take(1), Answer::Taken(1)),
-        (1, free(ALICE, life(0, 1)), Answer::Parted),
+        (1, free(ALICE, x), Answer::Parted),
         (1, Event::Deliver, Answer::Done),
         (1, take(1), Answer::Taken(0)),
         (0, take(0), Answer::Taken(1)),
+    ];
+    answers_are(&rt, rt.alloc(), &rows);
+}
+
+/// Of three blocks the second and the third are freed elsewhere: each comes home once it was sent,
+/// neither while it is in the hand, and the first lives on.
+#[test]
+fn what_was_sent_comes_home(rt: HostRuntime) {
+    let (x, y, z) = (first_life(0, 0), first_life(0, 1), first_life(0, 2));
+    let rows = [
+        (0, refill(MAIN), Answer::Refilled(0)),
+        (0, alloc(ALICE, 24), Answer::Block(x)),
+        (0, alloc(ALICE, 24), Answer::Block(y)),
+        (0, alloc(ALICE, 24), Answer::Block(z)),
+        (1, free(ALICE, y), Answer::Parted),
+        (0, take(0), Answer::Taken(0)),
+        (1, Event::Deliver, Answer::Done),
+        (1, free(ALICE, z), Answer::Parted),
+        (0, take(0), Answer::Taken(1)),
+        (1, Event::Deliver, Answer::Done),
+        (0, take(0), Answer::Taken(1)),
+        (0, take(0), Answer::Taken(0)),
+        (0, read(ALICE, x), Answer::Value(0)),
+        (0, read(ALICE, z), Answer::Denied(Rule::AlreadyFreed)),
+    ];
+    answers_are(&rt, rt.alloc(), &rows);
+}
+
+/// Two blocks of one segment are sent one after the other: no delivery takes away what was sent
+/// before, and both come home at once.
+#[test]
+fn what_was_sent_stays_on_its_list(rt: HostRuntime) {
+    let (x, y) = (first_life(1, 0), first_life(1, 1));
+    let rows = [
+        (0, refill(MAIN), Answer::Refilled(0)),
+        (1, refill(MAIN), Answer::Refilled(1)),
+        (1, alloc(ALICE, 24), Answer::Block(x)),
+        (1, alloc(ALICE, 24), Answer::Block(y)),
+        (0, free(ALICE, y), Answer::Parted),
+        (0, Event::Deliver, Answer::Done),
+        (0, free(ALICE, x), Answer::Parted),
+        (0, Event::Deliver, Answer::Done),
+        (0, take(0), Answer::Taken(0)),
+        (1, take(1), Answer::Taken(2)),
+        (1, Event::Collect, Answer::Pages(1)),
     ];
     answers_are(&rt, rt.alloc(), &rows);
 }
