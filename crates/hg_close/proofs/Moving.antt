@@ -5,7 +5,7 @@ use Rattle.std.proofs.lemmas.Option.{same_Some}
 use Rattle.hg_place.specs.declared.plain.PlainWords.{PlainWords}
 use Rattle.hg_place.specs.declared.standing.Standing.{Standing}
 use Rattle.hg_place.specs.Plain.{plain_records}
-use Rattle.hg_segment.specs.Copies.{IsRewrapped}
+use Rattle.hg_segment.specs.Copies.{Copies, IsRewrapped}
 use Rattle.hg_segment.specs.Kept.{Kept}
 use Rattle.hg_segment.specs.Parted.{plain_number}
 use Rattle.hg_pool.specs.Moving.{CopiedIn, AreForFirst, IsMoved}
@@ -78,7 +78,7 @@ module _ {S : Type 0} (number : S → ℕ) where
     }
 
     pub has_moved : (new : Pooled S) (to to' : Pooled PlainWords) → IsRight number old
-        → IsMoved number copy mid new to to' → HasMoved number records n old new to to'
+        → IsMoved number copy mid new to to' → HasMoved number records shows steps n old new to to'
     has_moved new to to' right moved =
         let same : moved.one ≡ copied.after =
         same_Some moved.one copied.after (sym moved.first ∙ after_first) in
@@ -92,6 +92,11 @@ module _ {S : Type 0} (number : S → ℕ) where
           plain = record {
             number_is = ap plain_number slots ∙ copy_numbered ∙ sym before_numbered;
             records_are = ap plain_records slots ∙ copied.records_are;
+            blank = words;
+            last = copied.after.slots;
+            copied = subst (λ (to : PlainWords).
+                Copies records shows steps 8192 before.slots words copied.after.slots to)
+                (sym slots) copied.copied;
             rest = rest_of moved.now (subst (λ k. IsRewrapped k moved.now) same moved.rest);
           };
           left = moved.left

@@ -40,7 +40,8 @@ still_waits : (words : List (Option PlainWords)) (k n : ℕ) → k ≢ n → Has
 still_waits words k n ne has =
     (has.0, get_or-set_other words n k None None ne ∙ has.1, has.2)
 
-module _ {S : Type 0} (number : S → ℕ) (records : S → List Standing) (policy : Policy)
+module _ {S : Type 0} (number : S → ℕ) (records : S → List Standing)
+    (shows : S → ℕ → ℕ → Type 0) (steps : S → ℕ → ℕ → ℕ → S → Type 0) (policy : Policy)
     (start : Pooled S) where
   -- some segments of the start are in the pool still, with slot words ready, and the others are in
   -- the other pool, over plain words; each is as the policy has it
@@ -56,7 +57,7 @@ module _ {S : Type 0} (number : S → ℕ) (records : S → List Standing) (poli
         → Contains (all_in number pool) k ⊎ IsPooled plain_number to (number k.slots)
     pub over :
         (m : Kept PlainWords) → Contains (all_in plain_number to) m
-        → (k : Kept S) × Contains (all_in number start) k × IsPlainOf number records k m
+        → (k : Kept S) × Contains (all_in number start) k × IsPlainOf number records shows steps k m
     pub order :
         numbers plain_number to.orphans ++ numbers number pool.orphans
         ≡ numbers number start.orphans
@@ -78,7 +79,7 @@ module _ {S : Type 0} (number : S → ℕ) (records : S → List Standing) (poli
         (under.waiting m.0 c, under.apart m.0 c)
 
     -- at the end all are over
-    pub all_over : first_in pool ≡ None → AreOver number records start to
+    pub all_over : first_in pool ≡ None → AreOver number records shows steps start to
     all_over none =
         let empty : all_in number pool ≡ [] = begins_none (all_in number pool) none in
         record {
@@ -101,7 +102,7 @@ module _ {S : Type 0} (number : S → ℕ) (records : S → List Standing) (poli
 
   -- each segment of the policy then is there
   pub all_there : (to : Pooled PlainWords) (count : ℕ) → HasAll number start count
-      → AreOver number records start to → (n : ℕ) → n < count → IsPooled plain_number to n
+      → AreOver number records shows steps start to → (n : ℕ) → n < count → IsPooled plain_number to n
   all_there to count has over n lt =
       let s = standing number start n (has n lt) in
       subst (λ k. IsPooled plain_number to k) s.1 (over.there (has n lt).0 s.0)
@@ -134,7 +135,7 @@ module _ {S : Type 0} (number : S → ℕ) (records : S → List Standing) (poli
   module _ (n : ℕ) (pool new : Pooled S) (words words' : List (Option PlainWords))
       (to to' : Pooled PlainWords) (under : AreUnderway pool words to)
       (given : AreOf number policy (start.orphans ++ start.fresh))
-      (moved : HasMoved number records n pool new to to')
+      (moved : HasMoved number records shows steps n pool new to to')
       (right : IsRight plain_number to') (taken : words' ≡ slice_set words n None) where
     -- it stood first
     begun_at : (rest : List (Kept S)) × (all_in number pool ≡ moved.one ∷ rest)
@@ -278,7 +279,7 @@ module _ {S : Type 0} (number : S → ℕ) (records : S → List Standing) (poli
           (λ (e : moved.now ≡ m). (
             moved.one,
             under.from moved.one one_there,
-            subst (λ (j : Kept PlainWords). IsPlainOf number records moved.one j) e moved.plain,
+            subst (λ (j : Kept PlainWords). IsPlainOf number records shows steps moved.one j) e moved.plain,
           ))
           (λ (d : Contains (all_in plain_number to) m). under.over m d)
           (inserted moved.now m (all_in plain_number to) (all_in plain_number to') put c);

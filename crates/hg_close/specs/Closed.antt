@@ -40,10 +40,11 @@ pub record AreLost (policy : Policy) (place : Place) (parts : Parts) : Type 0 wh
   pub complete : IsComplete parts
   pub first : IsFirstPlace (parts_in parts) (number_of place)
 
-module _ {S : Type 0} (number : S → ℕ) (records : S → List Standing) where
+module _ {S : Type 0} (number : S → ℕ) (records : S → List Standing)
+    (shows : S → ℕ → ℕ → Type 0) (steps : S → ℕ → ℕ → ℕ → S → Type 0) where
   -- the core's segments are those of this pool, over plain words, and its remote lists are these
   pub record IsMadeOf (pool : Pooled S) (remotes : List Remote) (core : Kept) : Type 0 where
     pub parts : Core
-    pub over : AreOver number records pool parts.pool
+    pub over : AreOver number records shows steps pool parts.pool
     pub lists : parts.remotes ≡ remotes
     pub is : core ≡ kept_of (parts_of parts)

@@ -1,19 +1,25 @@
 -- Segments of a pool come over to another, of segments over plain words.
 use Rattle.std.specs.Prelude.{◌≡◌, ◌≢◌, ℕ, List, [], ◌∷◌, ◌++◌, Some, Contains}
 use Rattle.hg_lists.specs.Inserts.{Inserts}
+use Rattle.hg_place.specs.declared.geometry.TheConstants.{SEGMENT_PLACES}
 use Rattle.hg_place.specs.declared.plain.PlainWords.{PlainWords}
 use Rattle.hg_place.specs.declared.standing.Standing.{Standing}
 use Rattle.hg_place.specs.Plain.{plain_records}
-use Rattle.hg_segment.specs.Copies.{IsRewrapped}
+use Rattle.hg_segment.specs.Copies.{Copies, IsRewrapped}
 use Rattle.hg_segment.specs.Kept.{Kept}
 use Rattle.hg_segment.specs.Parted.{plain_number}
 use Rattle.hg_pool.specs.Pooled.{Pooled, IsPooled, IsRight, first_in, numbers, without_segment}
 
-module _ {S : Type 0} (number : S → ℕ) (records : S → List Standing) where
-  -- it is that segment over plain words: of its number, with its records, and else as it was
+module _ {S : Type 0} (number : S → ℕ) (records : S → List Standing)
+    (shows : S → ℕ → ℕ → Type 0) (steps : S → ℕ → ℕ → ℕ → S → Type 0) where
+  -- it is that segment over plain words: of its number, with its records, each word the one that a
+  -- look at its place showed, one place after the other, and else as it was
   pub record IsPlainOf (one : Kept S) (now : Kept PlainWords) : Type 0 where
     pub number_is : plain_number now.slots ≡ number one.slots
     pub records_are : plain_records now.slots ≡ records one.slots
+    pub blank : PlainWords
+    pub last : S
+    pub copied : Copies records shows steps SEGMENT_PLACES one.slots blank last now.slots
     pub rest : IsRewrapped one now
 
   -- the segment that stands first, of this number, stands in the other pool over plain words: behind

@@ -5,7 +5,7 @@ ghost use Rattle.std.specs.Prelude.{slice_set};
 ghost use Rattle.hg_pool.specs.Pooled.{IsPooled, IsRight, first_in};
 ghost use Rattle.hg_segment.specs.Parted.{plain_number};
 ghost use Rattle.hg_worker.specs.Missing.{HasAll};
-ghost use Rattle.hg_worker.specs.Seats.{number_in, records_in};
+ghost use Rattle.hg_worker.specs.Seats.{number_in, records_in, seat_shows, seat_steps};
 ghost use Rattle.hg_close.specs.Moved.{AreOver, HasMoved};
 ghost use Rattle.hg_close.specs.Rooms.{HasWords, IsUnfilled, IsFilled};
 
@@ -35,7 +35,8 @@ impl CloseRoom {
         requires room { IsUnfilled self.old }
         requires policy { self.old.parts.policy ≡ N.policy }
         requires all { HasAll number_in pool.old.pool (length N.policy.segments) }
-        ensures over { AreOver number_in records_in pool.old.pool self.new.parts.pool }
+        ensures over { AreOver number_in records_in seat_shows seat_steps pool.old.pool
+            self.new.parts.pool }
         ensures filled { IsFilled self.new }
         ensures lists { self.new.parts.remotes ≡ self.old.parts.remotes }
         ensures policy { self.new.parts.policy ≡ self.old.parts.policy }
@@ -51,8 +52,8 @@ impl CloseRoom {
             ≡ Some number }
         requires words { HasWords self.old.words.items number }
         requires new { ¬ IsPooled plain_number self.old.parts.pool number }
-        ensures moved { HasMoved number_in records_in number pool.old.pool pool.new.pool
-            self.old.parts.pool self.new.parts.pool }
+        ensures moved { HasMoved number_in records_in seat_shows seat_steps number pool.old.pool
+            pool.new.pool self.old.parts.pool self.new.parts.pool }
         ensures right { IsRight plain_number self.new.parts.pool }
         ensures words { self.new.words.items ≡ slice_set self.old.words.items number None }
         ensures rest { self.new ≡ record self.old {

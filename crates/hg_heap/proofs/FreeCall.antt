@@ -219,7 +219,7 @@ module _ {S : Type 0} {number : S → ℕ} {records : S → List Standing} {show
         others = lists_other number items found place.page one after page_change;
       }
 
-    changed : IsChangedAt number records one after (slot_of place)
+    pub changed : IsChangedAt number records one after (slot_of place)
     changed = record {
       number_kept = h.closed.same_number;
       classes = h.closed.fixed.classes;
@@ -229,7 +229,7 @@ module _ {S : Type 0} {number : S → ℕ} {records : S → List Standing} {show
       blocks = λ page index low small ne away. h.closed.blocks page index low small away;
     }
 
-    home_now : standing_at (records after.slots) (slot_of place) ≡ Home (word_generation word)
+    pub home_now : standing_at (records after.slots) (slot_of place) ≡ Home (word_generation word)
     home_now = ap (λ (rs : List Standing). standing_at rs (slot_of place)) h.closed.home
         ∙ get_or-set_at (records one.slots) (slot_of place) (slot_of place)
         (Home (word_generation word)) (Home 0) refl

@@ -34,6 +34,7 @@ pub mod ViewCharges
 pub mod AllocRooms
 pub mod AllocCall
 pub mod FreeCall
+pub mod FreedRecords
 pub mod CameBack
 pub mod TakeLoop
 pub mod TakingKept

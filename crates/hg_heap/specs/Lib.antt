@@ -23,6 +23,7 @@ pub mod Begun
 pub mod Ready
 pub mod Allotted
 pub mod Parting
+pub mod Records
 pub mod Opened
 pub mod HeapLaws
 pub mod Witnessed

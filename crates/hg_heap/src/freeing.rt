@@ -16,6 +16,7 @@ ghost use Rattle.hg_heap.specs.Keeping.{KeepsAll};
 ghost use Rattle.hg_heap.specs.Held.{is_held, lists_on, has_place, greatest_in, KeepsLists};
 ghost use Rattle.hg_heap.specs.Lists.{CameHome};
 ghost use Rattle.hg_heap.specs.Queues.{key_on};
+ghost use Rattle.hg_heap.specs.Records.{IsHomeAlone};
 ghost use Rattle.hg_heap.specs.Requeued.{requeued};
 ghost use Rattle.hg_heap.specs.Stays.{Looked, Closed};
 ghost use Rattle.hg_heap.specs.Ties.{HeapTies, Stepped, shown_at};
@@ -73,6 +74,8 @@ impl<S: SlotWords> Heap<S> {
             × Stepped S.number S.shows S.steps handle.place word word
             self.old.segments self.new.segments
             × IsJudged policy.now actor.0 Right.Free handle word (Some rule)) }
+        ensures records { OnOk result (IsHomeAlone S.number S.records handle self.old.segments
+            self.new.segments) }
         ensures kept { IfErr result (λ refused.
             KeepsAll S.number S.records self.old.segments self.new.segments) }
     {

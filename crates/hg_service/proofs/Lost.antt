@@ -5,7 +5,7 @@ use Rattle.hg_close.specs.Closed.{AreLost}
 use Rattle.hg_close.specs.Moved.{AreOver}
 use Rattle.hg_machine.specs.Policy.{Policy}
 use Rattle.hg_worker.specs.Missing.{HasAll}
-use Rattle.hg_worker.specs.Seats.{number_in, records_in}
+use Rattle.hg_worker.specs.Seats.{number_in, records_in, seat_shows, seat_steps}
 use Rattle.hg_service.specs.declared.caller_locked.CallerLocked.{CallerLocked}
 use Rattle.hg_service.specs.declared.unclosed.UnclosedParts.{UnclosedParts}
 use Rattle.hg_service.specs.declared.unclosed.UnclosedParts.TheVariants as parts
@@ -18,7 +18,7 @@ pub unclosed_as : {N : _} {own : _} {table : _} {policy : Policy} (given : Calle
     (made : Parts) (left : UnclosedParts N own table) → made.policy ≡ policy
     → HasAll number_in given.pool.pool (length policy.segments)
     → AreBack given.workers.items policy.workers
-    → AreOver number_in records_in given.pool.pool made.pool
+    → AreOver number_in records_in seat_shows seat_steps given.pool.pool made.pool
     → AreListsOf given.lists.items (length policy.segments) made.remotes.items
     → IsLostOf made left → AreUnclosed policy given left
 unclosed_as given made (parts.Running same why) of all back over lists is = absurd is
@@ -27,7 +27,7 @@ unclosed_as {policy = policy} given made (parts.Lost place lost) of all back ove
       subst (λ policy. AreLost policy place lost) of is.0,
       all,
       back,
-      subst (λ (lost : Parts). AreOver number_in records_in given.pool.pool lost.pool) same over,
+      subst (λ (lost : Parts). AreOver number_in records_in seat_shows seat_steps given.pool.pool lost.pool) same over,
       subst (λ (lost : Parts). AreListsOf given.lists.items (length policy.segments)
           lost.remotes.items) same lists,
     )

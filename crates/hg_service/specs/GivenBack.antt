@@ -5,7 +5,7 @@ use Rattle.hg_close.specs.Closed.{IsMadeOf}
 use Rattle.hg_machine.specs.Lists.{Kept}
 use Rattle.hg_machine.specs.Policy.{Policy}
 use Rattle.hg_remote.specs.Remote.{Remote, nothing_sent}
-use Rattle.hg_worker.specs.Seats.{number_in, records_in}
+use Rattle.hg_worker.specs.Seats.{number_in, records_in, seat_shows, seat_steps}
 use Rattle.hg_service.specs.declared.caller_locked.CallerLocked.{CallerLocked}
 use Rattle.hg_service.specs.declared.kept_list.KeptList.{KeptList}
 
@@ -32,4 +32,4 @@ module _ {N : _} {own : _} {table : _} where
       : Type 0 where
     pub remotes : List Remote
     pub lists : AreListsOf parts.lists.items (length policy.segments) remotes
-    pub made : IsMadeOf number_in records_in parts.pool.pool remotes core
+    pub made : IsMadeOf number_in records_in seat_shows seat_steps parts.pool.pool remotes core

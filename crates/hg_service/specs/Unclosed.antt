@@ -11,7 +11,7 @@ use Rattle.hg_close.specs.declared.fault.CloseFault.{CloseFault}
 use Rattle.hg_close.specs.declared.fault.CloseFault.TheVariants as fault
 use Rattle.hg_worker.specs.declared.worker.Worker.{Worker as Own}
 use Rattle.hg_worker.specs.Missing.{HasAll, IsFirstMissing}
-use Rattle.hg_worker.specs.Seats.{number_in, records_in}
+use Rattle.hg_worker.specs.Seats.{number_in, records_in, seat_shows, seat_steps}
 use Rattle.hg_service.specs.declared.caller_locked.CallerLocked.{CallerLocked}
 use Rattle.hg_service.specs.declared.service.Service.{Service}
 use Rattle.hg_service.specs.declared.unclosed.Unclosed.{Unclosed}
@@ -46,7 +46,7 @@ module _ {N : _} {own : _} {table : _} (policy : Policy) where
   AreUnclosed old (parts.Lost place lost) =
       AreLost policy place lost × HasAll number_in old.pool.pool (length policy.segments)
       × AreBack old.workers.items policy.workers
-      × AreOver number_in records_in old.pool.pool lost.pool
+      × AreOver number_in records_in seat_shows seat_steps old.pool.pool lost.pool
       × AreListsOf old.lists.items (length policy.segments) lost.remotes.items
 
   -- a segment or a worker of the policy, and one that was taken. What stands behind locks no clause

@@ -122,7 +122,7 @@ impl<N: ServiceName> CallerLocked<N> {
     {
         for kept in self.lists.iter_mut() {
             if kept.segment < self.policy.segments() {
-                room.take_list(kept.segment, &mut kept.list);
+                kept.go_over(room, kept.segment);
             }
         }
     }

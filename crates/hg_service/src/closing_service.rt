@@ -91,7 +91,7 @@ impl<N: ServiceName> Service<N> {
         for segment in 0..self.policy.segments() {
             let mut kept = shared.lists[usize::from(segment)].lock(rt);
             let kept = &mut *kept;
-            room.take_list(segment, &mut kept.list);
+            kept.go_over(room, segment);
         }
     }
 }

@@ -47,7 +47,7 @@ impl<N: ServiceName> Worker<N> {
         let shared = &self.shared;
         let mut kept = shared.lists[usize::from(place.segment)].lock(rt);
         let kept = &mut *kept;
-        self.own.deliver_to(&mut kept.list)
+        kept.receive(&mut self.own)
     }
 
     /// Takes in what was sent to a segment that the worker holds. `NotHeld`, without a lock, where
@@ -68,7 +68,7 @@ impl<N: ServiceName> Worker<N> {
         let shared = &self.shared;
         let mut kept = shared.lists[usize::from(segment)].lock(rt);
         let kept = &mut *kept;
-        self.own.take_from(segment, &mut kept.list)
+        kept.drain(&mut self.own, segment)
     }
 
     /// Takes the oldest orphan of an arena, or else its lowest fresh segment. `NoSegment` where the

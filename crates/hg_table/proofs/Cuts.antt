@@ -1,19 +1,22 @@
 -- Splits and joins keep the life rule.
 use Rattle.std.proofs.Common.{◌≡◌, ◌≢◌, ◌⊎◌, ℕ, zero, suc, ◌+◌, ◌<◌, List, [], ◌∷◌, ◌++◌, map, take, drop, length, get_or, set, sym, refl, ap, ◌∙◌, subst, inl, inr, ⊎_elim, arith, length-take, length-drop, get_or-take, get_or-drop}
 use mathlib.Core.Option.{some, some-injective, some-ne-none}
+use mathlib.Core.Logic.{dite}
+use native.Mathlib.Decide.{ℕ_discrete}
 use lib.ListN.{get_elem?}
 use Rattle.atomic_table.specs.Table.{Splits, Joins}
-use Rattle.atomic_table.proofs.Lists.{at_set, set_else}
+use Rattle.atomic_table.proofs.Lists.{at_set, set_else, at_longer, at_last}
 use Rattle.hg_place.specs.declared.standing.Standing.{Standing}
 use Rattle.hg_place.specs.declared.standing.Standing.TheVariants.{Home}
 use Rattle.hg_place.specs.declared.geometry.TheConstants.{SEGMENT_PLACES}
 use Rattle.hg_place.specs.Standings.{standing_at, Fits}
 use Rattle.hg_table.specs.declared.view.Part.{Part}
-use Rattle.hg_table.specs.View.{View, Table, Has, blank, part_of, first_records, later_records}
+use Rattle.hg_table.specs.View.{View, Table, Has, IsSeen, IsEnded, seats_of, all_seats, blank, part_of, first_records, later_records, giving}
 use Rattle.hg_table.specs.LifeRule.{LifeRule}
 use Rattle.hg_table.specs.Told.{AreApart}
 use Rattle.hg_table.specs.Steps.{Cut, second_part, first_segment, nothing, kept_by, given_by, MayCut}
 use Rattle.hg_table.proofs.Knowing.{Knows, known}
+use Rattle.hg_table.proofs.Counted.{set_hit, seats_set, seats_more}
 
 -- b knows no more than a, and its records are records of a
 pub record From (a b : Part) : Type 0 where
@@ -31,15 +34,30 @@ knows_less ws a b f k = record {
   recorded = λ n l. let t = f.recorded n l in subst (λ (x : Standing). Fits x (get_or ws (b.first + n) 0)) (sym t.3) (subst (λ (x : ℕ). Fits (standing_at a.records t.0) (get_or ws x 0)) t.2 (k.recorded t.0 t.1));
 }
 
+-- all that a part has seen and ended some part has
+pub record Keeps (a b : Part) : Type 0 where
+  pub seen : (k p w : ℕ) → get_elem? a.seen k ≡ some (p, w) → (l : ℕ) × (get_elem? b.seen l ≡ some (p, w))
+  pub ended : (k p g : ℕ) → get_elem? a.ended k ≡ some (p, g) → (l : ℕ) × (get_elem? b.ended l ≡ some (p, g))
+
+pub keeps_itself : (a : Part) → Keeps a a
+keeps_itself a = record { seen = λ k p w e. (k, e); ended = λ k p g e. (k, e) }
+
+abbrev pub Stands : List View → Part → Type 0
+Stands views a = (i : ℕ) × (j : ℕ) × (b : Part) × Has views i j b × Keeps a b
+
 -- W i0 j0 i j b says how the part b, which stands at i, j now, came from one that stood at i0, j0
 module _ (n : ℕ) (s : Table) (r : LifeRule n s) (views' : List View) (W : ℕ → ℕ → ℕ → ℕ → Part → Type 0)
     (cases : (i j : ℕ) (b : Part) → Has views' i j b → (i0 : ℕ) × (j0 : ℕ) × (a : Part) × Has s.views i0 j0 a × From a b × W i0 j0 i j b)
-    (unique : (i0 j0 i j i' j' : ℕ) (a b : Part) → W i0 j0 i j a → W i0 j0 i' j' b → (¬ AreApart a b) → (i ≡ i') × (j ≡ j')) where
+    (unique : (i0 j0 i j i' j' : ℕ) (a b : Part) → W i0 j0 i j a → W i0 j0 i' j' b → (¬ AreApart a b) → (i ≡ i') × (j ≡ j'))
+    (onward : (i j : ℕ) (a : Part) → Has s.views i j a → Stands views' a) (counted : all_seats views' ≡ all_seats s.views) where
   still_known : (i j : ℕ) (b : Part) → Has views' i j b → Knows s.words b
   still_known i j b has = let o = cases i j b has in knows_less s.words o.2 b o.4 (known n s r o.0 o.1 o.2 o.3)
 
   pub reshaped : LifeRule n record { words = s.words; homes = s.homes; views = views' }
   reshaped = record {
+    words_are_seen = λ q there. let x = r.words_are_seen q there in let t = onward x.0 x.1 x.3 x.4 in let l = t.4.seen x.2 q (get_or s.words q 0) x.5 in (t.0, t.1, l.0, t.2, t.3, l.1);
+    over_is_ended = λ q g one over. let x = r.over_is_ended q g one over in let t = onward x.0 x.1 x.3 x.4 in let l = t.4.ended x.2 q g x.5 in (t.0, t.1, l.0, t.2, t.3, l.1);
+    seats = counted ∙ r.seats;
     all_words = r.all_words;
     spare = r.spare;
     well_formed = r.well_formed;
@@ -68,7 +86,8 @@ apart_flips : (a b : Part) → AreApart a b → AreApart b a
 apart_flips a b x = record { ended = λ k l p g e f. x.ended l k p g f e; records = λ k l m m' e. x.records l k m' m (sym e) }
 
 -- the view is cut in the part x, which is from its part l, and the part y, which is from its part m
-module _ (n id : ℕ) (view : View) (x y a a' : Part) (l m : ℕ) (al : get_elem? view l ≡ some a) (am : get_elem? view m ≡ some a') (fx : From a x) (fy : From a' y) (apart : AreApart x y) where
+module _ (n id : ℕ) (view : View) (x y a a' : Part) (l m : ℕ) (al : get_elem? view l ≡ some a) (am : get_elem? view m ≡ some a') (fx : From a x) (fy : From a' y) (apart : AreApart x y)
+    (stays : (j : ℕ) (b : Part) → get_elem? view j ≡ some b → Keeps b x ⊎ Keeps b y) (shared : seats_of view ≡ seats_of (x ∷ []) + seats_of (y ∷ [])) where
   pub splits : Splits (LifeRule n) id view (x ∷ []) (y ∷ [])
   splits s r at =
       let one : List View = set s.views id (x ∷ []) in let views' : List View = one ++ (y ∷ []) ∷ [] in
@@ -98,6 +117,12 @@ module _ (n id : ℕ) (view : View) (x y a a' : Part) (l m : ℕ) (al : get_elem
       (λ (t' : Left i0 j0 i' j' c). absurd (t.0 t'.0))
       (⊎_elim (λ (t' : Right i0 j0 i' j' c). absurd (t.0 t'.0)) (λ (t' : Other i0 j0 i' j' c). (t.1 ∙ sym t'.1, t.2 ∙ sym t'.2))) w'))
       w)
+      (λ i j b has. dite (ℕ_discrete i id)
+      (λ (is : i ≡ id). let mine : get_elem? view j ≡ some b = subst (λ (z : View). get_elem? z j ≡ some b) (some-injective has.0 view (sym has.1 ∙ (ap (get_elem? s.views) is ∙ at))) has.2 in ⊎_elim
+      (λ (k : Keeps b x). (id, 0, x, (x ∷ [], at_longer one ((y ∷ []) ∷ []) id (x ∷ []) (set_hit s.views id view (x ∷ []) at), refl), k))
+      (λ (k : Keeps b y). (length one, 0, y, (y ∷ [], at_last one (y ∷ []) (length one) refl, refl), k)) (stays j b mine))
+      (λ (not : i ≢ id). (i, j, b, (has.0, at_longer one ((y ∷ []) ∷ []) i has.0 (set_else s.views id i (x ∷ []) not ∙ has.1), has.2), keeps_itself b)))
+      (let put = seats_set s.views id view (x ∷ []) at in let more = seats_more one (y ∷ []) in omega arith)
 
 -- a seat takes in another's one part
 at_two : (x y b : Part) (j : ℕ) → get_elem? (x ∷ y ∷ []) j ≡ some b → ((j ≡ 0) × (x ≡ b)) ⊎ ((j ≡ 1) × (y ≡ b))
@@ -139,6 +164,14 @@ module _ (n id other : ℕ) (x y : Part) where
       (λ (t' : Left i0 j0 i' j' c). absurd (t.0.0 t'.0))
       (⊎_elim (λ (t' : Right i0 j0 i' j' c). absurd (t.0.1 t'.0)) (λ (t' : Other i0 j0 i' j' c). (t.1 ∙ sym t'.1, t.2 ∙ sym t'.2))) w'))
       w)
+      (λ i j b has. dite (ℕ_discrete i id)
+      (λ (is : i ≡ id). let mine : get_elem? (x ∷ []) j ≡ some b = subst (λ (z : View). get_elem? z j ≡ some b) (some-injective has.0 (x ∷ []) (sym has.1 ∙ (ap (get_elem? s.views) is ∙ at))) has.2 in
+      let o = at_one x b j mine in (id, 0, x, (x ∷ y ∷ [], set_else one other id [] (λ e. differ (sym e)) ∙ set_hit s.views id (x ∷ []) (x ∷ y ∷ []) at, refl), subst (λ (z : Part). Keeps z x) o.1 (keeps_itself x)))
+      (λ (not : i ≢ id). dite (ℕ_discrete i other)
+      (λ (is : i ≡ other). let mine : get_elem? (y ∷ []) j ≡ some b = subst (λ (z : View). get_elem? z j ≡ some b) (some-injective has.0 (y ∷ []) (sym has.1 ∙ (ap (get_elem? s.views) is ∙ theirs))) has.2 in
+      let o = at_one y b j mine in (id, 1, y, (x ∷ y ∷ [], set_else one other id [] (λ e. differ (sym e)) ∙ set_hit s.views id (x ∷ []) (x ∷ y ∷ []) at, refl), subst (λ (z : Part). Keeps z y) o.1 (keeps_itself y)))
+      (λ (far : i ≢ other). (i, j, b, (has.0, set_else one other i [] far ∙ (set_else s.views id i (x ∷ y ∷ []) not ∙ has.1), has.2), keeps_itself b))))
+      (let put = seats_set s.views id (x ∷ []) (x ∷ y ∷ []) at in let out = seats_set one other (y ∷ []) [] at' in omega arith)
 
 -- the parts of one view are apart
 pub are_apart : (n : ℕ) (s : Table) → LifeRule n s → (id : ℕ) (view : View) → get_elem? s.views id ≡ some view
@@ -169,19 +202,33 @@ module _ (size : ℕ) (a : Part) where
     records = λ k l lk ll e. let m = length-take size a.records in omega arith;
   }
 
+-- a view of one part, which keeps all that it knows
+module _ (n id : ℕ) (a x y : Part) (fx : From a x) (fy : From a y) (apart : AreApart x y) (keeps : Keeps a x) (shared : 1 + a.gives ≡ (1 + x.gives) + (1 + y.gives)) where
+  pub splits_one : Splits (LifeRule n) id (a ∷ []) (x ∷ []) (y ∷ [])
+  splits_one = splits n id (a ∷ []) x y a a 0 0 refl refl fx fy apart
+      (λ j b e. inl (subst (λ (z : Part). Keeps z x) (at_one a b j e).1 keeps))
+      (omega (arith, shared))
+
 -- each cut of a view
 pub cuts : (n id : ℕ) (cut : Cut) (view : View) → MayCut cut view → Splits (LifeRule n) id view (kept_by cut view) (given_by cut view)
 cuts n id second_part view may s r at =
     let apart : AreApart may.0 may.1 = are_apart n s r id view at 0 1 may.0 may.1 (ap (λ (z : View). get_elem? z 0) may.2) (ap (λ (z : View). get_elem? z 1) may.2) (λ z. omega arith) in
     subst (λ (z : View). Splits (LifeRule n) id z (take 1 z) (drop 1 z)) (sym may.2)
-    (splits n id (may.0 ∷ may.1 ∷ []) may.0 may.1 may.0 may.1 0 1 refl refl (whole may.0) (whole may.1) apart) s r at
-cuts n id first_segment view one s r at = let a : Part = part_of view in let size : ℕ = SEGMENT_PLACES in
-    subst (λ (z : View). Splits (LifeRule n) id z (map (later_records size) z) (map (first_records size) z)) (sym one)
-    (splits n id (a ∷ []) (later_records size a) (first_records size a) a a 0 0 refl refl (later_from size a) (first_from size a) (cut_apart size a)) s r at
-cuts n id nothing view one s r at = let a : Part = part_of view in subst (λ (z : View). Splits (LifeRule n) id z z (blank ∷ [])) (sym one)
-    (splits n id (a ∷ []) a blank a a 0 0 refl refl (whole a)
+    (splits n id (may.0 ∷ may.1 ∷ []) may.0 may.1 may.0 may.1 0 1 refl refl (whole may.0) (whole may.1) apart
+    (λ j b e. ⊎_elim (λ (t : (j ≡ 0) × (may.0 ≡ b)). inl (subst (λ (z : Part). Keeps z may.0) t.1 (keeps_itself may.0)))
+    (λ (t : (j ≡ 1) × (may.1 ≡ b)). inr (subst (λ (z : Part). Keeps z may.1) t.1 (keeps_itself may.1))) (at_two may.0 may.1 b j e))
+    (omega arith)) s r at
+cuts n id first_segment view may s r at = let a : Part = part_of view in let size : ℕ = SEGMENT_PLACES in let some_left = may.1 in
+    subst (λ (z : View). Splits (LifeRule n) id z (map (later_records size) z) (map (first_records size) z)) (sym may.0)
+    (splits_one n id a (later_records size a) (first_records size a) (later_from size a) (first_from size a) (cut_apart size a)
+    record { seen = λ k p w e. (k, e); ended = λ k p g e. (k, e) } (omega arith)) s r at
+cuts n id nothing view may s r at = let a : Part = part_of view in let some_left = may.1 in
+    subst (λ (z : View). Splits (LifeRule n) id z (map giving z) (blank ∷ [])) (sym may.0)
+    (splits_one n id a (giving a) blank
+    record { seen = λ k p w e. (k, e); ended = λ k p g e. (k, e); recorded = λ k l. (k, l, refl, refl) }
     record { seen = λ k p w e. absurd (some-ne-none (p, w) (sym e)); ended = λ k p g e. absurd (some-ne-none (p, g) (sym e)); recorded = λ k l. absurd (omega arith) }
-    record { ended = λ k l p g e f. some-ne-none (p, g) (sym f); records = λ k l lk ll e. absurd (omega arith) }) s r at
+    record { ended = λ k l p g e f. some-ne-none (p, g) (sym f); records = λ k l lk ll e. absurd (omega arith) }
+    record { seen = λ k p w e. (k, e); ended = λ k p g e. (k, e) } (omega arith)) s r at
 
 pub joins_as : (n id other : ℕ) (v w : View) → v ≡ part_of v ∷ [] → w ≡ part_of w ∷ [] → Joins (LifeRule n) id v other w (v ++ w) []
 joins_as n id other v w one one' = subst (λ (z : View × View). Joins (LifeRule n) id z.0 other z.1 (z.0 ++ z.1) []) (λ i. (sym one i, sym one' i)) (joins n id other (part_of v) (part_of w))

@@ -1,5 +1,5 @@
 -- The initial seat, and the seats that it is cut into.
-use Rattle.std.proofs.Common.{◌≡◌, ℕ, zero, suc, ◌+◌, ◌*◌, ◌<◌, List, [], ◌∷◌, ◌++◌, map, length, get_or, take, drop, replicate, sym, refl, ap, ◌∙◌, subst, arith, length-take, length-drop, get_or-take, get_or-drop, length-append, All}
+use Rattle.std.proofs.Common.{◌≡◌, ℕ, zero, suc, ◌+◌, ◌*◌, ◌<◌, ◌≤◌, List, [], ◌∷◌, ◌++◌, map, length, get_or, take, drop, replicate, sym, refl, ap, ◌∙◌, subst, arith, length-take, length-drop, get_or-take, get_or-drop, length-append, All}
 use Rattle.std.proofs.lemmas.List.{ext_get_or}
 use Rattle.std.proofs.Math.ListN.{length-replicate}
 use Rattle.std.proofs.Math.Seq.{get_or-append_seam}
@@ -13,7 +13,7 @@ use Rattle.hg_place.specs.declared.geometry.TheConstants.{SEGMENT_PLACES}
 use Rattle.hg_place.specs.Lives.{IsSlotWord}
 use Rattle.hg_place.specs.Standings.{standing_at, Fits, IsSane}
 use Rattle.hg_table.specs.declared.view.Part.{Part}
-use Rattle.hg_table.specs.View.{View, Has, part_of, initial_view, first_records, later_records}
+use Rattle.hg_table.specs.View.{View, Has, part_of, initial_part, initial_view, first_records, later_records}
 use Rattle.hg_table.specs.LifeRule.{LifeRule}
 use Rattle.hg_table.specs.Seats.{IsInitial, AreHome}
 use Rattle.hg_table.proofs.Knowing.{Knows}
@@ -28,7 +28,7 @@ home_everywhere (suc n) (suc k) = home_everywhere n k
 -- where all words are 0, the initial seat knows all places to be at home
 pub opens_table : (n : ℕ) (ws : List ℕ) → length ws ≡ n + 1 → ((i : ℕ) → get_or ws i 0 ≡ 0) → LifeRule n (opening ws [] (initial_view n))
 opens_table n ws wide zeros =
-    let a : Part = record { seen = []; ended = []; first = 1; records = replicate n (Home 0) } in
+    let a : Part = initial_part n in
     let only : (i j : ℕ) (b : Part) → Has (initial_view n ∷ []) i j b → (i ≡ 0) × (j ≡ 0) × (a ≡ b) = λ i j b has. let o = at_one (initial_view n) has.0 i has.1 in
     let p = at_one a b j (subst (λ (z : View). get_elem? z j ≡ some b) (sym o.1) has.2) in (o.0, p.0, p.1) in
     let knows : (i j : ℕ) (b : Part) → Has (initial_view n ∷ []) i j b → Knows ws b = λ i j b has. subst (Knows ws) (only i j b has).2 record {
@@ -46,6 +46,9 @@ opens_table n ws wide zeros =
       records_are_true = λ i j b has. (knows i j b has).recorded;
       ended_once = λ i j k i' j' k' p g x y hx hy ex ey. ((only i j x hx).0 ∙ sym (only i' j' y hy).0, (only i j x hx).1 ∙ sym (only i' j' y hy).1);
       one_view = λ i j k i' j' k' x y hx hy lx ly e. ((only i j x hx).0 ∙ sym (only i' j' y hy).0, (only i j x hx).1 ∙ sym (only i' j' y hy).1);
+      words_are_seen = λ p there. absurd (there (zeros p));
+      over_is_ended = λ p g one over. absurd (let none = zeros p in let low = over.0 in omega arith);
+      seats = refl;
     }
 
 pub is_initial : (n : ℕ) (v : View) → v ≡ initial_view n → IsInitial 0 n v
@@ -56,14 +59,15 @@ is_initial n v is = subst (IsInitial 0 n) (sym is) record {
   first = refl;
   left = length-replicate n (Home 0);
   home = home_everywhere n;
+  gives = refl;
 }
 
 -- what is left of the initial seat, and what the new seat has
-pub cut : (done rest : ℕ) (v left right : View) → IsInitial done (rest + SEGMENT_PLACES) v → left ≡ map (later_records SEGMENT_PLACES) v → right ≡ map (first_records SEGMENT_PLACES) v
+pub cut : (done rest : ℕ) (v left right : View) → IsInitial done (rest + SEGMENT_PLACES) v → 1 ≤ (part_of v).gives → left ≡ map (later_records SEGMENT_PLACES) v → right ≡ map (first_records SEGMENT_PLACES) v
     → IsInitial (done + 1) rest left
     × (right ≡ part_of right ∷ []) × ((part_of right).seen ≡ []) × ((part_of right).ended ≡ []) × ((part_of right).first ≡ done * SEGMENT_PLACES + 1) × (length (part_of right).records ≡ SEGMENT_PLACES)
-    × ((k : ℕ) → k < SEGMENT_PLACES → standing_at (part_of right).records k ≡ Home 0)
-cut done rest v left right f l r = let a : Part = part_of v in
+    × ((k : ℕ) → k < SEGMENT_PLACES → standing_at (part_of right).records k ≡ Home 0) × ((part_of right).gives ≡ 0)
+cut done rest v left right f some_left l r = let a : Part = part_of v in
     let le : left ≡ later_records SEGMENT_PLACES a ∷ [] = l ∙ ap (map (later_records SEGMENT_PLACES)) f.one in let re : right ≡ first_records SEGMENT_PLACES a ∷ [] = r ∙ ap (map (first_records SEGMENT_PLACES)) f.one in
     let wide = f.left in let base = f.first in
     let more : length (drop SEGMENT_PLACES a.records) ≡ rest = let e = length-drop SEGMENT_PLACES a.records in omega arith in
@@ -75,6 +79,7 @@ cut done rest v left right f l r = let a : Part = part_of v in
         first = omega arith;
         left = more;
         home = λ k. get_or-drop SEGMENT_PLACES a.records k (Home 0) ∙ f.home (SEGMENT_PLACES + k);
+        gives = let given = f.gives in omega arith;
       },
       subst (λ (z : View). z ≡ part_of z ∷ []) (sym re) refl,
       ap (λ (z : View). (part_of z).seen) re,
@@ -82,6 +87,7 @@ cut done rest v left right f l r = let a : Part = part_of v in
       ap (λ (z : View). (part_of z).first) re ∙ base,
       ap (λ (z : View). length (part_of z).records) re ∙ some_of,
       (λ k b. ap (λ (z : View). standing_at (part_of z).records k) re ∙ (get_or-take SEGMENT_PLACES a.records k (Home 0) b ∙ f.home k)),
+      ap (λ (z : View). (part_of z).gives) re,
     )
 
 -- two lists of records that say the same

@@ -1,4 +1,5 @@
 pub mod Knowing
+pub mod Counted
 pub mod Forward
 pub mod WordSteps
 pub mod Cuts

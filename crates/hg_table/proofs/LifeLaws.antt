@@ -1,17 +1,18 @@
 -- What holds of each table that steps lead to.
-use Rattle.std.proofs.Common.{◌≡◌, ℕ, zero, suc, ◌+◌, ◌-◌, ◌<◌, ◌==◌, if◌then◌else◌, Bool, List, get_or, replicate, sym, refl, ap, ◌∙◌, subst, arith, eq-eqb, ne_eqb}
+use Rattle.std.proofs.Common.{◌≡◌, ℕ, zero, suc, ◌+◌, ◌-◌, ◌<◌, ◌==◌, if◌then◌else◌, Bool, List, [], ◌∷◌, set, get_or, replicate, sym, refl, ap, ◌∙◌, subst, arith, eq-eqb, ne_eqb}
 use Rattle.std.proofs.Math.ListN.{length-replicate}
 use mathlib.Core.Logic.{dite}
 use mathlib.Core.Option.{some}
 use native.Mathlib.Decide.{ℕ_discrete}
 use lib.ListN.{get_elem?}
 use Rattle.atomic_table.proofs.Lists.{set_else}
-use Rattle.hg_place.specs.Lives.{IsAtOrBefore, IsLiveWord}
-use Rattle.hg_table.specs.View.{View, Table}
+use Rattle.hg_place.specs.Lives.{IsSlotWord, IsAtOrBefore, IsLiveWord}
+use Rattle.hg_table.specs.View.{View, Table, seats_of}
 use Rattle.hg_table.specs.LifeRule.{LifeRule}
 use Rattle.hg_table.specs.Steps.{WordStep, look, open_as, close_from, part_from, take_home, left_by, MayMake, Kind, at_word, split, join, Makes, Steps}
-use Rattle.hg_table.specs.LifeLaws.{new_table, LeadTo, none, next, StepsKeepTheRule, WordsGoForward, EndedStaysEnded, EndedByOneSeat, SeenIsNeverAhead, RecordsHold}
+use Rattle.hg_table.specs.LifeLaws.{SeatsAreShared, EndedBySomeSeat, WordsAreSeen, TheRuleGoesForward, new_table, LeadTo, none, next, StepsKeepTheRule, WordsGoForward, EndedStaysEnded, EndedByOneSeat, SeenIsNeverAhead, RecordsHold}
 use Rattle.hg_table.proofs.Knowing.{itself, between, over_after}
+use Rattle.hg_table.proofs.Counted.{seats_set, seats_more}
 use Rattle.hg_table.proofs.Forward.{word_at_set}
 use Rattle.hg_table.proofs.WordSteps.{freed_word_after, keeps_rule, opened_forward}
 use Rattle.hg_table.proofs.Cuts.{cuts, joins_as}
@@ -93,3 +94,37 @@ never_ahead places i j s t part to on has k at word e = let r = from_new places 
 
 pub hold : RecordsHold
 hold places i j s part to has = (from_new places s to).records_are_true i j part has
+
+pub by_some_seat : EndedBySomeSeat
+by_some_seat places at generation s to one over = (from_new places s to).over_is_ended at generation one over
+
+pub are_seen : WordsAreSeen
+are_seen places at s to there = (from_new places s to).words_are_seen at there
+
+-- the word of a place that was never given out is before each other
+never_given : (word : ℕ) → IsSlotWord word → IsAtOrBefore 0 word
+never_given word slot = (omega arith, λ same. let zero_is : word ≡ 0 = slot.2 (omega arith) in (omega arith, omega arith))
+
+pub rule_forward : TheRuleGoesForward
+rule_forward places at s t r r' kept = dite (ℕ_discrete (get_or s.words at 0) 0)
+    (λ zero_is. subst (λ (z : ℕ). IsAtOrBefore z (get_or t.words at 0)) (sym zero_is) (never_given (get_or t.words at 0) (r'.well_formed at)))
+    (λ there. let x = kept at (get_or s.words at 0) (r.words_are_seen at there) in r'.seen_is_past x.0 x.1 x.3 x.4 x.2 at (get_or s.words at 0) x.5)
+
+no_seats : (view : View) → seats_of view ≡ 0 → view ≡ []
+no_seats [] e = refl
+no_seats (part ∷ more) e = absurd (omega arith)
+
+pub are_shared : SeatsAreShared
+are_shared = record {
+  cut = λ places id s words view left right r here r'.
+      let put = seats_set s.views id view left here in
+      let more = seats_more (set s.views id left) right in
+      let before = r.seats in
+      let after = r'.seats in
+      omega arith;
+  come = λ places s words view r r'.
+      let more = seats_more s.views view in
+      let before = r.seats in
+      let after = r'.seats in
+      no_seats view (omega arith);
+}

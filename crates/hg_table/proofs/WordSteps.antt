@@ -1,27 +1,23 @@
 -- Each step at a word keeps the life rule.
-use Rattle.std.proofs.Common.{◌≡◌, ◌≢◌, ◌⊎◌, ℕ, zero, suc, ◌+◌, ◌-◌, ◌<◌, ◌≤◌, if◌then◌else◌, Bool, List, [], ◌∷◌, ◌++◌, map, length, get_or, set, sym, refl, ap, ◌∙◌, subst, inl, inr, ⊎_elim, arith, length-set, get_or-set_other, get_or-set_same, eq-eqb, ne_eqb}
+use Rattle.std.proofs.Common.{◌≡◌, ◌≢◌, ◌⊎◌, ℕ, zero, suc, ◌+◌, ◌-◌, ◌<◌, ◌≤◌, if◌then◌else◌, Bool, true, List, [], ◌∷◌, ◌++◌, map, length, get_or, set, sym, refl, ap, ◌∙◌, subst, inl, inr, ⊎_elim, arith, length-set, get_or-set_other, get_or-set_same, eq-eqb, ne_eqb}
 use Rattle.std.proofs.lemmas.Bool.{true≢false}
 use mathlib.Core.Logic.{dite}
 use mathlib.Core.Option.{some, some-injective, some-ne-none}
 use native.Mathlib.Decide.{ℕ_discrete}
 use lib.ListN.{get_elem?}
-use Rattle.atomic_table.proofs.Lists.{at_snoc}
+use Rattle.atomic_table.proofs.Lists.{at_snoc, at_longer, at_last, at_map}
 use Rattle.hg_place.specs.declared.standing.Standing.{Standing}
 use Rattle.hg_place.specs.declared.standing.Standing.TheVariants.{Home, Open}
 use Rattle.hg_place.specs.Lives.{word_generation, word_owner, word_life, IsSlotWord, IsLiveWord, IsAtOrBefore}
-use Rattle.hg_place.specs.Standings.{standing_at, standing_generation, Fits}
+use Rattle.hg_place.specs.Standings.{standing_at, standing_generation, is_home, Fits}
 use Rattle.hg_table.specs.declared.view.Part.{Part}
 use Rattle.hg_table.specs.View.{View, Table, HasRecord, saw, ending, recording, part_of}
 use Rattle.hg_table.specs.LifeRule.{LifeRule, IsOver}
 use Rattle.hg_table.specs.Steps.{WordStep, look, open_as, close_from, part_from, take_home, left_by, known_after, record_of, IsAlone, MayMake}
 use Rattle.hg_table.specs.Told.{IsShown, IsShownTo}
 use Rattle.hg_table.proofs.Knowing.{known, itself}
+use Rattle.hg_table.proofs.Counted.{map_at}
 use Rattle.hg_table.proofs.Forward.{Change, moved}
-
-pub map_at : {A B : Type 0} (f : A → B) (l : List A) (j : ℕ) (b : B) → get_elem? (map f l) j ≡ some b → (a : A) × (get_elem? l j ≡ some a) × (f a ≡ b)
-map_at f [] j b e = absurd (some-ne-none b (sym e))
-map_at f (x ∷ xs) zero b e = (x, refl, some-injective (f x) b e)
-map_at f (x ∷ xs) (suc j) b e = map_at f xs j b e
 
 pub pair_is : (a b c d : ℕ) → ◌≡◌ {A = ℕ × ℕ} (a, b) (c, d) → (a ≡ c) × (b ≡ d)
 pair_is a b c d e = (ap (λ (x : ℕ × ℕ). x.0) e, ap (λ (x : ℕ × ℕ). x.1) e)
@@ -79,10 +75,15 @@ open_fits w given = record {
 module _ (p u v : ℕ) (a : Part) (ended' : List (ℕ × ℕ)) (rs : List Standing) where
   change : length rs ≡ length a.records
       → ((k q g : ℕ) → get_elem? ended' k ≡ some (q, g) → ((p ≡ q) × (word_generation u ≡ g) × (word_life u ≡ 1) × IsOver g v) ⊎ ((l : ℕ) × (get_elem? a.ended l ≡ some (q, g))))
+      → ((k q g : ℕ) → get_elem? a.ended k ≡ some (q, g) → (l : ℕ) × (get_elem? ended' l ≡ some (q, g)))
       → ((k : ℕ) → k < length a.records → a.first + k ≡ p → Fits (standing_at rs k) v)
       → ((k : ℕ) → k < length a.records → a.first + k ≢ p → standing_at rs k ≡ standing_at a.records k)
-      → Change p u v a record { seen = a.seen ++ (p, v) ∷ []; ended = ended'; first = a.first; records = rs }
-  change wide ended here elsewhere = record {
+      → Change p u v a record { seen = a.seen ++ (p, v) ∷ []; ended = ended'; first = a.first; records = rs; gives = a.gives }
+  change wide ended still here elsewhere = record {
+    saw_it = (length a.seen, at_last a.seen (p, v) (length a.seen) refl);
+    seen_still = λ k q w e. (k, at_longer a.seen ((p, v) ∷ []) k (q, w) e);
+    ended_still = still;
+    gives = refl;
     first = refl;
     records = wide;
     seen = λ k q w e. ⊎_elim (λ (o : get_elem? a.seen k ≡ some (q, w)). inr (k, o)) (λ (is : ◌≡◌ {A = ℕ × ℕ} (p, v) (q, w)). inl (pair_is p v q w is)) (at_snoc a.seen (p, v) (q, w) k e);
@@ -93,7 +94,7 @@ module _ (p u v : ℕ) (a : Part) (ended' : List (ℕ × ℕ)) (rs : List Standi
 
 -- a step that leaves the word
 still : (p w : ℕ) (a : Part) → ((k : ℕ) → k < length a.records → a.first + k ≡ p → Fits (standing_at a.records k) w) → Change p w w a (saw p w a)
-still p w a fits = change p w w a a.ended a.records refl (λ k q g e. inr (k, e)) fits (λ k l ne. refl)
+still p w a fits = change p w w a a.ended a.records refl (λ k q g e. inr (k, e)) (λ k q g e. (k, e)) fits (λ k l ne. refl)
 
 last_or : (p g : ℕ) (a : Part) (k q h : ℕ) → get_elem? (a.ended ++ (p, g) ∷ []) k ≡ some (q, h) → ((p ≡ q) × (g ≡ h)) ⊎ ((l : ℕ) × (get_elem? a.ended l ≡ some (q, h)))
 last_or p g a k q h e = ⊎_elim (λ (o : get_elem? a.ended k ≡ some (q, h)). inr (k, o)) (λ (is : ◌≡◌ {A = ℕ × ℕ} (p, g) (q, h)). inl (pair_is p g q h is)) (at_snoc a.ended (p, g) (q, h) k e)
@@ -106,9 +107,9 @@ record_here p a st v fits k l is = let at : p - a.first ≡ k = omega arith in
 record_elsewhere : (p : ℕ) (a : Part) (st : Standing) → a.first ≤ p → (k : ℕ) → k < length a.records → a.first + k ≢ p → standing_at (set a.records (p - a.first) st) k ≡ standing_at a.records k
 record_elsewhere p a st from k l not = get_or-set_other a.records (p - a.first) k st (Home 0) (λ e. not (omega arith))
 
-only_one : (f : Part → Part) (a : Part) (j : ℕ) (b : Part) → get_elem? (map f (a ∷ [])) j ≡ some b → j ≡ 0
-only_one f a zero b e = refl
-only_one f a (suc j) b e = absurd (some-ne-none b (sym e))
+only_one : (a : Part) (j : ℕ) (b : Part) → get_elem? (a ∷ []) j ≡ some b → (j ≡ 0) × (a ≡ b)
+only_one a zero b e = (refl, some-injective a b e)
+only_one a (suc j) b e = absurd (some-ne-none b (sym e))
 
 -- the table after a step at the word p that leaves v, by a seat whose view becomes w
 abbrev pub after : Table → ℕ → ℕ → ℕ → View → Table
@@ -120,9 +121,9 @@ module _ (n : ℕ) (s : Table) (r : LifeRule n s) (p id : ℕ) (view : View) (at
 
   looking : LifeRule n (after s p found id (map (saw p found) view))
   looking = let w : ℕ = found in let wide = r.all_words in
-      moved n s r p w id [] view (map (saw p w) view) at (omega arith) (r.well_formed p) (itself w) (λ e. subst (λ (z : ℕ). get_or s.words z 0 ≡ 0) (sym e) r.spare)
-      (λ j b e. let m = map_at (saw p w) view j b e in (m.0, m.1, subst (Change p w w m.0) m.2 (still p w m.0 (shown_to n s r p id view at j m.0 m.1).recorded)))
-      (inr refl) (inl (λ st f. f))
+      moved n s r p w id [] view (saw p w) at (omega arith) (r.well_formed p) (itself w) (λ e. subst (λ (z : ℕ). get_or s.words z 0 ≡ 0) (sym e) r.spare)
+      (λ j a e. still p w a (shown_to n s r p id view at j a e).recorded)
+      (inr refl) (λ g one over. inl over) (inl (λ st f. f))
 
   module _ (alone : IsAlone p view) where
     abbrev mine : Part
@@ -131,16 +132,15 @@ module _ (n : ℕ) (s : Table) (r : LifeRule n s) (p id : ℕ) (view : View) (at
     -- one part, which changes to f of it
     stepping : (v : ℕ) (f : Part → Part) → IsSlotWord v → IsAtOrBefore found v
         → Change p found v mine (f mine)
+        → ((g : ℕ) → 1 ≤ g → IsOver g v → IsOver g found ⊎ ((k : ℕ) × (get_elem? (f mine).ended k ≡ some (p, g))))
         → ((st : Standing) → Fits st found → Fits st v) ⊎ HasRecord p mine
         → LifeRule n (after s p v id (map f view))
-    stepping v f sane forward ch spares = let wide = r.all_words in let one = alone.1 in let some_place = alone.0 in let first : get_elem? view 0 ≡ some mine = ap (λ (z : View). get_elem? z 0) one in
-        moved n s r p v id [] view (map f view) at (omega arith) sane forward (λ e. absurd (omega arith))
-        (λ j b e. let here = subst (λ (z : View). get_elem? (map f z) j ≡ some b) one e in let zero_is = only_one f mine j b here in (
-          mine,
-          subst (λ (z : ℕ). get_elem? view z ≡ some mine) (sym zero_is) first,
-          subst (Change p found v mine) (some-injective (f mine) b (subst (λ (z : ℕ). get_elem? (map f (mine ∷ [])) z ≡ some b) zero_is here)) ch,
-        ))
-        (inl (λ j b e. only_one f mine j b (subst (λ (z : View). get_elem? (map f z) j ≡ some b) one e)))
+    stepping v f sane forward ch ends spares = let wide = r.all_words in let one = alone.1 in let some_place = alone.0 in let first : get_elem? view 0 ≡ some mine = ap (λ (z : View). get_elem? z 0) one in
+        let the_one : (j : ℕ) (a : Part) → get_elem? view j ≡ some a → (j ≡ 0) × (mine ≡ a) = λ j a e. only_one mine j a (subst (λ (z : View). get_elem? z j ≡ some a) one e) in
+        moved n s r p v id [] view f at (omega arith) sane forward (λ e. absurd (omega arith))
+        (λ j a e. subst (λ (z : Part). Change p found v z (f z)) (the_one j a e).1 ch)
+        (inl ((λ j a e. (the_one j a e).0), mine, first))
+        (λ g least over. ⊎_elim inl (λ (t : (k : ℕ) × (get_elem? (f mine).ended k ≡ some (p, g))). inr (0, t.0, mine, first, t.1)) (ends g least over))
         (⊎_elim inl (λ (t : HasRecord p mine). inr (0, t.0, mine, first, t.1, t.2)) spares)
 
     pub shown : IsShown p found mine
@@ -148,13 +148,21 @@ module _ (n : ℕ) (s : Table) (r : LifeRule n s) (p id : ℕ) (view : View) (at
 
     -- the live word that was expected stands: it becomes the freed one
     module _ (live : IsLiveWord found) where
+      -- the lives that are over then were over, or it is this one, which is the last that was ended
+      ended_here : (g : ℕ) → 1 ≤ g → IsOver g (found - 1) → IsOver g found ⊎ ((k : ℕ) × (get_elem? (mine.ended ++ (p, word_generation found) ∷ []) k ≡ some (p, g)))
+      ended_here g one over = let slot = live_slot found live in let same = slot.2 in dite (ℕ_discrete (word_generation found) g)
+          (λ (is : word_generation found ≡ g). inr (length mine.ended, subst (λ (z : ℕ). get_elem? (mine.ended ++ (p, word_generation found) ∷ []) (length mine.ended) ≡ some (p, z)) is (at_last mine.ended (p, word_generation found) (length mine.ended) refl)))
+          (λ not. inl (let low = over.0 in omega arith, λ is. absurd (not is)))
+
       parting : LifeRule n (after s p (found - 1) id (map (λ part. ending p (word_generation found) (saw p (found - 1) part)) view))
       parting = let after_it = freed_word_after found live in let slot = live_slot found live in
           stepping (found - 1) (λ part. ending p (word_generation found) (saw p (found - 1) part)) slot.1 after_it.0
           (change p found (found - 1) mine (mine.ended ++ (p, word_generation found) ∷ []) mine.records refl
           (λ k q g m. ⊎_elim (λ (t : (p ≡ q) × (word_generation found ≡ g)). inl (t.0, t.1, live.1, subst (λ (z : ℕ). IsOver z (found - 1)) t.1 after_it.1)) inr (last_or p (word_generation found) mine k q g m))
+          (λ k q g e. (k, at_longer mine.ended ((p, word_generation found) ∷ []) k (q, g) e))
           (λ k l is. open_spares found live (standing_at mine.records k) (shown.recorded k l is))
           (λ k l ne. refl))
+          ended_here
           (inl (λ st fits. open_spares found live st fits))
 
       closing : HasRecord p mine → LifeRule n (after s p (found - 1) id (map (λ part. recording p (Home (word_generation found)) (ending p (word_generation found) (saw p (found - 1) part))) view))
@@ -162,35 +170,52 @@ module _ (n : ℕ) (s : Table) (r : LifeRule n s) (p id : ℕ) (view : View) (at
           stepping (found - 1) (λ part. recording p (Home (word_generation found)) (ending p (word_generation found) (saw p (found - 1) part))) slot.1 after_it.0
           (change p found (found - 1) mine (mine.ended ++ (p, word_generation found) ∷ []) (set mine.records (p - mine.first) (Home (word_generation found))) (length-set mine.records (p - mine.first) (Home (word_generation found)))
           (λ k q g m. ⊎_elim (λ (t : (p ≡ q) × (word_generation found ≡ g)). inl (t.0, t.1, live.1, subst (λ (z : ℕ). IsOver z (found - 1)) t.1 after_it.1)) inr (last_or p (word_generation found) mine k q g m))
+          (λ k q g e. (k, at_longer mine.ended ((p, word_generation found) ∷ []) k (q, g) e))
           (record_here p mine (Home (word_generation found)) (found - 1) (freed_home found live))
           (record_elsewhere p mine (Home (word_generation found)) (omega arith)))
+          ended_here
           (inr has)
 
-    -- the live word of the next generation is after the one that is found at home
-    next_life : (v : ℕ) → HasRecord p mine → word_generation v ≡ standing_generation (record_of p mine) + 1 → IsAtOrBefore found v
-    next_life v has next =
+    record_fits : HasRecord p mine → Fits (record_of p mine) found
+    record_fits has =
         let inside = has.1 in
         let here = has.2 in
         let slot : p - mine.first ≡ has.0 = omega arith in
-        let fits : Fits (record_of p mine) found = subst (λ (z : ℕ). Fits (standing_at mine.records z) found) (sym slot) (shown.recorded has.0 inside here) in
-        let was : word_generation found ≡ standing_generation (record_of p mine) = fits.generation in
+        subst (λ (z : ℕ). Fits (standing_at mine.records z) found) (sym slot) (shown.recorded has.0 inside here)
+
+    -- the live word of the next generation is after the one that is found at home
+    next_life : (v : ℕ) → HasRecord p mine → word_generation v ≡ standing_generation (record_of p mine) + 1 → IsAtOrBefore found v
+    next_life v has next = let was : word_generation found ≡ standing_generation (record_of p mine) = (record_fits has).generation in
         (omega arith, λ same. absurd (omega arith))
 
-    opening : (v : ℕ) → IsLiveWord v → HasRecord p mine → word_generation v ≡ standing_generation (record_of p mine) + 1
+    -- what is over at a live word that is opened was over at the place, which is home
+    over_before : (v : ℕ) → HasRecord p mine → word_generation v ≡ standing_generation (record_of p mine) + 1 → is_home (record_of p mine) ≡ true → IsLiveWord v → (g : ℕ) → IsOver g v → IsOver g found
+    over_before v has next home live g over =
+        let fits = record_fits has in
+        let was : word_generation found ≡ standing_generation (record_of p mine) = fits.generation in
+        let freed : word_life found ≡ 0 = fits.freed home in
+        let low = over.0 in
+        dite (ℕ_discrete (word_generation v) g)
+        (λ (is : word_generation v ≡ g). absurd (let dead = over.1 is in let alive = live.1 in omega arith))
+        (λ not. (omega arith, λ _. freed))
+
+    opening : (v : ℕ) → IsLiveWord v → HasRecord p mine → (is_home (record_of p mine) ≡ true) → word_generation v ≡ standing_generation (record_of p mine) + 1
         → LifeRule n (after s p v id (map (λ part. recording p (Open (word_generation v) (word_owner v)) (saw p v part)) view))
-    opening v live has next = let inside = has.1 in let here = has.2 in let st : Standing = Open (word_generation v) (word_owner v) in
+    opening v live has home next = let inside = has.1 in let here = has.2 in let st : Standing = Open (word_generation v) (word_owner v) in
         stepping v (λ part. recording p st (saw p v part)) live.0 (next_life v has next)
-        (change p found v mine mine.ended (set mine.records (p - mine.first) st) (length-set mine.records (p - mine.first) st) (λ k q g e. inr (k, e))
+        (change p found v mine mine.ended (set mine.records (p - mine.first) st) (length-set mine.records (p - mine.first) st) (λ k q g e. inr (k, e)) (λ k q g e. (k, e))
         (record_here p mine st v (open_fits v (live_slot v live).0))
         (record_elsewhere p mine st (omega arith)))
+        (λ g least over. inl (over_before v has next home live g over))
         (inr has)
 
     taking : HasRecord p mine → word_life found ≡ 0 → LifeRule n (after s p found id (map (λ part. recording p (Home (word_generation found)) (saw p found part)) view))
     taking has freed = let inside = has.1 in let here = has.2 in let st : Standing = Home (word_generation found) in
         stepping found (λ part. recording p st (saw p found part)) (r.well_formed p) (itself found)
-        (change p found found mine mine.ended (set mine.records (p - mine.first) st) (length-set mine.records (p - mine.first) st) (λ k q g e. inr (k, e))
+        (change p found found mine mine.ended (set mine.records (p - mine.first) st) (length-set mine.records (p - mine.first) st) (λ k q g e. inr (k, e)) (λ k q g e. (k, e))
         (record_here p mine st found (home_fits found freed (word_generation found) refl))
         (record_elsewhere p mine st (omega arith)))
+        (λ g least over. inl over)
         (inr has)
 
   pub opened_forward : (live : ℕ) → MayMake (open_as live) p view → IsAtOrBefore found live
@@ -199,7 +224,7 @@ module _ (n : ℕ) (s : Table) (r : LifeRule n s) (p id : ℕ) (view : View) (at
   -- each of them
   pub keeps_rule : (step : WordStep) → MayMake step p view → LifeRule n (after s p (left_by step found) id (map (known_after step p found) view))
   keeps_rule look may = looking
-  keeps_rule (open_as live) may = opening may.0 live may.1 may.2 may.4
+  keeps_rule (open_as live) may = opening may.0 live may.1 may.2 may.3 may.4
   keeps_rule (close_from expected) may = dite (ℕ_discrete found expected)
       (λ hit. subst (λ (b : Bool). LifeRule n (after s p (if b then expected - 1 else found) id
       (map (λ part. if b then recording p (Home (word_generation expected)) (ending p (word_generation expected) (saw p (expected - 1) part)) else saw p found part) view)))

@@ -1,12 +1,13 @@
 -- Laws of the slot words of running workers: what holds of each table that steps lead to, whichever
--- seats make them and in whatever order.
-use Rattle.std.specs.Prelude.{◌≡◌, ℕ, ◌+◌, [], ◌∷◌, replicate, slice_index}
+-- seats make them and in whatever order; and the last two of any two tables that keep the rule,
+-- whatever led from the one to the other.
+use Rattle.std.specs.Prelude.{◌≡◌, ◌≢◌, ℕ, ◌+◌, ◌≤◌, List, [], ◌∷◌, ◌++◌, replicate, slice_index, slice_set}
 use mathlib.Core.Option.{some}
 use lib.ListN.{get_elem?}
 use Rattle.hg_place.specs.Lives.{IsAtOrBefore}
 use Rattle.hg_table.specs.declared.view.Part.{Part}
-use Rattle.hg_table.specs.View.{Table, Has, initial_view}
-use Rattle.hg_table.specs.LifeRule.{LifeRule, SeenIsPast, EndedIsOver, RecordsAreTrue}
+use Rattle.hg_table.specs.View.{View, Table, Has, IsSeen, IsEnded, initial_view, seats_of}
+use Rattle.hg_table.specs.LifeRule.{LifeRule, IsOver, SeenIsPast, EndedIsOver, RecordsAreTrue}
 use Rattle.hg_table.specs.Steps.{Steps}
 
 -- all words are 0, and the one seat records all places as home, never given out
@@ -59,3 +60,46 @@ abbrev pub RecordsHold : Type 0
 RecordsHold =
     (places i j : ℕ) (table : Table) (part : Part)
     → LeadTo (new_table places) table → Has table.views i j part → RecordsAreTrue table.words part
+
+-- each life that is over was ended by some seat
+abbrev pub EndedBySomeSeat : Type 0
+EndedBySomeSeat =
+    (places at generation : ℕ) (table : Table) → LeadTo (new_table places) table → 1 ≤ generation
+    → IsOver generation (slice_index table.words at) → IsEnded table.views at generation
+
+-- each word but 0 was seen by some seat
+abbrev pub WordsAreSeen : Type 0
+WordsAreSeen =
+    (places at : ℕ) (table : Table) → LeadTo (new_table places) table
+    → slice_index table.words at ≢ 0 → IsSeen table.views at (slice_index table.words at)
+
+-- what was seen is seen still
+abbrev pub NothingIsForgotten : List View → List View → Type 0
+NothingIsForgotten before after = (at word : ℕ) → IsSeen before at word → IsSeen after at word
+
+-- Between two tables that keep the rule, however one came from the other, no word goes back, as long
+-- as no seat forgets what it has seen
+abbrev pub TheRuleGoesForward : Type 0
+TheRuleGoesForward =
+    (places at : ℕ) (table after : Table) → LifeRule places table → LifeRule places after
+    → NothingIsForgotten table.views after.views
+    → IsAtOrBefore (slice_index table.words at) (slice_index after.words at)
+
+-- However a seat is cut in two, the two stand for as many seats as it stood for: so a seat out of
+-- which none may come gives a part to one of them alone. And a seat that comes from nothing has none
+pub record SeatsAreShared : Type 0 where
+  pub cut :
+      (places id : ℕ) (table : Table) (words : List ℕ) (view left right : View)
+      → LifeRule places table → get_elem? table.views id ≡ some view
+      → LifeRule places record {
+        words = words;
+        homes = table.homes;
+        views = slice_set table.views id left ++ right ∷ [];
+      } → seats_of left + seats_of right ≡ seats_of view
+  pub come :
+      (places : ℕ) (table : Table) (words : List ℕ) (view : View) → LifeRule places table
+      → LifeRule places record {
+        words = words;
+        homes = table.homes;
+        views = table.views ++ view ∷ [];
+      } → view ≡ []

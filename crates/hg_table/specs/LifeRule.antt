@@ -1,12 +1,12 @@
 -- The life rule: what the words of all places and the views of all seats keep between any two
 -- steps.
-use Rattle.std.specs.Prelude.{◌≡◌, ℕ, ◌+◌, ◌<◌, ◌≤◌, List, length, slice_index}
+use Rattle.std.specs.Prelude.{◌≡◌, ◌≢◌, ℕ, ◌+◌, ◌<◌, ◌≤◌, List, length, slice_index}
 use mathlib.Core.Option.{some}
 use lib.ListN.{get_elem?}
 use Rattle.hg_place.specs.Lives.{IsSlotWord, IsAtOrBefore, word_generation, word_life}
 use Rattle.hg_place.specs.Standings.{standing_at, Fits}
 use Rattle.hg_table.specs.declared.view.Part.{Part}
-use Rattle.hg_table.specs.View.{Table, Has}
+use Rattle.hg_table.specs.View.{Table, Has, IsSeen, IsEnded, all_seats, MOST_GIVEN}
 
 -- the life of this generation is over where a word is this one
 abbrev pub IsOver : ℕ → ℕ → Type 0
@@ -56,3 +56,13 @@ pub record LifeRule (places : ℕ) (table : Table) : Type 0 where
       (i j k i' j' k' : ℕ) (a b : Part) → Has table.views i j a → Has table.views i' j' b
       → k < length a.records → k' < length b.records → a.first + k ≡ b.first + k'
       → (i ≡ i') × (j ≡ j')
+  -- a word that isn't 0 was seen by some seat
+  pub words_are_seen :
+      (at : ℕ) → slice_index table.words at ≢ 0
+      → IsSeen table.views at (slice_index table.words at)
+  -- each life that is over was ended by some seat
+  pub over_is_ended :
+      (at generation : ℕ) → 1 ≤ generation → IsOver generation (slice_index table.words at)
+      → IsEnded table.views at generation
+  -- no seat comes but out of the initial one, and no more than so many
+  pub seats : all_seats table.views ≡ 1 + MOST_GIVEN

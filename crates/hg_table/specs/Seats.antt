@@ -10,7 +10,7 @@ use Rattle.atomic_table.specs.Seated.{TableId}
 use Rattle.atomic_table.specs.declared.shared.Seat.{Seat}
 use Rattle.atomic_table.specs.declared.badge.Badge.{Badge}
 use Rattle.hg_table.specs.declared.view.Part.{Part}
-use Rattle.hg_table.specs.View.{View, blank, part_of}
+use Rattle.hg_table.specs.View.{View, blank, part_of, MOST_GIVEN}
 use Rattle.hg_table.specs.Told.{IsShown, AreApart}
 
 -- the name of no table
@@ -85,8 +85,8 @@ KnowsNothing part = (part.seen ≡ []) × (part.ended ≡ [])
 abbrev pub AreHome : List Standing → Type 0
 AreHome records = (slot : ℕ) → standing_at records slot ≡ Home 0
 
--- The view of the initial seat once this many segments have seats of their own: so many places are
--- left, each home and never given out, and nothing was seen or ended
+-- The view of the initial seat once this many segments have seats of their own, which came out of
+-- it: so many places are left, each home and never given out, and nothing was seen or ended
 pub record IsInitial (segments places : ℕ) (view : View) : Type 0 where
   pub one : view ≡ part_of view ∷ []
   pub seen : (part_of view).seen ≡ []
@@ -94,3 +94,4 @@ pub record IsInitial (segments places : ℕ) (view : View) : Type 0 where
   pub first : (part_of view).first ≡ segments * SEGMENT_PLACES + 1
   pub left : length (part_of view).records ≡ places
   pub home : AreHome (part_of view).records
+  pub gives : (part_of view).gives + segments ≡ MOST_GIVEN

@@ -1,4 +1,5 @@
--- The seven kinds of step that a seat can make, and what each does. There is no other.
+-- The seven kinds of step that the code's seats make, and what each does. What no step of any kind can
+-- do, since the rule holds behind it, is in LifeLaws.
 use Rattle.std.specs.Prelude.{◌≡◌, ◌≢◌, ℕ, ◌+◌, ◌-◌, ◌<◌, ◌≤◌, ◌==◌, if◌then◌else◌, true, []}
 use Rattle.std.specs.Prelude.{◌∷◌, ◌++◌, map, take, drop, length, slice_index, slice_set}
 use mathlib.Core.Option.{some}
@@ -10,7 +11,7 @@ use Rattle.hg_place.specs.Standings.{standing_at, is_home, standing_generation}
 use Rattle.hg_place.specs.declared.geometry.TheConstants.{SEGMENT_PLACES}
 use Rattle.hg_table.specs.declared.view.Part.{Part}
 use Rattle.hg_table.specs.View.{View, Table, HasRecord, saw, ending, recording, blank, part_of}
-use Rattle.hg_table.specs.View.{first_records, later_records}
+use Rattle.hg_table.specs.View.{first_records, later_records, giving}
 
 -- At the word of a place. look: it is read; open: the place is home, and the word becomes this live
 -- one; close and part: the live word that is expected becomes the freed one of its life, if it
@@ -74,7 +75,7 @@ MayMake (part_from expected) at view = IsAlone at view × IsLiveWord expected
 MayMake take_home at view = IsAlone at view × HasRecord at (part_of view)
 
 -- split: the second part of a view goes to a new seat; or the records of the first segment that is
--- left with the initial seat; or nothing
+-- left with the initial seat; or nothing. By the last two the seats become one more
 pub data Cut : Type 0 where
   second_part : Cut
   first_segment : Cut
@@ -84,18 +85,18 @@ pub data Cut : Type 0 where
 abbrev pub kept_by : Cut → View → View
 kept_by second_part view = take 1 view
 kept_by first_segment view = map (later_records SEGMENT_PLACES) view
-kept_by nothing view = view
+kept_by nothing view = map giving view
 
 abbrev pub given_by : Cut → View → View
 given_by second_part view = drop 1 view
 given_by first_segment view = map (first_records SEGMENT_PLACES) view
 given_by nothing view = blank ∷ []
 
--- a view of two parts is cut between them, else one of one part
+-- a view of two parts is cut between them, else one of one part, out of which a seat may come still
 abbrev pub MayCut : Cut → View → Type 0
 MayCut second_part view = (a : Part) × (b : Part) × (view ≡ a ∷ b ∷ [])
-MayCut first_segment view = view ≡ part_of view ∷ []
-MayCut nothing view = view ≡ part_of view ∷ []
+MayCut first_segment view = (view ≡ part_of view ∷ []) × (1 ≤ (part_of view).gives)
+MayCut nothing view = (view ≡ part_of view ∷ []) × (1 ≤ (part_of view).gives)
 
 -- join: a second seat's one part stands beside the one of the seat, and the second is spent
 pub data Kind : Type 0 where

@@ -5,6 +5,7 @@ use Rattle.std.specs.Prelude.{slice_set, take, drop}
 use mathlib.Core.Option.{some}
 use lib.ListN.{get_elem?}
 use Rattle.atomic_table.specs.Table.{State}
+use Rattle.hg_place.specs.declared.geometry.TheConstants.{MAX_SEGMENTS}
 use Rattle.hg_place.specs.declared.standing.Standing.{Standing}
 use Rattle.hg_place.specs.declared.standing.Standing.TheVariants.{Home}
 use Rattle.hg_table.specs.declared.view.Part.{Part}
@@ -27,7 +28,32 @@ HasRecord at part = (k : ℕ) × (k < length part.records) × (part.first + k �
 
 -- a part that knows nothing
 abbrev pub blank : Part
-blank = record { seen = []; ended = []; first = 0; records = [] }
+blank = record { seen = []; ended = []; first = 0; records = []; gives = 0 }
+
+-- some part has seen this word at the place; some part has ended this life of it
+abbrev pub IsSeen : List View → ℕ → ℕ → Type 0
+IsSeen views at word =
+    (i : ℕ) × (j : ℕ) × (k : ℕ) × (part : Part) × Has views i j part
+    × (get_elem? part.seen k ≡ some (at, word))
+
+abbrev pub IsEnded : List View → ℕ → ℕ → Type 0
+IsEnded views at generation =
+    (i : ℕ) × (j : ℕ) × (k : ℕ) × (part : Part) × Has views i j part
+    × (get_elem? part.ended k ≡ some (at, generation))
+
+-- how many seats the parts are, with those that may still come out of them
+abbrev pub seats_of : View → ℕ
+seats_of [] = 0
+seats_of (part ∷ more) = 1 + part.gives + seats_of more
+
+abbrev pub all_seats : List View → ℕ
+all_seats [] = 0
+all_seats (view ∷ more) = seats_of view + all_seats more
+
+-- how many seats may come out of the initial one: one for each segment that a policy may have, and
+-- one for each of its workers, who are 16 at most
+abbrev pub MOST_GIVEN : ℕ
+MOST_GIVEN = MAX_SEGMENTS + 16
 
 -- the part has seen this word too
 abbrev pub saw : ℕ → ℕ → Part → Part
@@ -42,19 +68,39 @@ abbrev pub recording : ℕ → Standing → Part → Part
 recording at standing part =
     record part { records = slice_set part.records (at - part.first) standing }
 
--- the initial seat records all places as home, never given out
+-- the initial seat records all places as home, never given out, and all others come out of it
+abbrev pub initial_part : ℕ → Part
+initial_part places = record {
+  seen = [];
+  ended = [];
+  first = 1;
+  records = replicate places (Home 0);
+  gives = MOST_GIVEN;
+}
+
 abbrev pub initial_view : ℕ → View
-initial_view places =
-    record { seen = []; ended = []; first = 1; records = replicate places (Home 0) } ∷ []
+initial_view places = initial_part places ∷ []
+
+-- a seat came out of the part
+abbrev pub giving : Part → Part
+giving part = record part { gives = part.gives - 1 }
 
 -- so many records at the front of a part, for the seat of a segment, and what is left of the part
 abbrev pub first_records : ℕ → Part → Part
-first_records count part =
-    record { seen = []; ended = []; first = part.first; records = take count part.records }
+first_records count part = record {
+  seen = [];
+  ended = [];
+  first = part.first;
+  records = take count part.records;
+  gives = 0;
+}
 
 abbrev pub later_records : ℕ → Part → Part
-later_records count part =
-    record part { first = part.first + count; records = drop count part.records }
+later_records count part = record part {
+  first = part.first + count;
+  records = drop count part.records;
+  gives = part.gives - 1;
+}
 
 -- the one part of a view
 abbrev pub part_of : View → Part

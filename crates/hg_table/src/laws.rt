@@ -3,6 +3,8 @@
 
 ghost use Rattle.hg_table.specs.LifeLaws.{StepsKeepTheRule, WordsGoForward, EndedStaysEnded};
 ghost use Rattle.hg_table.specs.LifeLaws.{EndedByOneSeat, SeenIsNeverAhead, RecordsHold};
+ghost use Rattle.hg_table.specs.LifeLaws.{EndedBySomeSeat, WordsAreSeen, TheRuleGoesForward};
+ghost use Rattle.hg_table.specs.LifeLaws.{SeatsAreShared};
 ghost use Rattle.hg_table.specs.KnownLaws.{StepsAddOneLife, MeetingsAreApart, NothingIsKnown};
 ghost use Rattle.hg_table.specs.KnownLaws.{LeftIsPastSeen};
 
@@ -24,6 +26,28 @@ pub fn ended_stays_ended()
 /// Two seats never end one life.
 pub fn ended_by_one_seat()
     ensures { EndedByOneSeat }
+{}
+
+/// Each life that is over was ended by some seat: with the law before, by exactly one.
+pub fn ended_by_some_seat()
+    ensures { EndedBySomeSeat }
+{}
+
+/// Each word but 0 was seen by some seat.
+pub fn words_are_seen()
+    ensures { WordsAreSeen }
+{}
+
+/// Whatever leads from one table that keeps the rule to another, no word goes back, as long as no
+/// seat forgets what it has seen.
+pub fn the_rule_goes_forward()
+    ensures { TheRuleGoesForward }
+{}
+
+/// However a seat is cut in two, the two stand for as many as it did, and no seat that has a part
+/// comes from nothing. So a call ends no life by a seat that nobody knows of.
+pub fn seats_are_shared()
+    ensures { SeatsAreShared }
 {}
 
 /// What was seen is never ahead of the word.

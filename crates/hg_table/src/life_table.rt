@@ -31,6 +31,7 @@ pub struct LifeTable {
     ghost wide: { table.shared.table_id.words ≡ table.shared.key + 1 },
     ghost long: { table.shared.key ≡ segments * SEGMENT_PLACES },
     ghost few: { segments ≤ MAX_SEGMENTS },
+    ghost few_workers: { workers ≤ 16 },
     ghost bare: { initial.me.1 ≡ [] },
     ghost home: { IsInitial 0 (segments * SEGMENT_PLACES) initial.me.0 },
 }
@@ -147,8 +148,11 @@ fn worker_seat(
     requires wide { (arc_value table.now).shared.table_id.words
         ≡ (arc_value table.now).shared.key + 1 }
     requires one { initial.old.me.0 ≡ part_in initial.old ∷ [] }
+    requires left { 1 ≤ (part_in initial.old).gives }
     ensures same { initial.new.table_id ≡ initial.old.table_id }
-    ensures view { initial.new.me ≡ initial.old.me }
+    ensures one { initial.new.me.0 ≡ part_in initial.new ∷ [] }
+    ensures rest { IfOk result (λ _.
+        (part_in initial.new).gives + 1 ≡ (part_in initial.old).gives) }
     ensures named { IfOk result (λ seat. seat.badge.table_id ≡ initial.old.table_id) }
     ensures nothing { IfOk result (λ seat. KnowsNothing (part_on seat.badge)) }
 {

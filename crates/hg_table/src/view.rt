@@ -11,6 +11,8 @@ pub struct Part {
     pub first: u64,
     /// The records of that place and those that follow it.
     pub records: LinkedList<Standing>,
+    /// How many seats may still come out of this one.
+    pub gives: u64,
 }
 
 /// One part; two in a seat that took in another, until they are cut; none in the one taken in.

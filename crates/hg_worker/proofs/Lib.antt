@@ -13,7 +13,6 @@ pub mod Hands
 pub mod Comings
 pub mod Listings
 pub mod Records
-pub mod FreedRecords
 pub mod Judged
 pub mod WorkerLaws
 pub mod Replaced

@@ -22,11 +22,12 @@ use Rattle.hg_heap.specs.Held.{is_of, is_held, segment_in}
 use Rattle.hg_heap.specs.Homecoming.{HaveComeHome}
 use Rattle.hg_heap.specs.Idle.{bare}
 use Rattle.hg_heap.specs.Keeping.{Rest, rest_of, KeepsAll, Wrote}
+use Rattle.hg_heap.specs.Records.{record_in, IsHomeAlone}
 use Rattle.hg_heap.proofs.Founds.{map_same, numbers, pair, told_in}
 use Rattle.hg_heap.proofs.Options.{is_some_map}
 use Rattle.hg_heap.proofs.Options.{none_is}
 use Rattle.hg_table.specs.declared.view.Part.{Part}
-use Rattle.hg_worker.specs.Records.{record_in, GoHome, IsHomeAlone}
+use Rattle.hg_worker.specs.Records.{GoHome}
 use Rattle.hg_worker.proofs.Allocs.{slots_in}
 use Rattle.hg_worker.proofs.Steps.{seat_shows, seat_steps, before_in, after_in, others_in}
 

@@ -13,11 +13,11 @@ ghost use Rattle.hg_heap.specs.Judged.{IsJudged};
 ghost use Rattle.hg_heap.specs.Lists.{CameHome};
 ghost use Rattle.hg_heap.specs.Queues.{key_on};
 ghost use Rattle.hg_heap.specs.Reading.{use_denial};
+ghost use Rattle.hg_heap.specs.Records.{IsHomeAlone};
 ghost use Rattle.hg_heap.specs.Requeued.{requeued};
 ghost use Rattle.hg_heap.specs.Ties.{shown_at, HeapTies};
 ghost use Rattle.hg_worker.specs.Answers.{is_done, is_freed, hand_after};
 ghost use Rattle.hg_worker.specs.Judged.{found_word, rule_of};
-ghost use Rattle.hg_worker.specs.Records.{IsHomeAlone};
 ghost use Rattle.hg_worker.specs.Seats.{number_in, records_in};
 ghost use Rattle.hg_worker.specs.Workers.{Ends, Looks, IsMachines, KeepsSegments, SendsHome, Tries};
 

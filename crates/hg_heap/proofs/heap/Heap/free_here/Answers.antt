@@ -22,6 +22,7 @@ use Rattle.hg_heap.proofs.Looking.{heap_lists, heap_right, stepped}
 use Rattle.hg_heap.proofs.FreeCall.{Frees, denied_ends, done_ends, generation_freed, was_open}
 use Rattle.hg_heap.proofs.FreeCall.{has_class, owner_below, page_change, place_change, key_was}
 use Rattle.hg_heap.proofs.FreeCall.{place_now, came_home, closed_step}
+use Rattle.hg_heap.proofs.FreedRecords.{freed_alone}
 use Rattle.hg_heap.proofs.heap.Heap.free_here.Goals as goal
 use Rattle.hg_heap.proofs.heap.Heap.free_here.Goals.{After-settled, In-Ok, In-Some-class_of}
 use Rattle.hg_heap.proofs.heap.Heap.free_here.Goals.{After-arena-arena, After-requeue}
@@ -209,6 +210,11 @@ returns-clause-lists g c =
     let h = frees g at.In-Ok in
     rw (← c.self.view_is) (came_home h (classed g at.In-Some-class_of) c.args.handle.generation
     (generation_freed c.args.policy.now c.args.actor c.args.handle h c.in-Ok.ensures.closed.2))
+
+pub returns-clause-records : goal.returns-clause-records
+returns-clause-records g c = rw (← c.self.view_is)
+    (freed_alone c.args.policy.now c.args.actor c.args.handle
+    (frees g (goal.at.returns-clause-records g c).In-Ok) c.in-Ok.ensures.closed.2)
 
 pub returns-clause-queues : goal.returns-clause-queues
 returns-clause-queues g c =

@@ -5,7 +5,7 @@ use Rattle.hg_audit.specs.Handed.{core_in}
 use Rattle.hg_close.specs.Closed.{IsQuiet}
 use Rattle.hg_close.specs.Moved.{AreOver}
 use Rattle.hg_worker.specs.Missing.{HasAll}
-use Rattle.hg_worker.specs.Seats.{number_in, records_in}
+use Rattle.hg_worker.specs.Seats.{number_in, records_in, seat_shows, seat_steps}
 use Rattle.hg_service.specs.GivenBack.{AreListsOf}
 use Rattle.hg_service.proofs.Lost.{unclosed_as}
 use Rattle.hg_service.proofs.caller_locked.CallerLocked.close.Goals as goal
@@ -42,7 +42,7 @@ returns-clause-made g c = IfOk-weaker c.core_of.result _ _ (λ core is. record {
   lists = c.give_lists.ensures.lists;
   made = record {
     parts = core_in c.take_segments.new.self.parts;
-    over = subst (λ kept. AreOver number_in records_in kept.pool
+    over = subst (λ kept. AreOver number_in records_in seat_shows seat_steps kept.pool
         c.take_segments.new.self.parts.pool) c.give_lists.ensures.pool c.take_segments.ensures.over;
     lists = ap (λ remotes. remotes.items) c.take_segments.ensures.lists;
     is = is;
@@ -63,7 +63,7 @@ returns-clause-unclosed g c = IfErr-weaker c.core_of.result _ _ (λ left is.
     (c.take_segments.ensures.policy ∙ c.give_lists.ensures.policy)
     c.in_default-first_fault.ensures.pooled
     c.in_default-first_fault.ensures.back
-    (subst (λ kept. AreOver number_in records_in kept.pool
+    (subst (λ kept. AreOver number_in records_in seat_shows seat_steps kept.pool
     c.take_segments.new.self.parts.pool) c.give_lists.ensures.pool
     c.take_segments.ensures.over)
     (subst (λ remotes. AreListsOf c.args.self.lists.items

@@ -31,12 +31,12 @@ loop-kept-preserved g c =
         later = ap (drop (i + 1)) w.kept-items-is ∙ later_on now lists i _ before.later;
         lists = subst (AreListsOf (take (i + 1) lists) count)
             (sym (ap (λ (room : CloseRoom). room.parts.remotes.items) w.room-is
-            ∙ w.take_list.ensures.lists
+            ∙ w.go_over.ensures.lists
             ∙ ap (λ kept. set remotes kept.segment kept.list) (sym c.kept-item.is))) next;
         policy = ap (λ (room : CloseRoom). room.parts.policy)
-            (w.room-is ∙ w.take_list.ensures.rest) ∙ before.policy;
+            (w.room-is ∙ w.go_over.ensures.rest) ∙ before.policy;
         unfilled = subst IsUnfilled (sym w.room-is)
-            (w.take_list.ensures.unfilled before.unfilled);
+            (w.go_over.ensures.unfilled before.unfilled);
       }
       | else-kept-segments w ↦ record {
         later = ap (drop (i + 1)) w.kept-items-is ∙ later_on now lists i _ before.later;

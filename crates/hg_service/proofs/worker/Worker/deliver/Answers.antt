@@ -19,6 +19,6 @@ index-requires g c =
 pub returns-clause-sent : goal.returns-clause-sent
 returns-clause-sent g c = record {
   old = c.deref_mut-kept.result.now.list;
-  new = c.deliver_to.new.list;
-  delivered = c.deliver_to.ensures.delivered;
+  new = c.receive.new.kept.list;
+  delivered = c.receive.ensures.delivered;
 }

@@ -23,8 +23,8 @@ index-requires g c =
 pub returns-clause-taken : goal.returns-clause-taken
 returns-clause-taken g c = record {
   old = c.deref_mut-kept.result.now.list;
-  new = c.take_from.new.list;
-  taken = c.take_from.ensures.taken;
-  whole = c.take_from.ensures.whole;
-  home = c.take_from.ensures.home;
+  new = c.drain.new.kept.list;
+  taken = c.drain.ensures.taken;
+  whole = c.drain.ensures.whole;
+  home = c.drain.ensures.home;
 }

@@ -16,7 +16,7 @@ use Rattle.hg_worker.specs.Workers.{had_in}
 use Rattle.hg_worker.proofs.Allocs.{no_block, by_none, if_no_block, given_follows, given_arena}
 use Rattle.hg_worker.proofs.Allocs.{live_ends_none}
 use Rattle.hg_heap.specs.declared.refused.Refused.TheVariants as refused
-use Rattle.hg_worker.specs.Records.{record_in}
+use Rattle.hg_heap.specs.Records.{record_in}
 use Rattle.hg_worker.specs.Seats.{records_in}
 use Rattle.hg_worker.proofs.Records.{same_goes, given_goes}
 use Rattle.hg_worker.proofs.Seats.{machines_shown, machines_unseen, machines_any}

@@ -12,7 +12,6 @@ use Rattle.hg_worker.specs.Workers.{had_in}
 use Rattle.hg_worker.specs.Answers.{is_done}
 use Rattle.hg_worker.specs.Judged.{rule_of}
 use Rattle.hg_worker.specs.Seats.{records_in}
-use Rattle.hg_worker.proofs.FreedRecords.{freed_alone}
 use Rattle.hg_worker.proofs.Judged.{rule_refused, not_refused}
 use Rattle.hg_worker.proofs.Records.{all_goes, none_goes, alone_goes}
 use Rattle.std.proofs.lemmas.Bool.{true≢false}
@@ -152,24 +151,12 @@ returns-clause-served g c =
 pub returns-clause-records : goal.returns-clause-records
 returns-clause-records g c =
     rw (sym c.deref_mut-inner.ensures.value)
-    (λ _.
-    let s = c.deref_mut-inner.result.now in
-    let e = c.in_default.ensures.served in
-    let f = c.in_default.ensures.freed in
-    freed_alone s.policy s.number c.args.actor c.args.handle s.heap.segments
-    c.free_here.new.self.segments s.sound s.below s.of c.settled.ensures.each
-    c.settled.ensures.once e.0 f.0 (e.2.live refl) (e.2.generation refl) e.1 f.2 f.3)
+    (λ _. c.in_default.ensures.records)
 
 pub returns-clause-home : goal.returns-clause-home
 returns-clause-home g c =
     rw (sym c.deref_mut-inner.ensures.value)
-    (let s = c.deref_mut-inner.result.now in
-    let e = c.in_default.ensures.served in
-    let f = c.in_default.ensures.freed in
-    alone_goes number_in records_in refl
-    (freed_alone s.policy s.number c.args.actor c.args.handle s.heap.segments
-    c.free_here.new.self.segments s.sound s.below s.of c.settled.ensures.each
-    c.settled.ensures.once e.0 f.0 (e.2.live refl) (e.2.generation refl) e.1 f.2 f.3))
+    (alone_goes number_in records_in refl c.in_default.ensures.records)
 
 pub returns-clause-any_hand : goal.returns-clause-any_hand
 returns-clause-any_hand g c =
