@@ -92,8 +92,8 @@ module _ {S : Type 0} (number : S → ℕ) where
           plain = record {
             number_is = ap plain_number slots ∙ copy_numbered ∙ sym before_numbered;
             records_are = ap plain_records slots ∙ copied.records_are;
-            blank = words;
-            last = copied.after.slots;
+            words_before = words;
+            seat_after = copied.after.slots;
             copied = subst (λ (to : PlainWords).
                 Copies records shows steps 8192 before.slots words copied.after.slots to)
                 (sym slots) copied.copied;

@@ -12,14 +12,15 @@ use Rattle.hg_pool.specs.Pooled.{Pooled, IsPooled, IsRight, first_in, numbers, w
 
 module _ {S : Type 0} (number : S → ℕ) (records : S → List Standing)
     (shows : S → ℕ → ℕ → Type 0) (steps : S → ℕ → ℕ → ℕ → S → Type 0) where
-  -- it is that segment over plain words: of its number, with its records, each word the one that a
-  -- look at its place showed, one place after the other, and else as it was
+  -- it is that segment over plain words: of its number, with its records, each word one that a look
+  -- by the segment's seat could have shown, one place after the other, and else as it was
   pub record IsPlainOf (one : Kept S) (now : Kept PlainWords) : Type 0 where
     pub number_is : plain_number now.slots ≡ number one.slots
     pub records_are : plain_records now.slots ≡ records one.slots
-    pub blank : PlainWords
-    pub last : S
-    pub copied : Copies records shows steps SEGMENT_PLACES one.slots blank last now.slots
+    pub words_before : PlainWords
+    pub seat_after : S
+    pub copied :
+        Copies records shows steps SEGMENT_PLACES one.slots words_before seat_after now.slots
     pub rest : IsRewrapped one now
 
   -- the segment that stands first, of this number, stands in the other pool over plain words: behind

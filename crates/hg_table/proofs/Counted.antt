@@ -24,7 +24,7 @@ set_hit (x ∷ xs) (suc i) a b e = set_hit xs i a b e
 -- parts that may give as many seats as before
 pub same_seats :
     (f : Part → Part) (view : View)
-    → ((j : ℕ) (a : Part) → get_elem? view j ≡ some a → (f a).gives ≡ a.gives)
+    → ((j : ℕ) (a : Part) → get_elem? view j ≡ some a → (f a).may_give ≡ a.may_give)
     → seats_of (map f view) ≡ seats_of view
 same_seats f [] same = refl
 same_seats f (a ∷ more) same =

@@ -203,7 +203,7 @@ module _ (size : ℕ) (a : Part) where
   }
 
 -- a view of one part, which keeps all that it knows
-module _ (n id : ℕ) (a x y : Part) (fx : From a x) (fy : From a y) (apart : AreApart x y) (keeps : Keeps a x) (shared : 1 + a.gives ≡ (1 + x.gives) + (1 + y.gives)) where
+module _ (n id : ℕ) (a x y : Part) (fx : From a x) (fy : From a y) (apart : AreApart x y) (keeps : Keeps a x) (shared : 1 + a.may_give ≡ (1 + x.may_give) + (1 + y.may_give)) where
   pub splits_one : Splits (LifeRule n) id (a ∷ []) (x ∷ []) (y ∷ [])
   splits_one = splits n id (a ∷ []) x y a a 0 0 refl refl fx fy apart
       (λ j b e. inl (subst (λ (z : Part). Keeps z x) (at_one a b j e).1 keeps))

@@ -10,7 +10,7 @@ use Rattle.hg_place.specs.declared.standing.Standing.{Standing}
 use Rattle.hg_place.specs.Lives.{word_generation, word_life, IsSlotWord, IsAtOrBefore}
 use Rattle.hg_place.specs.Standings.{standing_at, Fits}
 use Rattle.hg_table.specs.declared.view.Part.{Part}
-use Rattle.hg_table.specs.View.{View, Table, Has, IsSeen, IsEnded, all_seats, MOST_GIVEN}
+use Rattle.hg_table.specs.View.{View, Table, Has, IsSeen, IsEnded, all_seats, SEATS_TO_GIVE}
 use Rattle.hg_table.specs.LifeRule.{LifeRule, IsOver}
 use Rattle.hg_table.proofs.Knowing.{Knows, known, itself, between, over_after}
 use Rattle.hg_table.proofs.Counted.{map_at, set_hit, same_seats, seats_kept}
@@ -26,7 +26,7 @@ pub record Change (p u v : ℕ) (old new : Part) : Type 0 where
   pub saw_it : (l : ℕ) × (get_elem? new.seen l ≡ some (p, v))
   pub seen_still : (k q w : ℕ) → get_elem? old.seen k ≡ some (q, w) → (l : ℕ) × (get_elem? new.seen l ≡ some (q, w))
   pub ended_still : (k q g : ℕ) → get_elem? old.ended k ≡ some (q, g) → (l : ℕ) × (get_elem? new.ended l ≡ some (q, g))
-  pub gives : new.gives ≡ old.gives
+  pub may_give : new.may_give ≡ old.may_give
   pub here : (k : ℕ) → k < length old.records → old.first + k ≡ p → Fits (standing_at new.records k) v
   pub elsewhere : (k : ℕ) → k < length old.records → old.first + k ≢ p → standing_at new.records k ≡ standing_at old.records k
 
@@ -163,7 +163,7 @@ module _ (n : ℕ) (s : Table) (r : LifeRule n s) (p v id : ℕ) (c : List (ℕ 
     over_is_ended = λ q g one. word_at_set s.words p v q (λ z. IsOver g z → IsEnded views' q g) inside
         (λ (e : p ≡ q). subst (λ (z : ℕ). IsOver g v → IsEnded views' z g) e (over_here g one))
         (λ _ over. ended_on q g (r.over_is_ended q g one over));
-    seats = seats_kept s.views id old new at (same_seats f old (λ j a e. (each j a e).gives)) ∙ r.seats;
+    seats = seats_kept s.views id old new at (same_seats f old (λ j a e. (each j a e).may_give)) ∙ r.seats;
     all_words = length-set s.words p v ∙ r.all_words;
     spare = word_at_set s.words p v 0 (λ z. z ≡ 0) inside free (λ _. r.spare);
     well_formed = λ q. word_at_set s.words p v q IsSlotWord inside (λ _. sane) (λ _. r.well_formed q);

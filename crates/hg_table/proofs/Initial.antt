@@ -59,14 +59,14 @@ is_initial n v is = subst (IsInitial 0 n) (sym is) record {
   first = refl;
   left = length-replicate n (Home 0);
   home = home_everywhere n;
-  gives = refl;
+  may_give = refl;
 }
 
 -- what is left of the initial seat, and what the new seat has
-pub cut : (done rest : ℕ) (v left right : View) → IsInitial done (rest + SEGMENT_PLACES) v → 1 ≤ (part_of v).gives → left ≡ map (later_records SEGMENT_PLACES) v → right ≡ map (first_records SEGMENT_PLACES) v
+pub cut : (done rest : ℕ) (v left right : View) → IsInitial done (rest + SEGMENT_PLACES) v → 1 ≤ (part_of v).may_give → left ≡ map (later_records SEGMENT_PLACES) v → right ≡ map (first_records SEGMENT_PLACES) v
     → IsInitial (done + 1) rest left
     × (right ≡ part_of right ∷ []) × ((part_of right).seen ≡ []) × ((part_of right).ended ≡ []) × ((part_of right).first ≡ done * SEGMENT_PLACES + 1) × (length (part_of right).records ≡ SEGMENT_PLACES)
-    × ((k : ℕ) → k < SEGMENT_PLACES → standing_at (part_of right).records k ≡ Home 0) × ((part_of right).gives ≡ 0)
+    × ((k : ℕ) → k < SEGMENT_PLACES → standing_at (part_of right).records k ≡ Home 0) × ((part_of right).may_give ≡ 0)
 cut done rest v left right f some_left l r = let a : Part = part_of v in
     let le : left ≡ later_records SEGMENT_PLACES a ∷ [] = l ∙ ap (map (later_records SEGMENT_PLACES)) f.one in let re : right ≡ first_records SEGMENT_PLACES a ∷ [] = r ∙ ap (map (first_records SEGMENT_PLACES)) f.one in
     let wide = f.left in let base = f.first in
@@ -79,7 +79,7 @@ cut done rest v left right f some_left l r = let a : Part = part_of v in
         first = omega arith;
         left = more;
         home = λ k. get_or-drop SEGMENT_PLACES a.records k (Home 0) ∙ f.home (SEGMENT_PLACES + k);
-        gives = let given = f.gives in omega arith;
+        may_give = let given = f.may_give in omega arith;
       },
       subst (λ (z : View). z ≡ part_of z ∷ []) (sym re) refl,
       ap (λ (z : View). (part_of z).seen) re,
@@ -87,7 +87,7 @@ cut done rest v left right f some_left l r = let a : Part = part_of v in
       ap (λ (z : View). (part_of z).first) re ∙ base,
       ap (λ (z : View). length (part_of z).records) re ∙ some_of,
       (λ k b. ap (λ (z : View). standing_at (part_of z).records k) re ∙ (get_or-take SEGMENT_PLACES a.records k (Home 0) b ∙ f.home k)),
-      ap (λ (z : View). (part_of z).gives) re,
+      ap (λ (z : View). (part_of z).may_give) re,
     )
 
 -- two lists of records that say the same

@@ -1,16 +1,16 @@
 -- What holds of each table that steps lead to.
-use Rattle.std.proofs.Common.{◌≡◌, ℕ, zero, suc, ◌+◌, ◌-◌, ◌<◌, ◌==◌, if◌then◌else◌, Bool, List, [], ◌∷◌, set, get_or, replicate, sym, refl, ap, ◌∙◌, subst, arith, eq-eqb, ne_eqb}
+use Rattle.std.proofs.Common.{◌≡◌, ◌≢◌, ◌⊎◌, inl, inr, ℕ, zero, suc, ◌+◌, ◌-◌, ◌<◌, ◌==◌, if◌then◌else◌, Bool, List, [], ◌∷◌, set, get_or, replicate, sym, refl, ap, ◌∙◌, subst, arith, eq-eqb, ne_eqb}
 use Rattle.std.proofs.Math.ListN.{length-replicate}
 use mathlib.Core.Logic.{dite}
 use mathlib.Core.Option.{some}
 use native.Mathlib.Decide.{ℕ_discrete}
 use lib.ListN.{get_elem?}
 use Rattle.atomic_table.proofs.Lists.{set_else}
-use Rattle.hg_place.specs.Lives.{IsSlotWord, IsAtOrBefore, IsLiveWord}
-use Rattle.hg_table.specs.View.{View, Table, seats_of}
+use Rattle.hg_place.specs.Lives.{IsSlotWord, IsAtOrBefore, IsLiveWord, word_generation}
+use Rattle.hg_table.specs.View.{View, Table, IsSeen, seats_of}
 use Rattle.hg_table.specs.LifeRule.{LifeRule}
 use Rattle.hg_table.specs.Steps.{WordStep, look, open_as, close_from, part_from, take_home, left_by, MayMake, Kind, at_word, split, join, Makes, Steps}
-use Rattle.hg_table.specs.LifeLaws.{SeatsAreShared, EndedBySomeSeat, WordsAreSeen, TheRuleGoesForward, new_table, LeadTo, none, next, StepsKeepTheRule, WordsGoForward, EndedStaysEnded, EndedByOneSeat, SeenIsNeverAhead, RecordsHold}
+use Rattle.hg_table.specs.LifeLaws.{NothingIsForgotten, SeatsStayAsMany, WhatEndsIsEnded, EndedBySomeSeat, WordsAreSeen, TheRuleGoesForward, new_table, LeadTo, none, next, StepsKeepTheRule, WordsGoForward, EndedStaysEnded, EndedByOneSeat, SeenIsNeverAhead, RecordsHold}
 use Rattle.hg_table.proofs.Knowing.{itself, between, over_after}
 use Rattle.hg_table.proofs.Counted.{seats_set, seats_more}
 use Rattle.hg_table.proofs.Forward.{word_at_set}
@@ -105,24 +105,79 @@ are_seen places at s to there = (from_new places s to).words_are_seen at there
 never_given : (word : ℕ) → IsSlotWord word → IsAtOrBefore 0 word
 never_given word slot = (omega arith, λ same. let zero_is : word ≡ 0 = slot.2 (omega arith) in (omega arith, omega arith))
 
+goes_forward :
+    (places at : ℕ) (s t : Table) → LifeRule places s → LifeRule places t
+    → NothingIsForgotten s.views t.views → IsAtOrBefore (get_or s.words at 0) (get_or t.words at 0)
+goes_forward places at s t r r' kept = dite (ℕ_discrete (get_or s.words at 0) 0)
+    (λ zero_is. subst (λ (z : ℕ). IsAtOrBefore z (get_or t.words at 0)) (sym zero_is)
+    (never_given (get_or t.words at 0) (r'.well_formed at)))
+    (λ there. let x = kept at (get_or s.words at 0) (r.words_are_seen at there) in
+    r'.seen_is_past x.0 x.1 x.3 x.4 x.2 at (get_or s.words at 0) x.5)
+
+-- two words of a slot, each at or before the other, are one
+one_word :
+    (one other : ℕ) → IsSlotWord one → IsSlotWord other → IsAtOrBefore one other
+    → IsAtOrBefore other one → one ≡ other
+one_word one other a b before behind =
+    let low = before.0 in
+    let high = behind.0 in
+    let same : word_generation one ≡ word_generation other = omega arith in
+    let owner = (before.1 same).0 in
+    let life = (before.1 same).1 in
+    let life' = (behind.1 (sym same)).1 in
+    omega arith
+
+changed_word :
+    (places at : ℕ) (s t : Table) → LifeRule places s → LifeRule places t
+    → NothingIsForgotten s.views t.views → get_or t.words at 0 ≢ get_or s.words at 0
+    → IsSeen t.views at (get_or t.words at 0) × (¬ IsSeen s.views at (get_or t.words at 0))
+changed_word places at s t r r' kept differs =
+    let forward = goes_forward places at s t r r' kept in
+    let u : ℕ = get_or s.words at 0 in
+    let v : ℕ = get_or t.words at 0 in (
+      r'.words_are_seen at
+          (λ zero_is. differs (zero_is ∙ sym (none_before u (r.well_formed at)
+          (subst (λ (z : ℕ). IsAtOrBefore u z) zero_is forward)))),
+      λ x. differs (one_word v u (r'.well_formed at) (r.well_formed at)
+          (r.seen_is_past x.0 x.1 x.3 x.4 x.2 at v x.5) forward),
+    )
+  where
+    none_before : (word : ℕ) → IsSlotWord word → IsAtOrBefore word 0 → word ≡ 0
+    none_before word slot before = slot.2 (let low = before.0 in omega arith)
+
 pub rule_forward : TheRuleGoesForward
-rule_forward places at s t r r' kept = dite (ℕ_discrete (get_or s.words at 0) 0)
-    (λ zero_is. subst (λ (z : ℕ). IsAtOrBefore z (get_or t.words at 0)) (sym zero_is) (never_given (get_or t.words at 0) (r'.well_formed at)))
-    (λ there. let x = kept at (get_or s.words at 0) (r.words_are_seen at there) in r'.seen_is_past x.0 x.1 x.3 x.4 x.2 at (get_or s.words at 0) x.5)
+rule_forward = record { forward = goes_forward; changed = changed_word }
+
+pub ends_ended : WhatEndsIsEnded
+ends_ended places at generation s t r r' one before over = (
+  r'.over_is_ended at generation one over,
+  λ x. before (r.ended_is_over x.0 x.1 x.3 x.4 x.2 at generation x.5),
+)
 
 no_seats : (view : View) → seats_of view ≡ 0 → view ≡ []
 no_seats [] e = refl
 no_seats (part ∷ more) e = absurd (omega arith)
 
-pub are_shared : SeatsAreShared
-are_shared = record {
-  cut = λ places id s words view left right r here r'.
-      let put = seats_set s.views id view left here in
-      let more = seats_more (set s.views id left) right in
+one_has_none :
+    (left right : View) → seats_of left + seats_of right ≡ 1 → (left ≡ []) ⊎ (right ≡ [])
+one_has_none [] right e = inl refl
+one_has_none (part ∷ more) right e = inr (no_seats right (omega arith))
+
+pub stay_as_many : SeatsStayAsMany
+stay_as_many = record {
+  many = λ places s t r r'. r'.seats ∙ sym r.seats;
+  step = λ places id s words homes view new r here r'.
+      let put = seats_set s.views id view new here in
       let before = r.seats in
       let after = r'.seats in
       omega arith;
-  come = λ places s words view r r'.
+  cut = λ places id s words homes part left right r here none r'.
+      let put = seats_set s.views id (part ∷ []) left here in
+      let more = seats_more (set s.views id left) right in
+      let before = r.seats in
+      let after = r'.seats in
+      one_has_none left right (omega arith);
+  come = λ places s words homes view r r'.
       let more = seats_more s.views view in
       let before = r.seats in
       let after = r'.seats in

@@ -78,12 +78,12 @@ module _ (p u v : ℕ) (a : Part) (ended' : List (ℕ × ℕ)) (rs : List Standi
       → ((k q g : ℕ) → get_elem? a.ended k ≡ some (q, g) → (l : ℕ) × (get_elem? ended' l ≡ some (q, g)))
       → ((k : ℕ) → k < length a.records → a.first + k ≡ p → Fits (standing_at rs k) v)
       → ((k : ℕ) → k < length a.records → a.first + k ≢ p → standing_at rs k ≡ standing_at a.records k)
-      → Change p u v a record { seen = a.seen ++ (p, v) ∷ []; ended = ended'; first = a.first; records = rs; gives = a.gives }
+      → Change p u v a record { seen = a.seen ++ (p, v) ∷ []; ended = ended'; first = a.first; records = rs; may_give = a.may_give }
   change wide ended still here elsewhere = record {
     saw_it = (length a.seen, at_last a.seen (p, v) (length a.seen) refl);
     seen_still = λ k q w e. (k, at_longer a.seen ((p, v) ∷ []) k (q, w) e);
     ended_still = still;
-    gives = refl;
+    may_give = refl;
     first = refl;
     records = wide;
     seen = λ k q w e. ⊎_elim (λ (o : get_elem? a.seen k ≡ some (q, w)). inr (k, o)) (λ (is : ◌≡◌ {A = ℕ × ℕ} (p, v) (q, w)). inl (pair_is p v q w is)) (at_snoc a.seen (p, v) (q, w) k e);

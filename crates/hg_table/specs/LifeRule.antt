@@ -6,7 +6,7 @@ use lib.ListN.{get_elem?}
 use Rattle.hg_place.specs.Lives.{IsSlotWord, IsAtOrBefore, word_generation, word_life}
 use Rattle.hg_place.specs.Standings.{standing_at, Fits}
 use Rattle.hg_table.specs.declared.view.Part.{Part}
-use Rattle.hg_table.specs.View.{Table, Has, IsSeen, IsEnded, all_seats, MOST_GIVEN}
+use Rattle.hg_table.specs.View.{Table, Has, IsSeen, IsEnded, all_seats, SEATS_TO_GIVE}
 
 -- the life of this generation is over where a word is this one
 abbrev pub IsOver : ℕ → ℕ → Type 0
@@ -60,9 +60,9 @@ pub record LifeRule (places : ℕ) (table : Table) : Type 0 where
   pub words_are_seen :
       (at : ℕ) → slice_index table.words at ≢ 0
       → IsSeen table.views at (slice_index table.words at)
-  -- each life that is over was ended by some seat
+  -- each life that is over was ended by some seat: lives are counted from generation 1 on
   pub over_is_ended :
       (at generation : ℕ) → 1 ≤ generation → IsOver generation (slice_index table.words at)
       → IsEnded table.views at generation
-  -- no seat comes but out of the initial one, and no more than so many
-  pub seats : all_seats table.views ≡ 1 + MOST_GIVEN
+  -- parts, and the seats that may still come out of them, are together as many as at first
+  pub seats : all_seats table.views ≡ 1 + SEATS_TO_GIVE

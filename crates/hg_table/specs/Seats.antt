@@ -10,7 +10,7 @@ use Rattle.atomic_table.specs.Seated.{TableId}
 use Rattle.atomic_table.specs.declared.shared.Seat.{Seat}
 use Rattle.atomic_table.specs.declared.badge.Badge.{Badge}
 use Rattle.hg_table.specs.declared.view.Part.{Part}
-use Rattle.hg_table.specs.View.{View, blank, part_of, MOST_GIVEN}
+use Rattle.hg_table.specs.View.{View, blank, part_of, SEATS_TO_GIVE}
 use Rattle.hg_table.specs.Told.{IsShown, AreApart}
 
 -- the name of no table
@@ -57,7 +57,7 @@ HasStepped part at found left after =
     × (after.ended ≡ ended_after at found left part.ended)
 
 -- A meeting of two seats at a word: it is shown to both, no life was ended by both, and each has
--- seen the word and changed nothing else
+-- seen the word, and seen and ended nothing else
 pub record HaveMet (at word : ℕ) (a b a' b' : Part) : Type 0 where
   pub shown : IsShown at word a
   pub shown_other : IsShown at word b
@@ -86,7 +86,8 @@ abbrev pub AreHome : List Standing → Type 0
 AreHome records = (slot : ℕ) → standing_at records slot ≡ Home 0
 
 -- The view of the initial seat once this many segments have seats of their own, which came out of
--- it: so many places are left, each home and never given out, and nothing was seen or ended
+-- it, so that as many fewer may: so many places are left, each home and never given out, and nothing
+-- was seen or ended
 pub record IsInitial (segments places : ℕ) (view : View) : Type 0 where
   pub one : view ≡ part_of view ∷ []
   pub seen : (part_of view).seen ≡ []
@@ -94,4 +95,4 @@ pub record IsInitial (segments places : ℕ) (view : View) : Type 0 where
   pub first : (part_of view).first ≡ segments * SEGMENT_PLACES + 1
   pub left : length (part_of view).records ≡ places
   pub home : AreHome (part_of view).records
-  pub gives : (part_of view).gives + segments ≡ MOST_GIVEN
+  pub may_give : (part_of view).may_give + segments ≡ SEATS_TO_GIVE

@@ -75,7 +75,8 @@ MayMake (part_from expected) at view = IsAlone at view × IsLiveWord expected
 MayMake take_home at view = IsAlone at view × HasRecord at (part_of view)
 
 -- split: the second part of a view goes to a new seat; or the records of the first segment that is
--- left with the initial seat; or nothing. By the last two the seats become one more
+-- left with the initial seat; or nothing. By the last two a seat comes out of the one that is cut,
+-- which may give one fewer from then on
 pub data Cut : Type 0 where
   second_part : Cut
   first_segment : Cut
@@ -95,8 +96,8 @@ given_by nothing view = blank ∷ []
 -- a view of two parts is cut between them, else one of one part, out of which a seat may come still
 abbrev pub MayCut : Cut → View → Type 0
 MayCut second_part view = (a : Part) × (b : Part) × (view ≡ a ∷ b ∷ [])
-MayCut first_segment view = (view ≡ part_of view ∷ []) × (1 ≤ (part_of view).gives)
-MayCut nothing view = (view ≡ part_of view ∷ []) × (1 ≤ (part_of view).gives)
+MayCut first_segment view = (view ≡ part_of view ∷ []) × (1 ≤ (part_of view).may_give)
+MayCut nothing view = (view ≡ part_of view ∷ []) × (1 ≤ (part_of view).may_give)
 
 -- join: a second seat's one part stands beside the one of the seat, and the second is spent
 pub data Kind : Type 0 where

@@ -28,7 +28,7 @@ HasRecord at part = (k : ℕ) × (k < length part.records) × (part.first + k �
 
 -- a part that knows nothing
 abbrev pub blank : Part
-blank = record { seen = []; ended = []; first = 0; records = []; gives = 0 }
+blank = record { seen = []; ended = []; first = 0; records = []; may_give = 0 }
 
 -- some part has seen this word at the place; some part has ended this life of it
 abbrev pub IsSeen : List View → ℕ → ℕ → Type 0
@@ -41,10 +41,10 @@ IsEnded views at generation =
     (i : ℕ) × (j : ℕ) × (k : ℕ) × (part : Part) × Has views i j part
     × (get_elem? part.ended k ≡ some (at, generation))
 
--- how many seats the parts are, with those that may still come out of them
+-- how many seats these parts are, with those that may still come out of them
 abbrev pub seats_of : View → ℕ
 seats_of [] = 0
-seats_of (part ∷ more) = 1 + part.gives + seats_of more
+seats_of (part ∷ more) = 1 + part.may_give + seats_of more
 
 abbrev pub all_seats : List View → ℕ
 all_seats [] = 0
@@ -52,8 +52,8 @@ all_seats (view ∷ more) = seats_of view + all_seats more
 
 -- how many seats may come out of the initial one: one for each segment that a policy may have, and
 -- one for each of its workers, who are 16 at most
-abbrev pub MOST_GIVEN : ℕ
-MOST_GIVEN = MAX_SEGMENTS + 16
+abbrev pub SEATS_TO_GIVE : ℕ
+SEATS_TO_GIVE = MAX_SEGMENTS + 16
 
 -- the part has seen this word too
 abbrev pub saw : ℕ → ℕ → Part → Part
@@ -75,7 +75,7 @@ initial_part places = record {
   ended = [];
   first = 1;
   records = replicate places (Home 0);
-  gives = MOST_GIVEN;
+  may_give = SEATS_TO_GIVE;
 }
 
 abbrev pub initial_view : ℕ → View
@@ -83,7 +83,7 @@ initial_view places = initial_part places ∷ []
 
 -- a seat came out of the part
 abbrev pub giving : Part → Part
-giving part = record part { gives = part.gives - 1 }
+giving part = record part { may_give = part.may_give - 1 }
 
 -- so many records at the front of a part, for the seat of a segment, and what is left of the part
 abbrev pub first_records : ℕ → Part → Part
@@ -92,14 +92,14 @@ first_records count part = record {
   ended = [];
   first = part.first;
   records = take count part.records;
-  gives = 0;
+  may_give = 0;
 }
 
 abbrev pub later_records : ℕ → Part → Part
 later_records count part = record part {
   first = part.first + count;
   records = drop count part.records;
-  gives = part.gives - 1;
+  may_give = part.may_give - 1;
 }
 
 -- the one part of a view

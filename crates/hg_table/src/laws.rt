@@ -4,7 +4,7 @@
 ghost use Rattle.hg_table.specs.LifeLaws.{StepsKeepTheRule, WordsGoForward, EndedStaysEnded};
 ghost use Rattle.hg_table.specs.LifeLaws.{EndedByOneSeat, SeenIsNeverAhead, RecordsHold};
 ghost use Rattle.hg_table.specs.LifeLaws.{EndedBySomeSeat, WordsAreSeen, TheRuleGoesForward};
-ghost use Rattle.hg_table.specs.LifeLaws.{SeatsAreShared};
+ghost use Rattle.hg_table.specs.LifeLaws.{WhatEndsIsEnded, SeatsStayAsMany};
 ghost use Rattle.hg_table.specs.KnownLaws.{StepsAddOneLife, MeetingsAreApart, NothingIsKnown};
 ghost use Rattle.hg_table.specs.KnownLaws.{LeftIsPastSeen};
 
@@ -38,16 +38,23 @@ pub fn words_are_seen()
     ensures { WordsAreSeen }
 {}
 
-/// Whatever leads from one table that keeps the rule to another, no word goes back, as long as no
-/// seat forgets what it has seen.
+/// Whatever leads from one table that keeps the rule to another, no word goes back, as long as what
+/// some seat had seen some seat has seen still; and a word that has changed some seat has seen now.
 pub fn the_rule_goes_forward()
     ensures { TheRuleGoesForward }
 {}
 
-/// However a seat is cut in two, the two stand for as many as it did, and no seat that has a part
-/// comes from nothing. So a call ends no life by a seat that nobody knows of.
-pub fn seats_are_shared()
-    ensures { SeatsAreShared }
+/// Whatever leads from one table that keeps the rule to another, a life that is over in that one
+/// alone some seat has ended meanwhile.
+pub fn what_ends_is_ended()
+    ensures { WhatEndsIsEnded }
+{}
+
+/// Whatever leads from one table that keeps the rule to another, the seats, with those that may
+/// still come out of them, stay as many: a seat out of which none may come can't be cut into two that
+/// know anything, and one that comes from nothing knows nothing.
+pub fn seats_stay_as_many()
+    ensures { SeatsStayAsMany }
 {}
 
 /// What was seen is never ahead of the word.

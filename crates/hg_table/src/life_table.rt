@@ -7,6 +7,7 @@ ghost use Rattle.std.specs.Box.{boxed_slice_items};
 ghost use Rattle.hg_place.specs.declared.geometry.TheConstants.{MAX_SEGMENTS, SEGMENT_PLACES};
 ghost use Rattle.hg_table.specs.Ids.{TableId-set};
 ghost use Rattle.hg_table.specs.Seats.{IsInitial, AreHome, KnowsNothing, part_in, part_on};
+ghost use Rattle.hg_table.specs.View.{SEATS_TO_GIVE};
 
 use crate::name::TableName;
 use crate::plays::{NextSegment, NextWorker};
@@ -31,7 +32,7 @@ pub struct LifeTable {
     ghost wide: { table.shared.table_id.words ≡ table.shared.key + 1 },
     ghost long: { table.shared.key ≡ segments * SEGMENT_PLACES },
     ghost few: { segments ≤ MAX_SEGMENTS },
-    ghost few_workers: { workers ≤ 16 },
+    ghost few_workers: { MAX_SEGMENTS + workers ≤ SEATS_TO_GIVE },
     ghost bare: { initial.me.1 ≡ [] },
     ghost home: { IsInitial 0 (segments * SEGMENT_PLACES) initial.me.0 },
 }
@@ -78,6 +79,9 @@ impl LifeTable {
         ensures workers { IfOk result (λ seats. length seats.workers.items ≡ self.workers) }
         ensures nothing { IfOk result (λ seats. All (λ seat.
             KnowsNothing (part_on seat.inner.badge)) seats.workers.items) }
+        ensures give_none { IfOk result (λ seats.
+            All (λ seat. (part_in seat.inner.seat).may_give ≡ 0) seats.segments.items
+            × All (λ seat. (part_on seat.inner.badge).may_give ≡ 0) seats.workers.items) }
     {
         let LifeTable {
             table,
@@ -148,11 +152,11 @@ fn worker_seat(
     requires wide { (arc_value table.now).shared.table_id.words
         ≡ (arc_value table.now).shared.key + 1 }
     requires one { initial.old.me.0 ≡ part_in initial.old ∷ [] }
-    requires left { 1 ≤ (part_in initial.old).gives }
+    requires left { 1 ≤ (part_in initial.old).may_give }
     ensures same { initial.new.table_id ≡ initial.old.table_id }
     ensures one { initial.new.me.0 ≡ part_in initial.new ∷ [] }
     ensures rest { IfOk result (λ _.
-        (part_in initial.new).gives + 1 ≡ (part_in initial.old).gives) }
+        (part_in initial.new).may_give + 1 ≡ (part_in initial.old).may_give) }
     ensures named { IfOk result (λ seat. seat.badge.table_id ≡ initial.old.table_id) }
     ensures nothing { IfOk result (λ seat. KnowsNothing (part_on seat.badge)) }
 {

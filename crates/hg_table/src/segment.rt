@@ -40,7 +40,7 @@ pub struct UnnamedSegment {
         ≤ (arc_value table).shared.key },
     ghost segment_below: { segment < MAX_SEGMENTS },
     ghost one: { seat.me.0 ≡ part_of seat.me.0 ∷ [] },
-    ghost spent: { (part_of seat.me.0).gives ≡ 0 },
+    ghost gives_none: { (part_of seat.me.0).may_give ≡ 0 },
     ghost bare: { seat.me.1 ≡ [] },
     ghost first: { (part_of seat.me.0).first ≡ segment * SEGMENT_PLACES + 1 },
     ghost recorded: { (part_of seat.me.0).records ≡ boxed_slice_items records },

@@ -11,8 +11,9 @@ pub struct Part {
     pub first: u64,
     /// The records of that place and those that follow it.
     pub records: LinkedList<Standing>,
-    /// How many seats may still come out of this one.
-    pub gives: u64,
+    /// How many seats may still come out of this one: 80 of the initial seat, at first, and none of
+    /// any other.
+    pub may_give: u64,
 }
 
 /// One part; two in a seat that took in another, until they are cut; none in the one taken in.

@@ -31,7 +31,7 @@ pub struct UnnamedWorker {
         ≡ (arc_value table).shared.key + 1 },
     ghost one: { badge.views ≡ (part_on badge ∷ []) ∷ [] },
     ghost plain: { length (part_on badge).records ≡ 0 },
-    ghost spent: { (part_on badge).gives ≡ 0 },
+    ghost gives_none: { (part_on badge).may_give ≡ 0 },
 }
 
 /// The seat of a worker, for the words of segments that it doesn't hold.

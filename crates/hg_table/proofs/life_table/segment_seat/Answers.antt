@@ -10,8 +10,8 @@ use Rattle.hg_table.proofs.life_table.segment_seat.Goals as goal
 -- a seat may come still where a segment is left
 left :
     {done places : ℕ} {view : View} → IsInitial done places view → done < MAX_SEGMENTS
-    → 1 ≤ (part_of view).gives
-left f below = let given = f.gives in omega arith
+    → 1 ≤ (part_of view).may_give
+left f below = let given = f.may_give in omega arith
 
 pub split_seat-seat-requires : goal.split_seat-seat-requires
 split_seat-seat-requires c =
@@ -32,7 +32,7 @@ invariant_of-result c =
       segment_below = search rules;
       one = t.1;
       bare = search rules;
-      spent = t.7;
+      gives_none = t.7;
       first = t.4;
       recorded = all_home _ _ t.5 c.in_ok-records.ensures.all t.6 home;
       sized = search rules;

@@ -1,7 +1,7 @@
 use Rattle.std.proofs.Common.{◌≡◌, ℕ, ◌+◌, ◌<◌, slice_index_or, ◌-◌, ◌*◌, [], ◌∷◌, length, All}
 use Rattle.std.specs.Box.{boxed_slice_items}
 use Rattle.hg_place.specs.declared.geometry.TheConstants.{SEGMENT_PLACES}
-use Rattle.hg_table.specs.View.{part_of, MOST_GIVEN}
+use Rattle.hg_table.specs.View.{part_of, SEATS_TO_GIVE}
 use Rattle.hg_table.specs.Seats.{IsInitial, AreHome, KnowsNothing, part_in, part_on}
 use Rattle.hg_table.proofs.life_table.LifeTable.open.Given as goal
 
@@ -19,7 +19,7 @@ abbrev pub invariant-loop : goal.invariant-loop
 invariant-loop g l = record {
   named : l.giver.table_id ≡ l.fn.self.initial.table_id;
   one : l.giver.me.0 ≡ part_of l.giver.me.0 ∷ [];
-  left : (part_of l.giver.me.0).gives + l.fn.self.segments + l.counter ≡ MOST_GIVEN;
+  left : (part_of l.giver.me.0).may_give + l.fn.self.segments + l.counter ≡ SEATS_TO_GIVE;
   count : length l.workers.items ≡ l.counter;
   nothing : All (λ seat. KnowsNothing (part_on seat.inner.badge)) l.workers.items;
 }
