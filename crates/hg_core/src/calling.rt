@@ -22,7 +22,7 @@ impl Core {
     /// 0, of a segment of the arena that the worker holds: at the place of the order of choice. A
     /// refusal changes nothing. `Denied` names the first rule that refuses: `Stranger`,
     /// `ForeignArena`, `OverLimit` by what the actor has in the worker's heap; `TooLarge` is above
-    /// 4,096 bytes; `NoRoom` where no place of those segments may have such a block.
+    /// 65,536 bytes; `NoRoom` where no place of those segments may have such a block.
     pub fn alloc(
         &mut self,
         worker: u8,

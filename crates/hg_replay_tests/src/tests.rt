@@ -2,7 +2,7 @@ mod checks;
 mod deny_rows;
 mod explained;
 mod fakes;
-mod hostile;
+mod hostile_input;
 mod inputs;
 mod large_rows;
 mod orders;

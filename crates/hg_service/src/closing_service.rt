@@ -17,7 +17,8 @@ use std::sync::Wait;
 
 impl<N: ServiceName> Service<N> {
     /// The service becomes a core, for a host that stops its threads and goes on in one: in that
-    /// core nobody holds a segment, each hand is empty, and the blocks live on.
+    /// core nobody holds a segment and each hand is empty. That it has what stood behind the locks,
+    /// so that the blocks live on, no clause says.
     ///
     /// Memory is asked for first, all of it. Then `StillHeld` with the lowest segment that isn't in
     /// the pool, and `StillOut` with the lowest worker that was taken and hasn't left: then the

@@ -71,8 +71,9 @@ impl<N: ServiceName> KeptList<N> {
         self.receive(worker)
     }
 
-    /// What the worker has in hand comes to this list, as that of its segment. `NothingInHand` where
-    /// that is nothing; `Busy` where the list has it already, and then it stays in the hand.
+    /// What the worker has in hand comes to this list, taken for that of the block's segment, which
+    /// isn't asked. `NothingInHand` where that is nothing; `Busy` where the list has it already, and
+    /// then it stays in the hand.
     pub(crate) fn receive(&mut self, worker: &mut Worker<N>) -> Answer
         ensures delivered { IsDelivered worker.old.inner.value.hand result self.old.list self.new.list
             worker.new.inner.value.hand }
@@ -105,8 +106,8 @@ impl<N: ServiceName> KeptList<N> {
         self.drain(worker, self.segment)
     }
 
-    /// The worker takes in what this list has, as that of this segment. `NotHeld` where it doesn't
-    /// hold that, and then nothing changes.
+    /// The worker takes in what this list has, taken for that of this segment, which isn't asked.
+    /// `NotHeld` where it doesn't hold that, and then nothing changes.
     pub(crate) fn drain(&mut self, worker: &mut Worker<N>, segment: u8) -> Answer
         ensures taken { IsTakenFrom number_in records_in seat_shows seat_steps
             (is_held number_in worker.old.inner.value.heap.segments segment) segment result
@@ -124,7 +125,8 @@ impl<N: ServiceName> KeptList<N> {
         worker.take_from(segment, &mut self.list)
     }
 
-    /// What this list has goes over to where a service closes, as the list of this segment.
+    /// What this list has goes over to where a service closes, as the list of this segment; what was
+    /// there for it is left here.
     pub(crate) fn go_over(&mut self, room: &mut CloseRoom, segment: u8)
         requires { segment < length room.old.parts.remotes.items }
         ensures lists { room.new.parts.remotes.items

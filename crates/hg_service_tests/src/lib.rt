@@ -6,6 +6,8 @@ mod closed;
 #[cfg(test)]
 mod closing;
 #[cfg(test)]
+mod closing_each;
+#[cfg(test)]
 mod closing_parts;
 #[cfg(test)]
 mod closing_refused;

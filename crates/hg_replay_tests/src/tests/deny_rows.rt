@@ -6,7 +6,7 @@ use std::alloc::Global;
 use std::process::Abort;
 
 /// The policy, behind its version: bob and carol are one group.
-const KEYS: &str = r#"workers = 1
+const KEYS: &str = r#"workers = 2
 tenant = [ {name = "alice", limit = 8192}, {name = "bob", limit = 64},
   {name = "carol", limit = 64} ]
 arena = [ {name = "main", segments = 2}, {name = "vault", segments = 1, exclusive = ["alice"]} ]
