@@ -19,6 +19,6 @@ index-requires g c =
 pub returns-clause-sent : goal.returns-clause-sent
 returns-clause-sent g c = record {
   old = c.deref_mut-kept.result.now.list;
-  new = c.receive.new.kept.list;
+  new = c.receive.new.self.list;
   delivered = c.receive.ensures.delivered;
 }

@@ -23,7 +23,7 @@ index-requires g c =
 pub returns-clause-taken : goal.returns-clause-taken
 returns-clause-taken g c = record {
   old = c.deref_mut-kept.result.now.list;
-  new = c.drain.new.kept.list;
+  new = c.drain.new.self.list;
   taken = c.drain.ensures.taken;
   whole = c.drain.ensures.whole;
   home = c.drain.ensures.home;
