@@ -19,6 +19,13 @@ unproved() {
     exec 3<&0
     guard
     scratch=$(mktemp -d)
+    # The option goes behind the files, wherever it stood; behind `--` it is the name of one.
+    explain='' ended=''
+    for it; do
+        shift
+        [ "$it" != -- ] || ended=yes
+        if [ "$ended$it" = --explain ]; then explain=$it; else set -- "$@" "$it"; fi
+    done
     # Only a race has threads, of which it is worth saying that nobody looks for races of theirs.
     left_out='/^\(checked\|interpreter\): /d; /^run=ended /d'
     [ "${1-}" = race ] || left_out="$left_out; /^races: not looked for/d"
@@ -50,7 +57,8 @@ unproved() {
             set -- test policy $lent
             ;;
     esac
-    set -- -- "$@"
+    # shellcheck disable=SC2086 # no word where it is empty
+    set -- -- "$@" $explain
     for it in "$scratch/policy" "$scratch"/trace*; do
         [ ! -f "$it" ] || set -- --data "${it##*/}=$it" "$@"
     done

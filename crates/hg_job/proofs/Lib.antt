@@ -1,3 +1,4 @@
 pub mod CommandLemmas
 pub mod JobLaws
 pub mod NumberLemmas
+pub mod OptionLemmas

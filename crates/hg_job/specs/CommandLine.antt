@@ -2,6 +2,7 @@
 use Rattle.std.specs.Prelude.{true, List, Some, map, codes, pos}
 use Rattle.clap.specs.Lexer.{usize_max}
 use Rattle.clap.specs.Words.{App, Rule, Text, new_app, new_rule, with_rule, with_subcommand}
+use Rattle.clap.specs.declared.builder.action.ArgAction.TheVariants.{SetTrue}
 use Rattle.clap.specs.declared.builder.value_parser.ValueParser.TheVariants as parser
 
 -- an operand that has to be there
@@ -18,13 +19,19 @@ several name = record (required name) {
   range = Some (record { start_inclusive = 1; end_inclusive = usize_max });
 }
 
+-- an option that is there or not
+abbrev pub flag : Text → Rule
+flag name = record (new_rule name) { long = Some name; action = Some SetTrue }
+
 abbrev pub check : App
 check = with_rule (new_app (codes "check")) (required (codes "POLICY"))
 
 abbrev pub replay : App
 replay =
-    with_rule (with_rule (new_app (codes "replay")) (required (codes "POLICY")))
-    (required (codes "TRACE"))
+    with_rule
+    (with_rule (with_rule (new_app (codes "replay")) (required (codes "POLICY")))
+    (required (codes "TRACE")))
+    (flag (codes "explain"))
 
 abbrev pub race : App
 race =
@@ -41,14 +48,18 @@ show = with_rule (new_app (codes "show")) (required (codes "POLICY"))
 
 -- the program alone: its words come without its own name, and help and the version are asked for by
 -- flags
-abbrev pub alone : App
-alone = record (new_app (codes "heapguard")) {
+abbrev pub named : App
+named = record (new_app (codes "heapguard")) {
   top = record (new_app (codes "heapguard")).top {
     no_binary_name = true;
     disable_help_subcommand = true;
     has_version = true;
   };
 }
+
+-- the same, with its option
+abbrev pub alone : App
+alone = with_rule named (flag (codes "explain"))
 
 -- the program with the commands that read a policy or a trace once, with those that run traces and
 -- races too, and with all its commands

@@ -1,10 +1,11 @@
 -- Laws of what words are answered.
 use Rattle.std.specs.Prelude.{⊤, ◌≡◌, ℕ, List, [], ◌∷◌, codes, map}
-use Rattle.clap.specs.Words.{Text, subcommand_of, fault_of}
+use Rattle.clap.specs.Words.{Text, matches_of, subcommand_of}
 use Rattle.hg_job.specs.CommandLine.{heapguard}
-use Rattle.hg_job.specs.Jobs.{IsJobAt, RefusedBy}
+use Rattle.hg_job.specs.Jobs.{IsJobAt, RefusedBy, faults_of}
 use Rattle.hg_job.specs.declared.job.Job.{Job}
 use Rattle.hg_job.specs.declared.job.Job.TheVariants.{Joined, Check, Replay, Race, Test, Show}
+use Rattle.hg_job.specs.declared.job.Job.TheVariants.{ExplainJoined, Explain}
 use Rattle.hg_job.specs.declared.job.JobFault.{JobFault}
 use Rattle.hg_job.specs.declared.job.JobFault.TheVariants.{Print, Line}
 
@@ -17,6 +18,11 @@ IsCheckOf file _ = ⊥
 abbrev pub IsReplayOf : Text → Text → Job → Type 0
 IsReplayOf first second (Replay policy trace) = (policy.now ≡ first) × (trace.now ≡ second)
 IsReplayOf first second _ = ⊥
+
+-- the same, with each answer explained
+abbrev pub IsExplainOf : Text → Text → Job → Type 0
+IsExplainOf first second (Explain policy trace) = (policy.now ≡ first) × (trace.now ≡ second)
+IsExplainOf first second _ = ⊥
 
 -- a race of so many rounds under the policy of this file
 abbrev pub IsRaceOf : Text → ℕ → Job → Type 0
@@ -34,22 +40,32 @@ abbrev pub IsShowOf : Text → Job → Type 0
 IsShowOf file (Show policy) = policy.now ≡ file
 IsShowOf file _ = ⊥
 
+-- the words ask for this job
+abbrev pub AskFor : List Text → Job → Type 0
+AskFor words job = IsJobAt (matches_of heapguard words) (subcommand_of heapguard words) job
+
 -- where there are no words, and where these words are given, this and no other job is asked for
 abbrev pub WordsAreJobs : Type 0
 WordsAreJobs =
     (job : Job)
-    → (IsJobAt (subcommand_of heapguard []) job → job ≡ Joined)
-    × (IsJobAt (subcommand_of heapguard (codes "check" ∷ codes "p" ∷ [])) job
-    → IsCheckOf (codes "p") job)
-    × (IsJobAt (subcommand_of heapguard (codes "replay" ∷ codes "p" ∷ codes "t" ∷ [])) job
+    → (AskFor [] job → job ≡ Joined)
+    × (AskFor (codes "check" ∷ codes "p" ∷ []) job → IsCheckOf (codes "p") job)
+    × (AskFor (codes "replay" ∷ codes "p" ∷ codes "t" ∷ []) job
     → IsReplayOf (codes "p") (codes "t") job)
-    × (IsJobAt (subcommand_of heapguard (codes "race" ∷ codes "p" ∷ codes "1000" ∷ [])) job
-    → IsRaceOf (codes "p") 1000 job)
-    × (IsJobAt
-    (subcommand_of heapguard (codes "test" ∷ codes "p" ∷ codes "t" ∷ codes "u" ∷ [])) job
+    × (AskFor (codes "race" ∷ codes "p" ∷ codes "1000" ∷ []) job → IsRaceOf (codes "p") 1000 job)
+    × (AskFor (codes "test" ∷ codes "p" ∷ codes "t" ∷ codes "u" ∷ []) job
     → IsTestOf (codes "p") (codes "t" ∷ codes "u" ∷ []) job)
-    × (IsJobAt (subcommand_of heapguard (codes "show" ∷ codes "p" ∷ [])) job
-    → IsShowOf (codes "p") job)
+    × (AskFor (codes "show" ∷ codes "p" ∷ []) job → IsShowOf (codes "p") job)
+
+-- and so where an explanation is asked for
+abbrev pub OptionsAreJobs : Type 0
+OptionsAreJobs =
+    (job : Job)
+    → (AskFor (codes "--explain" ∷ []) job → job ≡ ExplainJoined)
+    × (AskFor (codes "replay" ∷ codes "--explain" ∷ codes "p" ∷ codes "t" ∷ []) job
+    → IsExplainOf (codes "p") (codes "t") job)
+    × (AskFor (codes "replay" ∷ codes "p" ∷ codes "t" ∷ codes "--explain" ∷ []) job
+    → IsExplainOf (codes "p") (codes "t") job)
 
 -- a text to print, or want of memory
 abbrev pub IsPrinted : JobFault → Type 0
@@ -61,12 +77,15 @@ abbrev pub IsTold : JobFault → Type 0
 IsTold (Print text) = ⊥
 IsTold _ = ⊤
 
--- help and the version are printed, and a word that is no command, and a race of no rounds, are told
+-- help and the version are printed; and a word that is no command, a race of no rounds, an option
+-- twice, and one before a command, are told
 abbrev pub RequestsArePrinted : Type 0
 RequestsArePrinted =
     (fault : JobFault)
-    → (RefusedBy (fault_of heapguard (codes "--help" ∷ [])) fault → IsPrinted fault)
-    × (RefusedBy (fault_of heapguard (codes "--version" ∷ [])) fault → IsPrinted fault)
-    × (RefusedBy (fault_of heapguard (codes "jump" ∷ [])) fault → IsTold fault)
-    × (RefusedBy (fault_of heapguard (codes "race" ∷ codes "p" ∷ codes "0" ∷ [])) fault
+    → (RefusedBy (faults_of (codes "--help" ∷ [])) fault → IsPrinted fault)
+    × (RefusedBy (faults_of (codes "--version" ∷ [])) fault → IsPrinted fault)
+    × (RefusedBy (faults_of (codes "jump" ∷ [])) fault → IsTold fault)
+    × (RefusedBy (faults_of (codes "race" ∷ codes "p" ∷ codes "0" ∷ [])) fault → IsTold fault)
+    × (RefusedBy (faults_of (codes "--explain" ∷ codes "--explain" ∷ [])) fault → IsTold fault)
+    × (RefusedBy (faults_of (codes "--explain" ∷ codes "check" ∷ codes "p" ∷ [])) fault
     → IsTold fault)

@@ -1,14 +1,18 @@
 -- The job that a command with its operands asks for.
 use Rattle.std.specs.Prelude.{⊤, ◌⊎◌, ◌≡◌, ◌≢◌, ◌<◌, ◌^◌, ℕ, List, [], Option, Some, None, Result, Ok}
-use Rattle.std.specs.Prelude.{Err, true, Contains, unwrap_or, codes, map}
+use Rattle.std.specs.Prelude.{Err, Bool, true, false, ◌&&◌, not, Contains, is_some, unwrap_or}
+use Rattle.std.specs.Prelude.{codes, map, ◌∷◌, if◌then◌else◌}
+use Rattle.std.specs.Str.{bytes_eq}
 use Rattle.std.specs.Str.Parse.{IsNumeral, digits_value, without_leading_plus}
-use Rattle.clap.specs.Words.{Row, Text, all_of, first_of, one_of, subcommand_of, takes, fault_of}
-use Rattle.clap.specs.Kinds.{Kinds, IsAmong}
+use Rattle.clap.specs.Words.{Row, Text, all_of, first_of, one_of, matches_of, subcommand_of}
+use Rattle.clap.specs.Words.{takes, fault_of}
+use Rattle.clap.specs.Kinds.{Kinds, IsAmong, or_else}
 use Rattle.clap.specs.declared.error.kind.ErrorKind.{ErrorKind}
 use Rattle.clap.specs.declared.error.kind.ErrorKind.TheVariants as kind
 use Rattle.hg_job.specs.CommandLine.{heapguard, command_names}
 use Rattle.hg_job.specs.declared.job.Job.{Job}
 use Rattle.hg_job.specs.declared.job.Job.TheVariants.{Joined, Check, Replay, Race, Test, Show}
+use Rattle.hg_job.specs.declared.job.Job.TheVariants.{ExplainJoined, Explain}
 use Rattle.hg_job.specs.declared.job.JobFault.{JobFault}
 use Rattle.hg_job.specs.declared.job.JobFault.TheVariants.{Print, Line, Memory}
 
@@ -19,6 +23,10 @@ operand name rows = unwrap_or (first_of name rows) []
 -- all values of an operand, and none where it has none
 abbrev pub operands : Text → List Row → List Text
 operands name rows = unwrap_or (all_of name rows) []
+
+-- whether an option was given: its value is `true` then, and else `false`
+abbrev pub is_given : Text → List Row → Bool
+is_given name rows = bytes_eq (operand name rows) (codes "true")
 
 -- the text is a number below 2 ^ 32 in decimal digits, of which the first may be a plus
 abbrev pub IsDecimal : Text → Type 0
@@ -36,11 +44,15 @@ IsNumber (Some text) number =
 -- the job of the command of this name, with its operands
 abbrev pub IsJobOf : Text → List Row → Job → Type 0
 IsJobOf name rows Joined = ⊥
+IsJobOf name rows ExplainJoined = ⊥
 IsJobOf name rows (Check policy) =
     (name ≡ codes "check") × (policy.now ≡ operand (codes "POLICY") rows)
 IsJobOf name rows (Replay policy trace) =
     (name ≡ codes "replay") × (policy.now ≡ operand (codes "POLICY") rows)
-    × (trace.now ≡ operand (codes "TRACE") rows)
+    × (trace.now ≡ operand (codes "TRACE") rows) × (is_given (codes "explain") rows ≡ false)
+IsJobOf name rows (Explain policy trace) =
+    (name ≡ codes "replay") × (policy.now ≡ operand (codes "POLICY") rows)
+    × (trace.now ≡ operand (codes "TRACE") rows) × (is_given (codes "explain") rows ≡ true)
 IsJobOf name rows (Race policy rounds) =
     (name ≡ codes "race") × (policy.now ≡ operand (codes "POLICY") rows)
     × IsNumber (one_of (codes "ROUNDS") rows) rounds
@@ -50,10 +62,28 @@ IsJobOf name rows (Test policy traces) =
 IsJobOf name rows (Show policy) =
     (name ≡ codes "show") × (policy.now ≡ operand (codes "POLICY") rows)
 
--- the job of the command that was entered, if any was
-abbrev pub IsJobAt : Option (Text × List Row) → Job → Type 0
-IsJobAt None job = job ≡ Joined
-IsJobAt (Some p) job = IsJobOf p.0 p.1 job
+-- the job of the command that was entered, if any was, behind these options
+abbrev pub IsJobAt : List Row → Option (Text × List Row) → Job → Type 0
+IsJobAt options None job =
+    job ≡ (if is_given (codes "explain") options then ExplainJoined else Joined)
+IsJobAt options (Some p) job =
+    (is_given (codes "explain") options ≡ false) × IsJobOf p.0 p.1 job
+
+-- an option of the program alone stands before a command, which has its own
+abbrev pub is_before : List Row → Option (Text × List Row) → Bool
+is_before options entered = is_given (codes "explain") options && is_some entered
+
+abbrev pub is_misplaced : List Text → Bool
+is_misplaced words = is_before (matches_of heapguard words) (subcommand_of heapguard words)
+
+-- whether the words are a command line of the program
+abbrev pub accepts : List Text → Bool
+accepts words = takes heapguard words && not (is_misplaced words)
+
+-- what may be against them: what the parser finds, and else an option before a command
+abbrev pub faults_of : List Text → Kinds
+faults_of words = or_else (fault_of heapguard words)
+    (if is_misplaced words then kind.ArgumentConflict ∷ [] else [])
 
 -- the command that was entered, if any was, is one of the program's
 abbrev pub IsKnown : Option (Text × List Row) → Type 0
@@ -67,14 +97,22 @@ TellsOf k (Print text) = (k ≡ kind.DisplayHelp) ⊎ (k ≡ kind.DisplayVersion
 TellsOf k (Line text) = (k ≢ kind.DisplayHelp) × (k ≢ kind.DisplayVersion)
 TellsOf k Memory = ⊥
 
+-- the refusal tells of an option before a command, where there is one, or of want of memory
+abbrev pub IsBefore : List Row → Option (Text × List Row) → JobFault → Type 0
+IsBefore options entered e =
+    (e ≡ Memory)
+    ⊎ ((is_before options entered ≡ true) × TellsOf kind.ArgumentConflict e)
+
 -- the refusal tells of one of the kinds, or of want of memory
 abbrev pub RefusedBy : Kinds → JobFault → Type 0
 RefusedBy kinds e = (e ≡ Memory) ⊎ ((k : ErrorKind) × IsAmong k kinds × TellsOf k e)
 
 -- what the parser states for words is answered so: by the job of the command that is entered, with
--- its operands, and only where nothing is against the words; or by a refusal that tells of what is
+-- its operands and options, and only where nothing is against the words; or by a refusal that tells
+-- of what is
 abbrev pub IsAnswerTo : List Text → Result Job JobFault → Type 0
 IsAnswerTo words (Ok job) =
-    IsJobAt (subcommand_of heapguard words) job × (fault_of heapguard words ≡ [])
+    IsJobAt (matches_of heapguard words) (subcommand_of heapguard words) job
+    × (faults_of words ≡ [])
 IsAnswerTo words (Err fault) =
-    RefusedBy (fault_of heapguard words) fault × (takes heapguard words ≡ true → fault ≡ Memory)
+    RefusedBy (faults_of words) fault × (accepts words ≡ true → fault ≡ Memory)

@@ -2,20 +2,19 @@
 ghost use Rattle.std.specs.Prelude.{◌≡◌, codes, false, IfOk};
 ghost use Rattle.clap.specs.Words.{app_of, rule_of};
 ghost use Rattle.clap.specs.declared.builder.command.Command.TheViews.{out-Command};
-ghost use Rattle.hg_job.specs.CommandLine.{alone, check, counted, heapguard, race, reader};
-ghost use Rattle.hg_job.specs.CommandLine.{replay, required, runner, several, show, test};
+ghost use Rattle.hg_job.specs.CommandLine.{alone, check, counted, flag, heapguard, named, race};
+ghost use Rattle.hg_job.specs.CommandLine.{reader, replay, required, runner, several, show, test};
 
-use clap::{Arg, Command, value_parser};
+use clap::{Arg, ArgAction, Command, value_parser};
 use std::alloc::{AllocError, Global};
 
 const VERSION: &str = "0.1.0";
 
-const ABOUT: &str =
-    "Replays traces of a memory service that several tenants share under a written policy.";
+const ABOUT: &str = "\
+Replays traces of a memory service that several tenants share under a written policy.
+Alone it replays standard input: a policy, a line `---`, a trace. No file above 16777216 bytes.";
 
 const MORE: &str = "\
-Alone it replays standard input: a policy, a line `---`, a trace. No file above 16777216 bytes.
-
 Exit status:
   0  done
   1  the policy has a fault
@@ -40,6 +39,8 @@ const REPLAY_ABOUT: &str = "Runs a trace under a policy and prints each answer";
 const REPLAY_MORE: &str = "\
 Prints the answer to each line of the trace in turn; a `list` prints its rows and then
 their number. Both files are read whole, the policy first, before anything is printed.
+With --explain each line is printed with its number, then its answer, and behind an answer
+that serves nothing the reason, in the policy's words; all of it at the end.
 
 Exit status:
   0  the trace was run to its end
@@ -135,6 +136,16 @@ fn traces<'a>(alloc: Global) -> Arg<'a>
     .num_args(1..)
 }
 
+fn explain<'a>(alloc: Global) -> Arg<'a>
+    ensures rule { rule_of result ≡ flag (codes "explain") }
+    ensures local { result.global ≡ false }
+{
+    Arg::new(alloc, "explain")
+        .long("explain")
+        .action(ArgAction::SetTrue)
+        .help("Print each line with its answer and the reason")
+}
+
 fn check_command<'a>(alloc: Global) -> Result<Command<'a>, AllocError>
     ensures app { IfOk result (λ c. app_of c ≡ check) }
     ensures local { IfOk result (λ c. (out-Command c).has_globals ≡ false) }
@@ -153,7 +164,8 @@ fn replay_command<'a>(alloc: Global) -> Result<Command<'a>, AllocError>
         .about(REPLAY_ABOUT)
         .after_help(REPLAY_MORE)
         .arg(policy(alloc))?
-        .arg(trace(alloc))
+        .arg(trace(alloc))?
+        .arg(explain(alloc))
 }
 
 fn race_command<'a>(alloc: Global) -> Result<Command<'a>, AllocError>
@@ -188,9 +200,10 @@ fn show_command<'a>(alloc: Global) -> Result<Command<'a>, AllocError>
         .arg(policy(alloc))
 }
 
-/// The program with no command yet.
-fn program<'a>(alloc: Global) -> Result<Command<'a>, AllocError>
-    ensures { IfOk result (λ c. app_of c ≡ alone) }
+/// The program with no command and no option yet.
+fn named<'a>(alloc: Global) -> Result<Command<'a>, AllocError>
+    ensures app { IfOk result (λ c. app_of c ≡ named) }
+    ensures local { IfOk result (λ c. (out-Command c).has_globals ≡ false) }
 {
     Command::new(alloc, "heapguard")
         .no_binary_name(true)
@@ -199,6 +212,13 @@ fn program<'a>(alloc: Global) -> Result<Command<'a>, AllocError>
         .about(ABOUT)
         .after_help(MORE)
         .bin_name("heapguard")
+}
+
+/// The program with no command yet.
+fn program<'a>(alloc: Global) -> Result<Command<'a>, AllocError>
+    ensures { IfOk result (λ c. app_of c ≡ alone) }
+{
+    named(alloc)?.arg(explain(alloc))
 }
 
 /// The program with the commands that read a policy or a trace once.

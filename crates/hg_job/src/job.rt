@@ -1,9 +1,9 @@
 //! The job that the words of a command line ask for.
 
 ghost use Rattle.std.specs.Prelude.{◌≡◌, ◌⊎◌, true, IfOk, IfErr, map, []};
-ghost use Rattle.clap.specs.Words.{subcommand_of, takes, fault_of, kind_of};
+ghost use Rattle.clap.specs.Words.{matches_of, subcommand_of, kind_of};
 ghost use Rattle.hg_job.specs.CommandLine.{heapguard};
-ghost use Rattle.hg_job.specs.Jobs.{IsJobAt, RefusedBy, TellsOf};
+ghost use Rattle.hg_job.specs.Jobs.{accepts, faults_of, IsJobAt, RefusedBy, TellsOf};
 ghost use Rattle.hg_job.specs.declared.job.JobFault.TheVariants.{Memory};
 
 use crate::command::command;
@@ -17,10 +17,14 @@ use std::alloc::{AllocError, Global};
 pub enum Job<'a> {
     /// Replay what stands on standard input: the policy, a line `---`, and the trace.
     Joined,
+    /// The same, with the reason for each answer.
+    ExplainJoined,
     /// Read the policy of this file, and count what it names.
     Check(&'a str),
     /// Read the policy of the first file, and replay the trace of the second.
     Replay(&'a str, &'a str),
+    /// The same, with the reason for each answer.
+    Explain(&'a str, &'a str),
     /// Race so many rounds, 1 to 1,000,000, under the policy of this file.
     Race(&'a str, u32),
     /// Compare the answers to the traces of these files under the policy of the first file with
@@ -61,8 +65,8 @@ fn without_tip(alloc: Global, text: &str) -> Result<String, AllocError> {
     String::from_str(alloc, text)
 }
 
-/// The refusal of words that the parser refused.
-fn fault_in(alloc: Global, error: &Error) -> JobFault
+/// The refusal that an error of the parser is.
+pub(crate) fn fault_in(alloc: Global, error: &Error) -> JobFault
     ensures memory { kind_of error.now ≡ ErrorKind.OutOfMemory → result ≡ JobFault.Memory }
     ensures told { (result ≡ JobFault.Memory) ⊎ TellsOf (kind_of error.now) result }
 {
@@ -81,19 +85,21 @@ fn fault_in(alloc: Global, error: &Error) -> JobFault
 
 /// What the words after the program's name ask for.
 pub fn job_of<'a>(alloc: Global, words: &'a [&'a str]) -> Result<Job<'a>, JobFault>
-    // The job is that of the command and the operands that the parser states for these words.
-    ensures job { IfOk result (IsJobAt (subcommand_of heapguard (map (λ w. w.now) words.now))) }
+    // The job is that of the command, the operands and the options that the parser states for these
+    // words.
+    ensures job { IfOk result (IsJobAt (matches_of heapguard (map (λ w. w.now) words.now))
+        (subcommand_of heapguard (map (λ w. w.now) words.now))) }
     // Words that the program takes are refused for memory alone.
     ensures taken { IfErr result (λ e.
-        takes heapguard (map (λ w. w.now) words.now) ≡ true → e ≡ JobFault.Memory) }
-    // There is a job only where the parser has nothing against the words.
-    ensures faultless { IfOk result (λ _. fault_of heapguard (map (λ w. w.now) words.now) ≡ []) }
-    // A text is printed where the parser answers with help or the version, a line told where it has
-    // another fault.
-    ensures refused { IfErr result (RefusedBy (fault_of heapguard (map (λ w. w.now) words.now))) }
+        accepts (map (λ w. w.now) words.now) ≡ true → e ≡ JobFault.Memory) }
+    // There is a job only where nothing is against the words.
+    ensures faultless { IfOk result (λ _. faults_of (map (λ w. w.now) words.now) ≡ []) }
+    // A text is printed where the parser answers with help or the version, a line told where there
+    // is another fault.
+    ensures refused { IfErr result (RefusedBy (faults_of (map (λ w. w.now) words.now))) }
 {
     match command(alloc)?.try_get_matches_from(words) {
-        Ok(matches) => Ok(job_in(alloc, &matches)?),
+        Ok(matches) => job_in(alloc, &matches),
         Err(error) => Err(fault_in(alloc, &error)),
     }
 }

@@ -1,6 +1,6 @@
 //! Laws of the definitions. Each function does nothing: what it promises is the law.
 
-ghost use Rattle.hg_job.specs.JobLaws.{RequestsArePrinted, WordsAreJobs};
+ghost use Rattle.hg_job.specs.JobLaws.{OptionsAreJobs, RequestsArePrinted, WordsAreJobs};
 
 /// No words ask for a replay of standard input, `check p` for a check of that file, and `replay p t`
 /// for a replay of the second file under the first.
@@ -8,8 +8,14 @@ pub fn words_are_jobs()
     ensures { WordsAreJobs }
 {}
 
+/// `--explain` asks for a replay of standard input with reasons, and `replay --explain p t` and
+/// `replay p t --explain` for one of the second file under the first.
+pub fn options_are_jobs()
+    ensures { OptionsAreJobs }
+{}
+
 /// `--help` and `--version` are answered by a text to print, and never by a line; a word that is no
-/// command by a line, and never by a text to print.
+/// command, and an option twice or before a command, by a line, and never by a text to print.
 pub fn requests_are_printed()
     ensures { RequestsArePrinted }
 {}

@@ -1,18 +1,33 @@
 //! The job that a parse found.
-ghost use Rattle.std.specs.Prelude.{◌≡◌, codes, map, Contains, IfOk};
+ghost use Rattle.std.specs.Prelude.{◌≡◌, ◌⊎◌, codes, map, Contains, IfErr, IfOk};
 ghost use Rattle.clap.specs.Words.{found_of, one_of, rows_of, subcommand_rows_of};
 ghost use Rattle.hg_job.specs.CommandLine.{command_names};
-ghost use Rattle.hg_job.specs.Jobs.{operand, operands, IsJobAt, IsJobOf, IsKnown, IsNumber};
+ghost use Rattle.hg_job.specs.Jobs.{is_given, operand, operands, IsBefore, IsJobAt, IsJobOf};
+ghost use Rattle.hg_job.specs.Jobs.{IsKnown, IsNumber, TellsOf};
 
-use crate::Job;
+use crate::command::command;
+use crate::job::fault_in;
+use crate::{Job, JobFault};
 use clap::ArgMatches;
+use clap::error::ErrorKind;
 use std::alloc::{AllocError, Global};
+
+/// What is told of an option that stands before a command.
+const MISPLACED: &str =
+    "'--explain' can't stand before a command: see `heapguard replay --explain POLICY TRACE`";
 
 /// The first value of an operand, and no text where it has none.
 fn operand_in<'a>(matches: &ArgMatches<'a>, name: &str) -> &'a str
     ensures { result.now ≡ operand name.now (rows_of (found_of matches.now)) }
 {
     matches.get_str(name).unwrap_or("")
+}
+
+/// Whether an option was given.
+fn is_given(matches: &ArgMatches<'_>, name: &str) -> bool
+    ensures { result ≡ is_given name.now (rows_of (found_of matches.now)) }
+{
+    operand_in(matches, name) == "true"
 }
 
 /// A copy of some words.
@@ -54,6 +69,9 @@ fn job_named<'a>(alloc: Global, name: &str, matches: &ArgMatches<'a>) -> Result<
     let policy = operand_in(matches, "POLICY");
     match name {
         "check" => Ok(Job::Check(policy)),
+        "replay" if is_given(matches, "explain") => {
+            Ok(Job::Explain(policy, operand_in(matches, "TRACE")))
+        }
         "replay" => Ok(Job::Replay(policy, operand_in(matches, "TRACE"))),
         "race" => Ok(Job::Race(policy, number_in(matches, "ROUNDS"))),
         "test" => {
@@ -65,13 +83,32 @@ fn job_named<'a>(alloc: Global, name: &str, matches: &ArgMatches<'a>) -> Result<
     }
 }
 
-/// The job of the command that was entered.
-pub(crate) fn job_in<'a>(alloc: Global, matches: &ArgMatches<'a>) -> Result<Job<'a>, AllocError>
-    requires { IsKnown (subcommand_rows_of matches.now) }
-    ensures { IfOk result (IsJobAt (subcommand_rows_of matches.now)) }
+/// The refusal of an option that stands before a command.
+fn misplaced(alloc: Global) -> JobFault
+    ensures { (result ≡ JobFault.Memory) ⊎ TellsOf ErrorKind.ArgumentConflict result }
 {
+    match command(alloc) {
+        Ok(mut command) => match command.error(ErrorKind::ArgumentConflict, MISPLACED) {
+            Ok(error) => fault_in(alloc, &error),
+            Err(_) => JobFault::Memory,
+        },
+        Err(_) => JobFault::Memory,
+    }
+}
+
+/// The job of the command that was entered, unless an option stands before it.
+pub(crate) fn job_in<'a>(alloc: Global, matches: &ArgMatches<'a>) -> Result<Job<'a>, JobFault>
+    requires { IsKnown (subcommand_rows_of matches.now) }
+    ensures job { IfOk result
+        (IsJobAt (rows_of (found_of matches.now)) (subcommand_rows_of matches.now)) }
+    ensures err { IfErr result
+        (IsBefore (rows_of (found_of matches.now)) (subcommand_rows_of matches.now)) }
+{
+    let explains = is_given(matches, "explain");
     match matches.subcommand() {
+        None if explains => Ok(Job::ExplainJoined),
         None => Ok(Job::Joined),
-        Some((name, inner)) => job_named(alloc, name, inner),
+        Some(_) if explains => Err(misplaced(alloc)),
+        Some((name, inner)) => Ok(job_named(alloc, name, inner)?),
     }
 }

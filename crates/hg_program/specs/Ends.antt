@@ -11,6 +11,8 @@ use Rattle.hg_replay.specs.declared.run.input.TheConstants.{LIMIT}
 use Rattle.hg_replay.specs.declared.run.status.Status.{Status}
 use Rattle.hg_replay.specs.declared.run.status.Status.TheVariants as status
 use Rattle.hg_race.specs.Races.{EndsRace}
+use Rattle.hg_trace.specs.Joined.{policy_in, trace_in}
+use Rattle.hg_reasons.specs.Endings.{EndsExplained}
 use Rattle.hg_expect.specs.Tests.{EndsTests, IsUnwarned, Progress, Stands}
 use Rattle.hg_expect.specs.declared.source.Source.{Source}
 use Rattle.hg_program.specs.ShowEnds.{EndsShow}
@@ -39,6 +41,21 @@ EndsOnFiles first second ended old new =
     ReadsNone ended old new
     ⊎ ((policy : List ℕ) × (trace : List ℕ) × IsOf first policy × IsOf second trace
     × EndsAs ended policy trace old new)
+
+-- a file is not read, or an explanation of the second's bytes under the first's ends so
+abbrev pub EndsOnExplained
+    : Option (List ℕ) → Option (List ℕ) → Status → Seen → Seen → Type 0
+EndsOnExplained first second ended old new =
+    ReadsNone ended old new
+    ⊎ ((policy : List ℕ) × (trace : List ℕ) × IsOf first policy × IsOf second trace
+    × EndsExplained ended policy trace old new)
+
+-- joined input is not read, or an explanation of its two parts ends so
+abbrev pub EndsExplainedJoined : Option (List ℕ) → Status → Seen → Seen → Type 0
+EndsExplainedJoined input ended old new =
+    ReadsNone ended old new
+    ⊎ ((bytes : List ℕ) × IsOf input bytes
+    × EndsExplained ended (policy_in bytes) (trace_in bytes) old new)
 
 -- the file is not read, or a race of so many rounds under the policy of its bytes ends so
 abbrev pub EndsOnRace : Option (List ℕ) → ℕ → Status → Seen → Seen → Type 0
@@ -90,9 +107,12 @@ EndsOnShow held ended old new =
 abbrev pub EndsJob
     : (List ℕ → Option (List ℕ)) → Option (List ℕ) → Job → Status → Seen → Seen → Type 0
 EndsJob holds input job.Joined ended old new = EndsJoined ended input old new
+EndsJob holds input job.ExplainJoined ended old new = EndsExplainedJoined input ended old new
 EndsJob holds input (job.Check policy) ended old new = EndsOnFile (holds policy.now) ended old new
 EndsJob holds input (job.Replay policy trace) ended old new =
     EndsOnFiles (holds policy.now) (holds trace.now) ended old new
+EndsJob holds input (job.Explain policy trace) ended old new =
+    EndsOnExplained (holds policy.now) (holds trace.now) ended old new
 EndsJob holds input (job.Race policy rounds) ended old new =
     EndsOnRace (holds policy.now) rounds ended old new
 EndsJob holds input (job.Test policy traces) ended old new =

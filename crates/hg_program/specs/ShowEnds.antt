@@ -1,5 +1,5 @@
 -- How the program ends that shows a policy: its status, and what it writes.
-use Rattle.std.specs.Prelude.{◌≡◌, ◌⊎◌, ℕ, List, Option}
+use Rattle.std.specs.Prelude.{◌≡◌, ◌⊎◌, ℕ, List}
 use Rattle.hg_replay.specs.Sinks.{Seen}
 use Rattle.hg_replay.specs.Statuses.{NoPolicy}
 use Rattle.hg_replay.specs.Writes.{Wrote, StopsIn}

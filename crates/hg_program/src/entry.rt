@@ -4,43 +4,23 @@ ghost use Rattle.std.specs.Prelude.{◌≡◌, false, IfOk, MatchResult, map, st
 ghost use Rattle.std.specs.Process.{exit_status};
 ghost use Rattle.std.specs.IoError.{error_kind};
 ghost use Rattle.hg_replay.specs.Numbers.{number_of};
-ghost use Rattle.hg_replay.specs.Statuses.{EndsJoined};
 ghost use Rattle.hg_replay.specs.declared.run.status.Status.{Status};
 ghost use Rattle.hg_program.specs.Ends.{AreQuietWords, EndsJob, EndsProgram, EndsWordless};
 ghost use Rattle.hg_program.specs.Ends.{IsQuietJob};
 
-use crate::files::{check_file, race_file, replay_files, test_files};
+use crate::files::{check_file, explain_files, race_file, replay_files, test_files};
 use crate::host::Host;
+use crate::joined::{explain_input, replay_input};
 use crate::refusal::{fails, refuse};
 use crate::showing::show_file;
 use hg_job::{Job, job_of};
-use hg_replay::{ReadFault, Sink, Status, run_joined};
+use hg_replay::{ReadFault, Sink, Status};
 use std::alloc::{AllocError, Global};
 use std::io;
 use std::io::{Read, Write};
 use std::process::ExitCode;
 use std::sync::Wait;
 use std::thread::Threads;
-
-/// What a job on standard input waits for, told where that is a terminal.
-const READS: &str = "heapguard reads a policy, a line ---, and a trace; see heapguard --help";
-
-/// Replays what stands on the input. Where that is a terminal, what is read is told first.
-fn replay_input<H: Host, R: Read, W: Sink, E: Write>(
-    alloc: Global,
-    host: &H,
-    input: &mut R,
-    out: &mut W,
-    err: &mut E,
-) -> Status
-    ensures ends { EndsJoined result (R.remaining input.old) (W.seen out.old) (W.seen out.new) }
-    ensures quiet { H.may_be_terminal host.now ≡ false → result ≡ Status.Done → err.new ≡ err.old }
-{
-    if host.is_at_terminal() {
-        let _ = writeln!(err, "{READS}");
-    }
-    run_joined(alloc, input, out, err)
-}
 
 /// Does a job.
 fn do_job<T: Threads + Wait, H: Host, R: Read, W: Sink, E: Write>(
@@ -59,8 +39,10 @@ fn do_job<T: Threads + Wait, H: Host, R: Read, W: Sink, E: Write>(
 {
     match job {
         Job::Joined => replay_input(alloc, host, input, out, err),
+        Job::ExplainJoined => explain_input(alloc, host, input, out, err),
         Job::Check(policy) => check_file(alloc, host, policy, out, err),
         Job::Replay(policy, trace) => replay_files(alloc, host, policy, trace, out, err),
+        Job::Explain(policy, trace) => explain_files(alloc, host, policy, trace, out, err),
         Job::Race(policy, rounds) => race_file(rt, alloc, host, policy, *rounds, out, err),
         Job::Test(policy, traces) => {
             test_files(alloc, host, policy, traces.as_slice(), out, err)

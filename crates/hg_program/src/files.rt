@@ -2,13 +2,14 @@
 
 ghost use Rattle.std.specs.Prelude.{◌≡◌, ◌≤◌, ℕ, List, IfOk, IfSome, map, vec_len};
 ghost use Rattle.hg_replay.specs.declared.run.input.TheConstants.{LIMIT};
-ghost use Rattle.hg_program.specs.Ends.{EndsOnFile, EndsOnFiles, EndsOnRace, EndsOnTests};
-ghost use Rattle.hg_program.specs.Ends.{IsOf, IsQuietTest, StandOf};
+ghost use Rattle.hg_program.specs.Ends.{EndsOnExplained, EndsOnFile, EndsOnFiles, EndsOnRace};
+ghost use Rattle.hg_program.specs.Ends.{EndsOnTests, IsOf, IsQuietTest, StandOf};
 
 use crate::host::Host;
 use crate::refusal::fails;
 use hg_expect::{Source, Tests};
 use hg_race::run_race;
+use hg_reasons::run_explained;
 use hg_replay::{ReadFault, Sink, Status, run_check, run_texts};
 use std::alloc::Global;
 use std::io::Write;
@@ -64,6 +65,27 @@ pub(crate) fn replay_files<H: Host, W: Sink, E: Write>(
 {
     match read_files(alloc, host, policy, trace) {
         Ok((policy, trace)) => run_texts(alloc, policy.as_slice(), trace.as_slice(), out, err),
+        Err(fault) => fails(fault, err),
+    }
+}
+
+/// The same, with the reason for each answer.
+pub(crate) fn explain_files<H: Host, W: Sink, E: Write>(
+    alloc: Global,
+    host: &H,
+    policy: &str,
+    trace: &str,
+    out: &mut W,
+    err: &mut E,
+) -> Status
+    ensures ends { EndsOnExplained (H.holds host.now policy.now) (H.holds host.now trace.now)
+        result (W.seen out.old) (W.seen out.new) }
+    ensures quiet { result ≡ Status.Done → err.new ≡ err.old }
+{
+    match read_files(alloc, host, policy, trace) {
+        Ok((policy, trace)) => {
+            run_explained(alloc, policy.as_slice(), trace.as_slice(), out, err)
+        }
         Err(fault) => fails(fault, err),
     }
 }

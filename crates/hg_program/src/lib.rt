@@ -4,6 +4,7 @@
 mod entry;
 mod files;
 mod host;
+mod joined;
 pub mod laws;
 mod refusal;
 mod showing;

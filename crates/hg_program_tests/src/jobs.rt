@@ -11,8 +11,10 @@ type Told<'a> = (&'a str, &'a str, &'a str, u32);
 fn job_told<'a>(job: &Job<'a>) -> Told<'a> {
     match job {
         Job::Joined => ("joined", "", "", 0),
+        Job::ExplainJoined => ("explain joined", "", "", 0),
         Job::Check(policy) => ("check", policy, "", 0),
         Job::Replay(policy, trace) => ("replay", policy, trace, 0),
+        Job::Explain(policy, trace) => ("explain", policy, trace, 0),
         Job::Race(policy, rounds) => ("race", policy, "", *rounds),
         Job::Test(policy, traces) => {
             let first = traces.first().map_or("", |trace| *trace);
@@ -80,7 +82,7 @@ fn tells(rt: &impl Abort, alloc: Global, words: &[&str], parts: &[&str]) {
 }
 
 /// Command lines that are refused by a line.
-static NO_JOBS: [&str; 21] = [
+static NO_JOBS: [&str; 30] = [
     "check",
     "check p q",
     "check -p",
@@ -96,6 +98,15 @@ static NO_JOBS: [&str; 21] = [
     "test p t --u",
     "show",
     "show p q",
+    "--explain --explain",
+    "--explain=true",
+    "--explain check p",
+    "--explain replay p t",
+    "--explain p t",
+    "replay --explain p",
+    "replay --explain p t --explain",
+    "check --explain p",
+    "show p --explain",
     "jump",
     "Check p",
     "--jump",
@@ -105,9 +116,11 @@ static NO_JOBS: [&str; 21] = [
 ];
 
 /// Command lines that ask for help.
-static HELPS: [&str; 6] = [
+static HELPS: [&str; 8] = [
     "-h",
     "--help",
+    "--explain -h",
+    "replay --explain --help",
     "check --help",
     "replay p --help",
     "race -h",
@@ -115,8 +128,16 @@ static HELPS: [&str; 6] = [
 ];
 
 /// Command lines that come to a job.
-static JOBS: [(&[&str], Told<'static>); 13] = [
+static JOBS: [(&[&str], Told<'static>); 18] = [
     (&[], ("joined", "", "", 0)),
+    (&["--explain"], ("explain joined", "", "", 0)),
+    (&["replay", "--explain", "p", "t"], ("explain", "p", "t", 0)),
+    (&["replay", "p", "--explain", "t"], ("explain", "p", "t", 0)),
+    (&["replay", "p", "t", "--explain"], ("explain", "p", "t", 0)),
+    (
+        &["replay", "p", "--", "--explain"],
+        ("replay", "p", "--explain", 0),
+    ),
     (&["check", "p"], ("check", "p", "", 0)),
     (&["check", "--", "-p"], ("check", "-p", "", 0)),
     (&["replay", "p", "t"], ("replay", "p", "t", 0)),
@@ -183,9 +204,10 @@ fn no_tip_where_nothing_follows(rt: HostRuntime) {
 }
 
 /// Parts of the program's help.
-static HELP: [&str; 17] = [
+static HELP: [&str; 18] = [
     "out\nReplays traces",
-    "\nUsage: heapguard [COMMAND]\n",
+    "\nUsage: heapguard [OPTIONS] [COMMAND]\n",
+    "\n      --explain  ",
     "\n  check   ",
     "\n  replay  ",
     "\n  race    ",
@@ -225,9 +247,10 @@ static HELP_OF_CHECK: [&str; 9] = [
     "\n  4  ",
 ];
 
-static HELP_OF_REPLAY: [&str; 10] = [
+static HELP_OF_REPLAY: [&str; 11] = [
     "out\nRuns a trace",
-    "\nUsage: heapguard replay <POLICY> <TRACE>\n",
+    "\nUsage: heapguard replay [OPTIONS] <POLICY> <TRACE>\n",
+    "\n      --explain  ",
     "\n  <POLICY>  ",
     "\n  <TRACE>   ",
     "\nExit status:\n",
@@ -295,12 +318,12 @@ fn version_of_the_program(rt: HostRuntime) {
     }
 }
 
-/// Parts of the lines that refuse a command that there isn't, one that lacks an operand, and a
-/// number of rounds that is out of its range.
+/// Parts of the lines that refuse a command that there isn't, one that lacks an operand, an option
+/// before a command, and a number of rounds that is out of its range.
 static NO_COMMAND: [&str; 4] = [
     "err\n",
     "'jump'",
-    "\nUsage: heapguard [COMMAND]\n",
+    "\nUsage: heapguard [OPTIONS] [COMMAND]\n",
     "'--help'",
 ];
 
@@ -311,12 +334,20 @@ static NO_OPERAND: [&str; 4] = [
     "'--help'",
 ];
 
+static BEFORE: [&str; 4] = [
+    "err\n",
+    "'--explain' can't stand before a command",
+    "\nUsage: heapguard [OPTIONS] [COMMAND]\n",
+    "'--help'",
+];
+
 static NO_ROUNDS: [&str; 3] = ["err\n", "'0'", "<ROUNDS>"];
 
 #[test]
 fn lines_name_the_program(rt: HostRuntime) {
     tells(&rt, rt.alloc(), &["jump"], &NO_COMMAND);
     tells(&rt, rt.alloc(), &["check"], &NO_OPERAND);
+    tells(&rt, rt.alloc(), &["--explain", "check", "p"], &BEFORE);
     tells(&rt, rt.alloc(), &["race", "p", "0"], &NO_ROUNDS);
 }
 
@@ -378,7 +409,11 @@ fn refused_in_turn(rt: HostRuntime) {
     let alloc = rt.alloc();
     may_come_to(&rt, alloc, &[], ("joined", "", "", 0));
     may_come_to(&rt, alloc, &["replay", "p", "t"], ("replay", "p", "t", 0));
+    let explain = ["replay", "--explain", "p", "t"];
+    may_come_to(&rt, alloc, &explain, ("explain", "p", "t", 0));
     may_come_to(&rt, alloc, &["race", "p", "9"], ("race", "p", "", 9));
     are_refused_alike(&rt, alloc, &["check", "-h"], &["check", "--help"], true);
     are_refused_alike(&rt, alloc, &["jump"], &["jump"], false);
+    let before = ["--explain", "check", "p"];
+    are_refused_alike(&rt, alloc, &before, &before, false);
 }

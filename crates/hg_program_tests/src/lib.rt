@@ -5,6 +5,8 @@
 #[cfg(test)]
 mod expected;
 #[cfg(test)]
+mod explains;
+#[cfg(test)]
 mod files;
 #[cfg(test)]
 mod jobs;

@@ -1,25 +1,39 @@
-use Rattle.std.proofs.Common.{◌≡◌, ◌∙◌, ap, sym, subst, map, []}
-use Rattle.clap.specs.Words.{subcommand_of, subcommand_rows_of, takes, fault_of}
+use Rattle.std.proofs.Common.{◌∙◌, ap, map}
+use Rattle.clap.specs.Words.{takes, fault_of}
 use Rattle.clap.specs.Kinds.{HasKind}
-use Rattle.hg_job.specs.Jobs.{IsKnown}
-use Rattle.hg_job.proofs.CommandLemmas.{at_simple, at_free, refused_by, subcommand_known}
+use Rattle.hg_job.proofs.CommandLemmas.{at_free, refused_by}
+use Rattle.hg_job.proofs.OptionLemmas.{accepted_taken, before_not_accepted, before_refused, faultless, job_found, known_entered, refused_first}
 use Rattle.hg_job.proofs.job.job_of.Goals as goal
 
 pub job_in-requires : goal.job_in-requires
-job_in-requires c =
-    let matches = at_simple (λ a. subcommand_rows_of c.in-Ok.matches ≡ subcommand_of a (map (λ w. w.now) c.args.words.now)) _
-    c.in_ok-command.ensures (λ e. (c.in-Ok.ensures.matches e).1) in
-    subst IsKnown (sym matches) (subcommand_known (map (λ w. w.now) c.args.words.now))
+job_in-requires c = known_entered (map (λ w. w.now) c.args.words.now) _ _ _ c.in_ok-command.ensures c.in-Ok.ensures.matches
 
-pub returns-in_ok-job_in-in-Ok-clause-faultless : goal.returns-in_ok-job_in-in-Ok-clause-faultless
-returns-in_ok-job_in-in-Ok-clause-faultless c =
-    at_free (λ a. fault_of a (map (λ w. w.now) c.args.words.now) ≡ []) _ c.in_ok-command.ensures c.in-Ok.ensures.kinds
+pub returns-in-Ok-clause-job : goal.returns-in-Ok-clause-job
+returns-in-Ok-clause-job c =
+    job_found (map (λ w. w.now) c.args.words.now) _ _ _ c.in_ok-command.ensures c.in-Ok.ensures.matches c.job_in.result c.job_in.ensures.job
+
+pub returns-in-Ok-clause-taken : goal.returns-in-Ok-clause-taken
+returns-in-Ok-clause-taken c =
+    before_not_accepted (map (λ w. w.now) c.args.words.now) _ _ _ c.in_ok-command.ensures c.in-Ok.ensures.matches c.job_in.result c.job_in.ensures.err
+
+pub returns-in-Ok-clause-faultless : goal.returns-in-Ok-clause-faultless
+returns-in-Ok-clause-faultless c =
+    faultless (map (λ w. w.now) c.args.words.now) _ _ _ c.in_ok-command.ensures c.in-Ok.ensures.matches c.in-Ok.ensures.kinds
+    c.job_in.result c.job_in.ensures.job
+
+pub returns-in-Ok-clause-refused : goal.returns-in-Ok-clause-refused
+returns-in-Ok-clause-refused c =
+    before_refused (map (λ w. w.now) c.args.words.now) _ _ _ c.in_ok-command.ensures c.in-Ok.ensures.matches c.in-Ok.ensures.kinds
+    c.job_in.result c.job_in.ensures.err
 
 pub returns-in-Err-clause-taken : goal.returns-in-Err-clause-taken
 returns-in-Err-clause-taken c = λ taken.
-    c.fault_in.ensures.memory (c.in-Err.ensures.passes (ap (λ a. takes a (map (λ w. w.now) c.args.words.now)) c.in_ok-command.ensures ∙ taken))
+    let words = map (λ w. w.now) c.args.words.now in
+    c.fault_in.ensures.memory (c.in-Err.ensures.passes (ap (λ a. takes a words) c.in_ok-command.ensures ∙ accepted_taken words taken))
 
 pub returns-in-Err-clause-refused : goal.returns-in-Err-clause-refused
 returns-in-Err-clause-refused c =
-    refused_by _ c.in-Err.error _ c.fault_in.ensures.memory c.fault_in.ensures.told
-    (at_free (λ a. HasKind (fault_of a (map (λ w. w.now) c.args.words.now)) c.in-Err.error) _ c.in_ok-command.ensures c.in-Err.ensures.kinds)
+    let words = map (λ w. w.now) c.args.words.now in
+    refused_first _ _ _
+    (refused_by _ c.in-Err.error _ c.fault_in.ensures.memory c.fault_in.ensures.told
+    (at_free (λ a. HasKind (fault_of a words) c.in-Err.error) _ c.in_ok-command.ensures c.in-Err.ensures.kinds))

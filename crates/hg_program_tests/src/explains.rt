@@ -1,0 +1,285 @@
+//! Tests of answers with their reasons, on files in memory and on joined input.
+
+ghost use Rattle.std.specs.Prelude.{None, true, false};
+
+use hg_program::{Host, program};
+use hg_replay::{ReadFault, Status, read_limited};
+use std::alloc::Global;
+use std::io;
+use std::io::Write;
+use std::process::Abort;
+use std::sync::Wait;
+use std::thread::Threads;
+
+/// Bob may read what alice has.
+const POLICY: &str = "version = 1
+workers = 1
+tenant = [ {name = \"alice\", limit = 64}, {name = \"bob\", limit = 64} ]
+arena = [ {name = \"main\", segments = 1} ]
+grant = [ {owner = \"alice\", to = \"bob\", rights = [\"read\"]} ]
+";
+
+const TRACE: &str = "w0 refill main
+w0 alloc alice main 60 as x
+
+w0 write bob x 0 1 # he tries
+w0 alloc alice main 8 as y
+w0 read alice y 0
+";
+
+/// The two in one.
+const JOINED: &str = "version = 1
+workers = 1
+tenant = [ {name = \"alice\", limit = 64}, {name = \"bob\", limit = 64} ]
+arena = [ {name = \"main\", segments = 1} ]
+grant = [ {owner = \"alice\", to = \"bob\", rights = [\"read\"]} ]
+---
+w0 refill main
+w0 alloc alice main 60 as x
+
+w0 write bob x 0 1 # he tries
+w0 alloc alice main 8 as y
+w0 read alice y 0
+";
+
+const STORY: &str = "1: w0 refill main
+segment 0
+2: w0 alloc alice main 60 as x
+ok @0.0.0.1
+4: w0 write bob x 0 1 # he tries
+denied grant: alice lets bob read, not write
+5: w0 alloc alice main 8 as y
+denied limit: alice has 64 of 64 bytes with worker 0, and asks for 8, a block of 8
+6: w0 read alice y 0
+unbound: line 5 was denied limit
+";
+
+const ANSWERS: &str = "segment 0
+ok @0.0.0.1
+denied grant
+denied limit
+unbound
+";
+
+/// Files in memory, by their names, and an input that is a terminal or not.
+#[derive(Drop)]
+struct Files {
+    is_terminal: bool,
+}
+
+impl Host for Files {
+    ghost holds = { λ _ _. None };
+
+    ghost may_be_terminal = { λ _. true };
+
+    fn read_file(&self, alloc: Global, path: &str) -> Result<Vec<u8>, ReadFault> {
+        let text = match path {
+            "policy" => POLICY,
+            "trace" => TRACE,
+            "empty" => "",
+            "other" => "w1 refill main\n",
+            _ => return Err(ReadFault::Failed),
+        };
+        read_limited(alloc, &mut text.as_bytes())
+    }
+
+    fn is_at_terminal(&self) -> bool {
+        self.is_terminal
+    }
+}
+
+const PIPED: Files = Files { is_terminal: false };
+
+/// How the program ends on an input.
+fn ended<T: Threads + Wait, W: Write, E: Write>(
+    rt: &T,
+    alloc: Global,
+    words: &[&str],
+    host: &Files,
+    input: &str,
+    out: &mut W,
+    err: &mut E,
+) -> Status {
+    program(rt, alloc, words, host, &mut input.as_bytes(), out, err)
+}
+
+/// The program ends with this status, output and standard error.
+fn ends<T: Abort + Threads + Wait>(
+    rt: &T,
+    alloc: Global,
+    words: &[&str],
+    host: &Files,
+    input: &str,
+    want: (Status, &str, &str),
+) {
+    let mut out = Vec::new(alloc);
+    let mut err = Vec::new(alloc);
+    let status = ended(rt, alloc, words, host, input, &mut out, &mut err);
+    assert!(rt; err.as_slice() == want.2.as_bytes(), "{words:?}");
+    assert!(rt; out.as_slice() == want.1.as_bytes(), "{words:?}");
+    assert!(rt; status == want.0, "{words:?}");
+}
+
+/// The words of a command line, its input, and how the program ends: its status, output and
+/// standard error.
+type Row = (
+    &'static [&'static str],
+    &'static str,
+    Status,
+    &'static str,
+    &'static str,
+);
+
+static ENDINGS: [Row; 11] = [
+    (
+        &["replay", "--explain", "policy", "trace"],
+        "",
+        Status::Done,
+        STORY,
+        "",
+    ),
+    (
+        &["replay", "policy", "trace", "--explain"],
+        "",
+        Status::Done,
+        STORY,
+        "",
+    ),
+    (
+        &["replay", "policy", "trace"],
+        "",
+        Status::Done,
+        ANSWERS,
+        "",
+    ),
+    (&["--explain"], JOINED, Status::Done, STORY, ""),
+    (&[], JOINED, Status::Done, ANSWERS, ""),
+    (
+        &["replay", "--explain", "policy", "empty"],
+        "",
+        Status::Done,
+        "",
+        "",
+    ),
+    (
+        &["replay", "--explain", "trace", "policy"],
+        "",
+        Status::BadPolicy,
+        "",
+        "policy fault 1: not toml\n",
+    ),
+    (
+        &["replay", "--explain", "policy", "other"],
+        "",
+        Status::BadTrace,
+        "",
+        "trace fault 6 at line 1: worker\n",
+    ),
+    (
+        &["replay", "--explain", "nowhere", "trace"],
+        "",
+        Status::Failed,
+        "",
+        "read fault\n",
+    ),
+    (
+        &["replay", "--explain", "policy", "nowhere"],
+        "",
+        Status::Failed,
+        "",
+        "read fault\n",
+    ),
+    (
+        &["--explain"],
+        "workers = 1\n---\n",
+        Status::BadPolicy,
+        "",
+        "policy fault 2: missing version\n",
+    ),
+];
+
+#[test]
+fn answers_are_explained(rt: HostRuntime) {
+    for (words, input, status, out, err) in ENDINGS {
+        ends(&rt, rt.alloc(), words, &PIPED, input, (status, out, err));
+    }
+}
+
+const READS: &str = "heapguard reads a policy, a line ---, and a trace; see heapguard --help\n";
+
+/// At a terminal it is said what is read, where the input is read.
+#[test]
+fn a_terminal_is_told_what_is_explained(rt: HostRuntime) {
+    let host = Files { is_terminal: true };
+    let want = (Status::Done, STORY, READS);
+    ends(&rt, rt.alloc(), &["--explain"], &host, JOINED, want);
+    let words = ["replay", "--explain", "policy", "trace"];
+    ends(
+        &rt,
+        rt.alloc(),
+        &words,
+        &host,
+        "",
+        (Status::Done, STORY, ""),
+    );
+}
+
+/// A writer that takes so many bytes, and then nothing.
+#[derive(Drop)]
+struct Narrow {
+    left: usize,
+}
+
+impl Write for Narrow {
+    fn write(&mut self, buf: &[u8]) -> io::Result<usize> {
+        let taken = self.left.min(buf.len());
+        self.left -= taken;
+        Ok(taken)
+    }
+
+    fn flush(&mut self) -> io::Result<()> {
+        Ok(())
+    }
+}
+
+/// A write that stops is a fault, wherever it stops.
+#[test]
+fn stopped_writes_are_told(rt: HostRuntime) {
+    for left in [0, 1, 100] {
+        let mut err = Vec::new(rt.alloc());
+        let mut out = Narrow { left };
+        let words = ["--explain"];
+        let status = ended(&rt, rt.alloc(), &words, &PIPED, JOINED, &mut out, &mut err);
+        assert!(&rt; status == Status::Failed);
+        assert!(&rt; err.as_slice() == b"write fault\n".as_slice());
+    }
+}
+
+/// A place for the bytes of a test that asks for no memory.
+type Held = arrayvec::ArrayVec<u8, 1024>;
+
+/// The answers with their reasons, or want of memory and nothing written.
+fn explains_or_fails<T: Abort + Threads + Wait>(rt: &T, alloc: Global, words: &[&str]) {
+    let mut out = Held::new();
+    let mut err = Held::new();
+    let status = ended(rt, alloc, words, &PIPED, JOINED, &mut out, &mut err);
+    if status == Status::Done {
+        assert!(rt; out.as_slice() == STORY.as_bytes());
+        assert!(rt; err.is_empty());
+    } else {
+        assert!(rt; status == Status::Failed);
+        assert!(rt; out.is_empty());
+        assert!(rt; err.as_slice() == b"no memory\n".as_slice());
+    }
+}
+
+#[test]
+fn files_explained_refused_in_turn(rt: HostRuntime) {
+    let words = ["replay", "--explain", "policy", "trace"];
+    explains_or_fails(&rt, rt.alloc(), &words);
+}
+
+#[test]
+fn input_explained_refused_in_turn(rt: HostRuntime) {
+    explains_or_fails(&rt, rt.alloc(), &["--explain"]);
+}
