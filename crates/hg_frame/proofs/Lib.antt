@@ -1,0 +1,5 @@
+pub mod StepKinds
+pub mod WorkersLemmas
+pub mod RemotesLemmas
+pub mod PoolLemmas
+pub mod SlotWordLemmas

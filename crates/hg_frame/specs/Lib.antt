@@ -1,0 +1,4 @@
+pub mod Workers
+pub mod Remotes
+pub mod Pool
+pub mod SlotWords
