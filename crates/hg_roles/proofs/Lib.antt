@@ -1,0 +1,11 @@
+pub mod NameLemmas
+pub mod RoleFrames
+pub mod DecidingLemmas
+pub mod BeginningLemmas
+pub mod FirstLemmas
+pub mod Both
+pub mod TakeLemmas
+pub mod DeliverLemmas
+pub mod AbandonLemmas
+pub mod RefillLemmas
+pub mod HistoryLemmas

@@ -1,0 +1,9 @@
+pub mod Roles
+pub mod Served
+pub mod Names
+pub mod Deciding
+pub mod Beginning
+pub mod FirstParts
+pub mod Joined
+pub mod Pooling
+pub mod Histories
