@@ -137,16 +137,16 @@ module _ (m : State) (before : View) (p : Pooled) (g : ℕ) (agreed : Agrees m b
 -- the pool is one
 pub abandon_quiet : (m : State) (w g : ℕ) (policy : Policy) (p : Pooled) (role : Role)
     → name_of policy role ≢ name_of policy (of_pool p) → Quiet m w (event.Abandon g) role
-abandon_quiet m w g policy p (of_worker view) differ = tt
+abandon_quiet m w g policy p (of_worker view log) differ = tt
 abandon_quiet m w g policy p (of_remote h others) differ = refl
 abandon_quiet m w g policy p (of_pool other) differ = absurd (differ refl)
 abandon_quiet m w g policy p (of_segment h) differ = tt
 
 pub abandons_decide : AbandonsDecide
-abandons_decide policy words parts log given before p g seat below mine =
+abandons_decide policy words parts log before p g seat below mine =
     both_decide policy words parts log before (let_go before g) (event.Abandon g) answer.Done
-    (record { role = of_pool p; log = given }) (of_pool (put_back p before g)) seat below refl refl
-    (λ e. absurd (omega arith)) refl
+    (of_pool p) (of_pool (put_back p before g)) seat below refl refl
+    (λ e. absurd (omega arith)) refl refl refl
     (λ q. refl)
     (λ m shows agreed pooled. abandon_leaves m before p g agreed pooled mine)
     (λ m shows agreed role differ. abandon_quiet m before.worker g policy p role differ)

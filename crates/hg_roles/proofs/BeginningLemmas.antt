@@ -1,5 +1,5 @@
 -- The start agrees with what each role has first.
-use Rattle.std.proofs.Common.{◌≡◌, ℕ, ◌+◌, ◌*◌, false, List, length, replicate, None}
+use Rattle.std.proofs.Common.{◌≡◌, ℕ, ◌+◌, ◌*◌, false, List, [], length, replicate, None}
 use Rattle.std.proofs.Common.{refl, sym, ap, subst, ◌∙◌, ◌==◌, ◌&&◌, not}
 use Rattle.std.specs.List.{list_any, count_by}
 use Rattle.std.proofs.lemmas.Bool.{true≢false, and_right}
@@ -17,7 +17,7 @@ use Rattle.hg_machine.proofs.Opening.{all_same, opening_is_sound}
 use Rattle.hg_agreement.specs.Views.{View}
 use Rattle.hg_agreement.specs.Agreement.{Agrees, standing_of}
 use Rattle.hg_roles.specs.Roles.{Pooled, Role, of_worker, of_remote, of_pool, of_segment}
-use Rattle.hg_roles.specs.Roles.{PoolAgrees, RoleAgrees}
+use Rattle.hg_roles.specs.Roles.{PoolAgrees, RoleAgrees, calls_in}
 use Rattle.hg_roles.specs.Served.{WordsShow, places_of_policy}
 use Rattle.hg_roles.specs.Beginning.{IsIdle, IsFull, IsFirst, OpenedIsNew}
 
@@ -73,17 +73,23 @@ module _ (policy : Policy) (good : IsSoundPolicy policy) where
   }
 
   first_agrees : (role : Role) → IsFirst policy role → RoleAgrees role start
-  first_agrees (of_worker view) first = idle_agrees view first
+  first_agrees (of_worker view log) first = idle_agrees view first.0
   first_agrees (of_remote g sent) first = λ q.
       ap (λ (xs : List ℕ). count_by (λ other. other == q) xs) first ∙ ap bit_of (sym (unsent g q))
   first_agrees (of_pool p) first = full_agrees p first
   first_agrees (of_segment g) first = tt
 
+no_call_at_first : (policy : Policy) (role : Role) → IsFirst policy role → calls_in role ≡ []
+no_call_at_first policy (of_worker view log) first = first.1
+no_call_at_first policy (of_remote g sent) first = refl
+no_call_at_first policy (of_pool p) first = refl
+no_call_at_first policy (of_segment g) first = refl
+
 pub opened_is_new : OpenedIsNew
 opened_is_new policy views good first = record {
   shown = words_show policy good;
-  agrees = λ i j part has. first_agrees policy good part.role (first.role i j part has);
-  no_call = first.no_call;
+  agrees = λ i j role has. first_agrees policy good role (first.first i j role has);
+  no_call = λ i j role has. no_call_at_first policy role (first.first i j role has);
   one_part = first.one_part;
   below = first.below;
 }

@@ -2,7 +2,7 @@
 use Rattle.std.proofs.Common.{◌≡◌, ◌≢◌, inl, inr, ℕ, ◌+◌, ◌<◌, true, false, List, [], ◌∷◌, ◌++◌}
 use Rattle.std.proofs.Common.{length, get_or, set, Option, Some, None, refl, sym, ap, subst, ◌∙◌}
 use Rattle.std.proofs.Common.{arith}
-use Rattle.std.proofs.Common.{append-nil, eq-eqb, ne_eqb}
+use Rattle.std.proofs.Common.{eq-eqb, ne_eqb}
 use Rattle.std.proofs.lemmas.Bool.{cases_eq, false_from_ne_true}
 use Rattle.std.proofs.lemmas.Grind.{get_or-set_at}
 use Rattle.std.proofs.lemmas.List.{length-set, get_or-set_other}
@@ -22,9 +22,9 @@ use Rattle.hg_frame.proofs.SlotWordLemmas.{words_stay}
 use Rattle.hg_history.specs.History.{log_of}
 use Rattle.hg_history.specs.Service.{IsIn}
 use Rattle.hg_history.specs.Steps.{Moves, Decides}
-use Rattle.hg_roles.specs.Roles.{Call, Role, of_segment, RolePart, RoleAgrees, name_of}
+use Rattle.hg_roles.specs.Roles.{Call, Role, of_worker, of_segment, RoleAgrees, name_of, calls_in}
 use Rattle.hg_roles.specs.Served.{WordsShow, running, places_of_policy}
-use Rattle.hg_roles.specs.Deciding.{mine, called, IsSeatOf, is_own, TiesDecide, PrivateCallsDecide}
+use Rattle.hg_roles.specs.Deciding.{called, IsSeatOf, is_own, TiesDecide, PrivateCallsDecide}
 use Rattle.hg_roles.specs.Deciding.{RefusalsDecide}
 use Rattle.hg_roles.proofs.RoleFrames.{own_quiet, role_stays}
 
@@ -61,25 +61,23 @@ seeing m view place word h shows = record {
   word = shows;
 }
 
-module _ (policy : Policy) (words : List ℕ) (parts : List RolePart) (log : List Call)
+module _ (policy : Policy) (words : List ℕ) (parts : List Role) (log : List Call)
     (before after : View) (e : Event) (a : Answer)
     (seat : IsSeatOf before log parts) (low : before.worker < policy.workers)
     (same : after.worker ≡ before.worker) where
   abbrev w : ℕ
   w = before.worker
 
-  abbrev change : RolePart → RolePart
+  abbrev change : Role → Role
   change = called after (e, a)
 
   -- for each part of the seat: the worker's own, or a segment's
-  by_part : (P : RolePart → Type 0) → P (mine before log)
-      → ((number : ℕ) (given : List Call) → P (record { role = of_segment number; log = given }))
-      → (j : ℕ) (part : RolePart) → IsIn parts j part → P part
+  by_part : (P : Role → Type 0) → P (of_worker before log)
+      → ((number : ℕ) → P (of_segment number))
+      → (j : ℕ) (part : Role) → IsIn parts j part → P part
   by_part P own other j part has = elim (seat.others j part has) as (λ _. P part) [
     | inl it ↦ subst P (sym it) own
-    | inr seg ↦
-        subst (λ (r : Role). P (record { role = r; log = part.log })) (sym seg.1)
-        (other seg.0 part.log)
+    | inr seg ↦ subst P (sym seg.1) (other seg.0)
   ]
 
   apart : (number : ℕ) → w ≢ name_of policy (of_segment number)
@@ -97,14 +95,14 @@ module _ (policy : Policy) (words : List ℕ) (parts : List RolePart) (log : Lis
     new = new;
     run = (new, made.step, refl);
     shown = shown;
-    agrees = by_part (λ part. RoleAgrees (change part).role new) made.agrees (λ number given. tt);
+    agrees = by_part (λ part. RoleAgrees (change part) new) made.agrees (λ number. tt);
     others = λ other agreed strange.
-        role_stays m w e a new shows.sound made.step other.role
+        role_stays m w e a new shows.sound made.step other
         (λ it.
-        strange seat.place (mine before log) seat.there
-        (sym (ap (λ p. name_of p other.role) (sym shows.same) ∙ it)))
+        strange seat.place (of_worker before log) seat.there
+        (sym (ap (λ p. name_of p other) (sym shows.same) ∙ it)))
         (subst (λ p. w < p.workers) (sym shows.same) low) made.agrees.sound
-        (own_quiet m w e own other.role) agreed;
+        (own_quiet m w e own other) agreed;
   }
 
   decides_with : (later : List ℕ)
@@ -113,19 +111,18 @@ module _ (policy : Policy) (words : List ℕ) (parts : List RolePart) (log : Lis
       → Decides (running policy) ((w, (e, a)) ∷ []) words later parts change
   decides_with later moves = record {
     names =
-        by_part (λ part. name_of policy (change part).role ≡ name_of policy part.role) same
-        (λ number given. refl);
+        by_part (λ part. name_of policy (change part) ≡ name_of policy part) same
+        (λ number. refl);
     logs =
         by_part
         (λ part.
-        (change part).log ≡ part.log ++ log_of (name_of policy part.role) ((w, (e, a)) ∷ []))
+        calls_in (change part)
+        ≡ calls_in part ++ log_of (name_of policy part) ((w, (e, a)) ∷ []))
         (ap (λ (l : List Call). log ++ l) (sym (log_one w (e, a))))
-        (λ number given.
-        sym
-        (ap (λ (l : List Call). given ++ l) (log_other w _ (e, a) (apart number))
-        ∙ append-nil given));
-    own = λ name strange. log_other w name (e, a) (strange seat.place (mine before log) seat.there);
-    moves = λ m shows agrees. moves m shows (agrees seat.place (mine before log) seat.there);
+        (λ number. sym (log_other w _ (e, a) (apart number)));
+    own = λ name strange.
+        log_other w name (e, a) (strange seat.place (of_worker before log) seat.there);
+    moves = λ m shows agrees. moves m shows (agrees seat.place (of_worker before log) seat.there);
   }
 
   decides_by : is_own e ≡ true → (later : List ℕ)
@@ -211,7 +208,7 @@ module _ (policy : Policy) (words : List ℕ) (parts : List RolePart) (log : Lis
         ))
 
 -- what refuses the event in each state that agrees leaves all as it is
-refused_moves : (policy : Policy) (words : List ℕ) (parts : List RolePart) (log : List Call)
+refused_moves : (policy : Policy) (words : List ℕ) (parts : List Role) (log : List Call)
     (before : View) (e : Event) (a : Answer)
     (seat : IsSeatOf before log parts) → before.worker < policy.workers
     → (m : State) → WordsShow policy words m → Agrees m before None
@@ -228,7 +225,7 @@ refused_moves policy words parts log before e a seat low m shows agreed refused 
   shown = shows;
   agrees =
       by_part policy words parts log before before e a seat low refl
-      (λ part. RoleAgrees (called before (e, a) part).role m) agreed (λ number given. tt);
+      (λ part. RoleAgrees (called before (e, a) part) m) agreed (λ number. tt);
   others = λ other agrees strange. agrees;
 }
 

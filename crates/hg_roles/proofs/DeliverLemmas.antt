@@ -125,17 +125,17 @@ deliver_leaves m before p g sent sound low agreed remote hand of = record {
 deliver_quiet : (m : State) (w p g : ℕ) (policy : Policy) (sent : List ℕ) → hand_of m w ≡ Some p
     → segment_of p ≡ g → (role : Role)
     → name_of policy role ≢ name_of policy (of_remote g sent) → Quiet m w event.Deliver role
-deliver_quiet m w p g policy sent hand of (of_worker view) differ = tt
+deliver_quiet m w p g policy sent hand of (of_worker view log) differ = tt
 deliver_quiet m w p g policy sent hand of (of_remote h others) differ =
     ap (is_of_segment h) hand ∙ ap (λ n. n == h) of ∙ ne_eqb g h (other_list policy g h differ)
 deliver_quiet m w p g policy sent hand of (of_pool pooled) differ = refl
 deliver_quiet m w p g policy sent hand of (of_segment h) differ = tt
 
 pub delivers_decide : DeliversDecide
-delivers_decide policy words parts log given before g p sent seat below hand of =
+delivers_decide policy words parts log before g p sent seat below hand of =
     both_decide policy words parts log before (emptied before) event.Deliver answer.Done
-    (record { role = of_remote g sent; log = given }) (of_remote g (p ∷ sent)) seat below refl refl
-    (λ e. absurd (omega arith)) refl
+    (of_remote g sent) (of_remote g (p ∷ sent)) seat below refl refl
+    (λ e. absurd (omega arith)) refl refl refl
     (λ q. refl)
     (λ m shows agreed remote.
     deliver_leaves m before p g sent shows.sound

@@ -8,7 +8,7 @@ use lib.ListN.{get_elem?}
 use Rattle.hg_machine.specs.Policy.{Policy}
 use Rattle.hg_history.specs.Service.{IsIn, Stands}
 use Rattle.hg_history.proofs.Views.{at_append, at_below, at_map, map_at}
-use Rattle.hg_roles.specs.Roles.{Role, of_worker, of_remote, of_pool, of_segment, RolePart, name_of}
+use Rattle.hg_roles.specs.Roles.{Role, of_worker, of_remote, of_pool, of_segment, name_of}
 use Rattle.hg_roles.specs.Served.{running}
 use Rattle.hg_roles.specs.Beginning.{IsFirst, AreFirst}
 use Rattle.hg_roles.specs.FirstParts.{idle, full, first_roles, first_views, FirstPartsAreThere}
@@ -35,7 +35,7 @@ module _ (policy : Policy) where
   segments = length policy.segments
 
   abbrev workers : List Role
-  workers = map (λ number. of_worker (idle policy number)) (range_with_len 0 policy.workers)
+  workers = map (λ number. of_worker (idle policy number) []) (range_with_len 0 policy.workers)
 
   abbrev lists : List Role
   lists = map (λ segment. of_remote segment []) (range_with_len 0 segments)
@@ -50,10 +50,10 @@ module _ (policy : Policy) where
 
   right_worker : (i : ℕ) (role : Role) → get_elem? workers i ≡ some role → Right i role
   right_worker i role has =
-      let at = ranged (λ number. of_worker (idle policy number)) 0 policy.workers i role has in
+      let at = ranged (λ number. of_worker (idle policy number) []) 0 policy.workers i role has in
       subst (Right i) at.0 (record {
         name = omega arith;
-        first = record { same = refl; holds = λ segment. refl; hand = refl };
+        first = (record { same = refl; holds = λ segment. refl; hand = refl }, refl);
       })
 
   right_list : (i : ℕ) (role : Role) → get_elem? lists i ≡ some role
@@ -84,7 +84,7 @@ module _ (policy : Policy) where
   right : (i : ℕ) (role : Role) → get_elem? (first_roles policy) i ≡ some role → Right i role
   right i role has =
       let many =
-      length-map-range_with_len (λ number. of_worker (idle policy number)) 0 policy.workers in
+      length-map-range_with_len (λ number. of_worker (idle policy number) []) 0 policy.workers in
       let more = length-map-range_with_len (λ segment. of_remote segment []) 0 segments in
       ⊎_elim (right_worker i role)
       (λ (t : (k : ℕ) × (i ≡ length workers + k)
@@ -105,68 +105,50 @@ module _ (policy : Policy) where
       let a = length-append workers (lists ++ of_pool full ∷ seats) in
       let b = length-append lists (of_pool full ∷ seats) in
       let many =
-      length-map-range_with_len (λ number. of_worker (idle policy number)) 0 policy.workers in
+      length-map-range_with_len (λ number. of_worker (idle policy number) []) 0 policy.workers in
       let more = length-map-range_with_len (λ segment. of_remote segment []) 0 segments in
       let last = length-map-range_with_len of_segment 0 segments in
       omega arith
 
-  -- a part stands alone in its view, new, at the place of its name
-  record Alone (i j : ℕ) (part : RolePart) : Type 0 where
+  -- a part stands alone in its view, at the place of its name
+  record Alone (i j : ℕ) (role : Role) : Type 0 where
     pub only : j ≡ 0
-    pub right : Right i part.role
-    pub new : part.log ≡ []
+    pub right : Right i role
     pub below : i < (running policy).count
 
-  alone_in : (role : Role) (j : ℕ) (part : RolePart)
-      → IsIn (record { role = role; log = [] } ∷ []) j part
-      → (j ≡ 0) × (record { role = role; log = [] } ≡ part)
-  alone_in role zero part has = (refl, some-injective (record { role = role; log = [] }) part has)
-  alone_in role (suc j) part has = absurd (some-ne-none part (sym has))
+  alone_in : (one : Role) (j : ℕ) (role : Role) → IsIn (one ∷ []) j role → (j ≡ 0) × (one ≡ role)
+  alone_in one zero role has = (refl, some-injective one role has)
+  alone_in one (suc j) role has = absurd (some-ne-none role (sym has))
 
-  alone : (i j : ℕ) (part : RolePart) → Stands (first_views policy) i j part → Alone i j part
-  alone i j part has =
-      let one =
-      at_map (λ role. record { role = role; log = [] } ∷ []) (first_roles policy) i has.0 has.1 in
-      let it =
-      alone_in one.0 j part (subst (λ (v : List RolePart). IsIn v j part) (sym one.2) has.2) in
+  alone : (i j : ℕ) (role : Role) → Stands (first_views policy) i j role → Alone i j role
+  alone i j role has =
+      let one = at_map (λ r. r ∷ []) (first_roles policy) i has.0 has.1 in
+      let it = alone_in one.0 j role (subst (λ (v : List Role). IsIn v j role) (sym one.2) has.2) in
       record {
         only = it.0;
-        right = subst (λ (p : RolePart). Right i p.role) it.1 (right i one.0 one.1);
-        new = ap (λ (p : RolePart). p.log) (sym it.1);
+        right = subst (Right i) it.1 (right i one.0 one.1);
         below = subst (λ n. i < n) all_roles (at_below (first_roles policy) i one.0 one.1);
       }
 
   first_are : AreFirst policy (first_views policy)
   first_are = record {
-    role = λ i j part has. (alone i j part has).right.first;
-    no_call = λ i j part has. (alone i j part has).new;
+    first = λ i j role has. (alone i j role has).right.first;
     one_part = λ i j k l a b ha hb e.
         let x = alone i j a ha in
         let y = alone k l b hb in
         (sym x.right.name ∙ e ∙ y.right.name, x.only ∙ sym y.only);
-    below = λ i j part has.
-        let x = alone i j part has in
+    below = λ i j role has.
+        let x = alone i j role has in
         subst (λ n. n < (running policy).count) (sym x.right.name) x.below;
   }
 
   each_there : (name : ℕ) → name < (running policy).count
-      → (i j : ℕ) × (part : RolePart) × Stands (first_views policy) i j part
-      × (name_of policy part.role ≡ name)
+      → (i j : ℕ) × (role : Role) × Stands (first_views policy) i j role
+      × (name_of policy role ≡ name)
   each_there name below =
       let it = there (first_roles policy) name (subst (λ n. name < n) (sym all_roles) below) in
-      let part : RolePart = record { role = it.0; log = [] } in (
-        name,
-        0,
-        part,
-        (
-          part
-              ∷ [],
-          map_at (λ role. record { role = role; log = [] } ∷ [])
-              (first_roles policy) name it.0 it.1,
-          refl,
-        ),
-        (right name it.0 it.1).name,
-      )
+      let at = map_at (λ (r : Role). r ∷ []) (first_roles policy) name it.0 it.1 in
+      (name, 0, it.0, (it.0 ∷ [], at, refl), (right name it.0 it.1).name)
 
 pub first_parts_are_there : FirstPartsAreThere
 first_parts_are_there policy = (first_are policy, each_there policy)

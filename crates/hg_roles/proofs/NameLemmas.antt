@@ -7,26 +7,26 @@ use Rattle.hg_roles.specs.Names.{IsOf, IsSameRole, NamesAreApart}
 
 below : (policy : Policy) (role : Role) → IsOf policy role
     → name_of policy role < (running policy).count
-below policy (of_worker view) is = omega arith
+below policy (of_worker view log) is = omega arith
 below policy (of_remote segment sent) is = omega arith
 below policy (of_pool pooled) is = omega arith
 below policy (of_segment segment) is = omega arith
 
 apart : (policy : Policy) (role other : Role) → IsOf policy role → IsOf policy other
     → name_of policy role ≡ name_of policy other → IsSameRole role other
-apart policy (of_worker view) (of_worker other) is are same = same
-apart policy (of_worker view) (of_remote h more) is are same = absurd (omega arith)
-apart policy (of_worker view) (of_pool other) is are same = absurd (omega arith)
-apart policy (of_worker view) (of_segment h) is are same = absurd (omega arith)
-apart policy (of_remote g sent) (of_worker other) is are same = absurd (omega arith)
+apart policy (of_worker view log) (of_worker other calls) is are same = same
+apart policy (of_worker view log) (of_remote h more) is are same = absurd (omega arith)
+apart policy (of_worker view log) (of_pool other) is are same = absurd (omega arith)
+apart policy (of_worker view log) (of_segment h) is are same = absurd (omega arith)
+apart policy (of_remote g sent) (of_worker other calls) is are same = absurd (omega arith)
 apart policy (of_remote g sent) (of_remote h more) is are same = omega arith
 apart policy (of_remote g sent) (of_pool other) is are same = absurd (omega arith)
 apart policy (of_remote g sent) (of_segment h) is are same = absurd (omega arith)
-apart policy (of_pool pooled) (of_worker other) is are same = absurd (omega arith)
+apart policy (of_pool pooled) (of_worker other calls) is are same = absurd (omega arith)
 apart policy (of_pool pooled) (of_remote h more) is are same = absurd (omega arith)
 apart policy (of_pool pooled) (of_pool other) is are same = tt
 apart policy (of_pool pooled) (of_segment h) is are same = absurd (omega arith)
-apart policy (of_segment g) (of_worker other) is are same = absurd (omega arith)
+apart policy (of_segment g) (of_worker other calls) is are same = absurd (omega arith)
 apart policy (of_segment g) (of_remote h more) is are same = absurd (omega arith)
 apart policy (of_segment g) (of_pool other) is are same = absurd (omega arith)
 apart policy (of_segment g) (of_segment h) is are same = omega arith

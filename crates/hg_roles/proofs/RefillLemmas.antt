@@ -216,17 +216,17 @@ empty_leaves m before p arena none agreed pooled = record {
 
 refill_quiet : (m : State) (w arena : ℕ) (policy : Policy) (p : Pooled) (role : Role)
     → name_of policy role ≢ name_of policy (of_pool p) → Quiet m w (event.Refill arena) role
-refill_quiet m w arena policy p (of_worker view) differ = tt
+refill_quiet m w arena policy p (of_worker view log) differ = tt
 refill_quiet m w arena policy p (of_remote h others) differ = refl
 refill_quiet m w arena policy p (of_pool other) differ = absurd (differ refl)
 refill_quiet m w arena policy p (of_segment h) differ = tt
 
 pub refills_decide : RefillsDecide
-refills_decide policy words parts log given before p arena g seat below next =
+refills_decide policy words parts log before p arena g seat below next =
     both_decide policy words parts log before (taken_up before p g) (event.Refill arena)
     (answer.Refilled g)
-    (record { role = of_pool p; log = given }) (of_pool (without p g)) seat below refl refl
-    (λ e. absurd (omega arith)) refl
+    (of_pool p) (of_pool (without p g)) seat below refl refl
+    (λ e. absurd (omega arith)) refl refl refl
     (λ q. refl)
     (λ m shows agreed pooled.
     refill_leaves m shows.sound arena g
@@ -234,10 +234,10 @@ refills_decide policy words parts log given before p arena g seat below next =
     (λ m shows agreed role differ. refill_quiet m before.worker arena policy p role differ)
 
 pub empty_refills_decide : EmptyRefillsDecide
-empty_refills_decide policy words parts log given before p arena seat below none =
+empty_refills_decide policy words parts log before p arena seat below none =
     both_decide policy words parts log before before (event.Refill arena) answer.NoSegment
-    (record { role = of_pool p; log = given }) (of_pool p) seat below refl refl
-    (λ e. absurd (omega arith)) refl
+    (of_pool p) (of_pool p) seat below refl refl
+    (λ e. absurd (omega arith)) refl refl refl
     (λ q. refl)
     (λ m shows agreed pooled.
     empty_leaves m before p arena

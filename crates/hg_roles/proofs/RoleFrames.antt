@@ -46,7 +46,7 @@ alike_stand r q alike =
 
 -- the event moves nothing of what has the role
 abbrev pub Quiet : State → ℕ → Event → Role → Type 0
-Quiet m w e (of_worker view) = Unit {0}
+Quiet m w e (of_worker view log) = Unit {0}
 Quiet m w e (of_remote g sent) = moves_sent m w e g ≡ false
 Quiet m w e (of_pool p) = moves_segment e ≡ false
 Quiet m w e (of_segment g) = Unit {0}
@@ -63,7 +63,7 @@ own_unmoved e own = refl
 
 -- what a worker decides alone moves nothing that is sent, and no segment
 pub own_quiet : (m : State) (w : ℕ) (e : Event) → is_own e ≡ true → (role : Role) → Quiet m w e role
-own_quiet m w e own (of_worker view) = tt
+own_quiet m w e own (of_worker view log) = tt
 own_quiet m w e own (of_remote g sent) = own_unsent m w g e own
 own_quiet m w e own (of_pool p) = own_unmoved e own
 own_quiet m w e own (of_segment g) = tt
@@ -115,7 +115,7 @@ module _ (m : State) (w : ℕ) (e : Event) (a : Answer) (new : State) (sound : I
 
   pub role_stays : (role : Role) → name_of m.policy role ≢ w → w < m.policy.workers → IsSound new
       → Quiet m w e role → RoleAgrees role m → RoleAgrees role new
-  role_stays (of_worker view) differ below later quiet agreed =
+  role_stays (of_worker view log) differ below later quiet agreed =
       worker_stays view differ later agreed
   role_stays (of_remote g sent) differ below later quiet agreed =
       remote_agrees g sent below quiet agreed

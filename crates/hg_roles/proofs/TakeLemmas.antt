@@ -221,17 +221,17 @@ other_list policy g h differ e = differ (ap (λ n. policy.workers + n) (sym e))
 
 take_quiet : (m : State) (w g : ℕ) (policy : Policy) (sent : List ℕ) (role : Role)
     → name_of policy role ≢ name_of policy (of_remote g sent) → Quiet m w (event.Take g) role
-take_quiet m w g policy sent (of_worker view) differ = tt
+take_quiet m w g policy sent (of_worker view log) differ = tt
 take_quiet m w g policy sent (of_remote h others) differ = ne_eqb g h (other_list policy g h differ)
 take_quiet m w g policy sent (of_pool p) differ = refl
 take_quiet m w g policy sent (of_segment h) differ = tt
 
 pub takes_decide : TakesDecide
-takes_decide policy words parts log given before g sent seat below held =
+takes_decide policy words parts log before g sent seat below held =
     both_decide policy words parts log before (come_home before sent) (event.Take g)
     (answer.Taken (length sent))
-    (record { role = of_remote g sent; log = given }) (of_remote g []) seat below refl refl
-    (λ e. absurd (omega arith)) refl
+    (of_remote g sent) (of_remote g []) seat below refl refl
+    (λ e. absurd (omega arith)) refl refl refl
     (λ q. refl)
     (λ m shows agreed remote. take_leaves m g sent remote before agreed held)
     (λ m shows agreed role differ. take_quiet m before.worker g policy sent role differ)

@@ -6,7 +6,7 @@ use Rattle.hg_machine.specs.SoundPolicy.{IsSoundPolicy}
 use Rattle.hg_agreement.specs.Views.{View}
 use Rattle.hg_history.specs.Service.{Stands}
 use Rattle.hg_history.specs.OneRun.{IsNew}
-use Rattle.hg_roles.specs.Roles.{Pooled, Role, of_worker, of_remote, of_pool, of_segment, RolePart}
+use Rattle.hg_roles.specs.Roles.{Pooled, Role, of_worker, of_remote, of_pool, of_segment}
 use Rattle.hg_roles.specs.Roles.{name_of}
 use Rattle.hg_roles.specs.Served.{running, places_of_policy}
 
@@ -24,27 +24,26 @@ pub record IsFull (p : Pooled) : Type 0 where
   pub standing : (place : ℕ) → p.standing place ≡ Home 0
   pub block : (place : ℕ) → p.block place ≡ []
 
--- a role at the start: nothing is sent
+-- a role at the start: no call is made, and nothing is sent
 abbrev pub IsFirst : Policy → Role → Type 0
-IsFirst policy (of_worker view) = IsIdle policy view
+IsFirst policy (of_worker view log) = IsIdle policy view × (log ≡ [])
 IsFirst policy (of_remote segment sent) = sent ≡ []
 IsFirst policy (of_pool pooled) = IsFull pooled
 IsFirst policy (of_segment segment) = Unit {0}
 
--- parts of such roles, that have logged nothing, each of another name below the count
-pub record AreFirst (policy : Policy) (views : List (List RolePart)) : Type 0 where
-  pub role : (i j : ℕ) (part : RolePart) → Stands views i j part → IsFirst policy part.role
-  pub no_call : (i j : ℕ) (part : RolePart) → Stands views i j part → part.log ≡ []
+-- parts of such roles, each of another name below the count
+pub record AreFirst (policy : Policy) (views : List (List Role)) : Type 0 where
+  pub first : (i j : ℕ) (role : Role) → Stands views i j role → IsFirst policy role
   pub one_part :
-      (i j k l : ℕ) (a b : RolePart) → Stands views i j a → Stands views k l b
-      → name_of policy a.role ≡ name_of policy b.role → (i ≡ k) × (j ≡ l)
+      (i j k l : ℕ) (a b : Role) → Stands views i j a → Stands views k l b
+      → name_of policy a ≡ name_of policy b → (i ≡ k) × (j ≡ l)
   pub below :
-      (i j : ℕ) (part : RolePart) → Stands views i j part
-      → name_of policy part.role < (running policy).count
+      (i j : ℕ) (role : Role) → Stands views i j role
+      → name_of policy role < (running policy).count
 
 -- and words that are all 0: so the rule begins
 abbrev pub OpenedIsNew : Type 0
 OpenedIsNew =
-    (policy : Policy) (views : List (List RolePart)) → IsSoundPolicy policy
+    (policy : Policy) (views : List (List Role)) → IsSoundPolicy policy
     → AreFirst policy views
     → IsNew (running policy) (replicate (places_of_policy policy + 1) 0) views

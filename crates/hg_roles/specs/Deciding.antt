@@ -12,7 +12,7 @@ use Rattle.hg_agreement.specs.Agreement.{Agrees, Ties}
 use Rattle.hg_frame.specs.SlotWords.{changes_word}
 use Rattle.hg_history.specs.Service.{IsIn}
 use Rattle.hg_history.specs.Steps.{Decides}
-use Rattle.hg_roles.specs.Roles.{Call, Role, of_worker, of_segment, RolePart}
+use Rattle.hg_roles.specs.Roles.{Call, Role, of_worker, of_segment}
 use Rattle.hg_roles.specs.Served.{running, places_of_policy}
 
 -- the worker decides it alone: it moves nothing that is sent, and no segment
@@ -23,24 +23,18 @@ is_own (event.Abandon segment) = false
 is_own (event.Refill arena) = false
 is_own other = true
 
-abbrev pub mine : View → List Call → RolePart
-mine view log = record { role = of_worker view; log = log }
-
 -- a worker's part after a call has this view, and the call in its log; other parts stay
-abbrev pub called_by : View → Call → Role → List Call → RolePart
-called_by after call (of_worker view) log = mine after (log ++ call ∷ [])
-called_by after call role log = record { role = role; log = log }
-
-abbrev pub called : View → Call → RolePart → RolePart
-called after call part = called_by after call part.role part.log
+abbrev pub called : View → Call → Role → Role
+called after call (of_worker view log) = of_worker after (log ++ call ∷ [])
+called after call role = role
 
 -- the seat of a worker, by itself or joined with seats of segments
-pub record IsSeatOf (view : View) (log : List Call) (parts : List RolePart) : Type 0 where
+pub record IsSeatOf (view : View) (log : List Call) (parts : List Role) : Type 0 where
   pub place : ℕ
-  pub there : IsIn parts place (mine view log)
+  pub there : IsIn parts place (of_worker view log)
   pub others :
-      (j : ℕ) (part : RolePart) → IsIn parts j part
-      → (part ≡ mine view log) ⊎ ((segment : ℕ) × (part.role ≡ of_segment segment))
+      (j : ℕ) (part : Role) → IsIn parts j part
+      → (part ≡ of_worker view log) ⊎ ((segment : ℕ) × (part ≡ of_segment segment))
 
 -- a call of a worker that stays the same one, whose event it decides alone
 pub record IsCallOf (policy : Policy) (before after : View) (e : Event) : Type 0 where
@@ -52,7 +46,7 @@ pub record IsCallOf (policy : Policy) (before after : View) (e : Event) : Type 0
 -- step owes that finds this word and leaves that one
 abbrev pub TiesDecide : Type 0
 TiesDecide =
-    (policy : Policy) (words : List ℕ) (parts : List RolePart) (log : List Call)
+    (policy : Policy) (words : List ℕ) (parts : List Role) (log : List Call)
     (before after : View) (e : Event) (a : Answer) (place left : ℕ)
     → IsSeatOf before log parts → IsCallOf policy before after e
     → place < places_of_policy policy
@@ -66,7 +60,7 @@ TiesDecide =
 -- Where it is tied without a word, and changes none, it is what a step owes that leaves all words
 abbrev pub PrivateCallsDecide : Type 0
 PrivateCallsDecide =
-    (policy : Policy) (words : List ℕ) (parts : List RolePart) (log : List Call)
+    (policy : Policy) (words : List ℕ) (parts : List Role) (log : List Call)
     (before after : View) (e : Event) (a : Answer)
     → IsSeatOf before log parts → IsCallOf policy before after e
     → ((other : ℕ) → other < places_of_policy policy → changes_word e a other ≡ false)
@@ -78,7 +72,7 @@ PrivateCallsDecide =
 -- what a step owes that leaves all as it is but for the log
 abbrev pub RefusalsDecide : Type 0
 RefusalsDecide =
-    (policy : Policy) (words : List ℕ) (parts : List RolePart) (log : List Call) (before : View)
+    (policy : Policy) (words : List ℕ) (parts : List Role) (log : List Call) (before : View)
     (e : Event) (a : Answer)
     → IsSeatOf before log parts → before.worker < policy.workers
     → ((m : State) → Agrees m before None → refusal m before.worker e ≡ Some a)

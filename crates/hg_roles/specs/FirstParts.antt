@@ -5,7 +5,7 @@ use Rattle.hg_place.specs.declared.standing.Standing.TheVariants.{Home}
 use Rattle.hg_machine.specs.Policy.{Policy}
 use Rattle.hg_agreement.specs.Views.{View}
 use Rattle.hg_history.specs.Service.{Stands}
-use Rattle.hg_roles.specs.Roles.{Pooled, Role, of_worker, of_remote, of_pool, of_segment, RolePart}
+use Rattle.hg_roles.specs.Roles.{Pooled, Role, of_worker, of_remote, of_pool, of_segment}
 use Rattle.hg_roles.specs.Roles.{name_of}
 use Rattle.hg_roles.specs.Served.{running}
 use Rattle.hg_roles.specs.Beginning.{AreFirst}
@@ -35,17 +35,17 @@ full = record {
 -- the workers of a policy, the lists of its segments, the pool, and the seats of its segments
 abbrev pub first_roles : Policy → List Role
 first_roles policy =
-    map (λ number. of_worker (idle policy number)) (range_with_len 0 policy.workers)
+    map (λ number. of_worker (idle policy number) []) (range_with_len 0 policy.workers)
     ++ (map (λ segment. of_remote segment []) (range_with_len 0 (length policy.segments))
     ++ of_pool full ∷ map of_segment (range_with_len 0 (length policy.segments)))
 
-abbrev pub first_views : Policy → List (List RolePart)
-first_views policy = map (λ role. record { role = role; log = [] } ∷ []) (first_roles policy)
+abbrev pub first_views : Policy → List (List Role)
+first_views policy = map (λ role. role ∷ []) (first_roles policy)
 
 -- each in a seat of its own they are as they should be at first, and each name is of one
 abbrev pub FirstPartsAreThere : Type 0
 FirstPartsAreThere =
     (policy : Policy) → AreFirst policy (first_views policy)
     × ((name : ℕ) → name < (running policy).count
-    → (i j : ℕ) × (part : RolePart) × Stands (first_views policy) i j part
-    × (name_of policy part.role ≡ name))
+    → (i j : ℕ) × (role : Role) × Stands (first_views policy) i j role
+    × (name_of policy role ≡ name))

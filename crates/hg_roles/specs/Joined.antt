@@ -12,32 +12,27 @@ use Rattle.hg_machine.specs.Policy.{Policy}
 use Rattle.hg_agreement.specs.Views.{View}
 use Rattle.hg_history.specs.Service.{IsIn}
 use Rattle.hg_history.specs.Steps.{Decides}
-use Rattle.hg_roles.specs.Roles.{Call, Role, of_worker, of_remote, of_segment, RolePart}
+use Rattle.hg_roles.specs.Roles.{Call, Role, of_worker, of_remote, of_segment}
 use Rattle.hg_roles.specs.Served.{running}
-use Rattle.hg_roles.specs.Deciding.{mine}
 
 -- the seat of a worker that took in the one of this other part, and maybe seats of segments
-pub record IsSeatWith (view : View) (log : List Call) (other : RolePart) (parts : List RolePart)
+pub record IsSeatWith (view : View) (log : List Call) (other : Role) (parts : List Role)
     : Type 0 where
   pub place : ℕ
-  pub there : IsIn parts place (mine view log)
+  pub there : IsIn parts place (of_worker view log)
   pub second : ℕ
   pub joined : IsIn parts second other
   pub others :
-      (j : ℕ) (part : RolePart) → IsIn parts j part
-      → (part ≡ mine view log)
-      ⊎ ((part ≡ other) ⊎ ((segment : ℕ) × (part.role ≡ of_segment segment)))
+      (j : ℕ) (part : Role) → IsIn parts j part
+      → (part ≡ of_worker view log)
+      ⊎ ((part ≡ other) ⊎ ((segment : ℕ) × (part ≡ of_segment segment)))
 
 -- the worker's part after a call has this view, and the call in its log; seats of segments stay,
--- and the other part has this role then
-abbrev pub called_by_both : View → Role → Call → Role → List Call → RolePart
-called_by_both after left call (of_worker view) log = mine after (log ++ call ∷ [])
-called_by_both after left call (of_segment segment) log =
-    record { role = of_segment segment; log = log }
-called_by_both after left call role log = record { role = left; log = log }
-
-abbrev pub both_called : View → Role → Call → RolePart → RolePart
-both_called after left call part = called_by_both after left call part.role part.log
+-- and the other part is this one then
+abbrev pub both_called : View → Role → Call → Role → Role
+both_called after left call (of_worker view log) = of_worker after (log ++ call ∷ [])
+both_called after left call (of_segment segment) = of_segment segment
+both_called after left call role = left
 
 -- the places of a list, home in their generations
 abbrev pub come_home : View → List ℕ → View
@@ -55,9 +50,9 @@ emptied view = record view { hand = None; hand_generation = 0 }
 -- a Take of a segment that the worker holds: all places of its list come home, and are counted
 abbrev pub TakesDecide : Type 0
 TakesDecide =
-    (policy : Policy) (words : List ℕ) (parts : List RolePart) (log given : List Call)
+    (policy : Policy) (words : List ℕ) (parts : List Role) (log : List Call)
     (before : View) (segment : ℕ) (sent : List ℕ)
-    → IsSeatWith before log (record { role = of_remote segment sent; log = given }) parts
+    → IsSeatWith before log (of_remote segment sent) parts
     → before.worker < policy.workers → before.holds segment ≡ true
     → Decides (running policy)
     ((before.worker, (event.Take segment, answer.Taken (length sent))) ∷ []) words words parts
@@ -67,9 +62,9 @@ TakesDecide =
 -- a Deliver of what is in hand, to the list of its segment: it stands there then
 abbrev pub DeliversDecide : Type 0
 DeliversDecide =
-    (policy : Policy) (words : List ℕ) (parts : List RolePart) (log given : List Call)
+    (policy : Policy) (words : List ℕ) (parts : List Role) (log : List Call)
     (before : View) (segment place : ℕ) (sent : List ℕ)
-    → IsSeatWith before log (record { role = of_remote segment sent; log = given }) parts
+    → IsSeatWith before log (of_remote segment sent) parts
     → before.worker < policy.workers → before.hand ≡ Some place → segment_of place ≡ segment
     → Decides (running policy) ((before.worker, (event.Deliver, answer.Done)) ∷ []) words words
     parts

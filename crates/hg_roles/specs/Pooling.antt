@@ -11,7 +11,7 @@ use Rattle.hg_machine.specs.Policy.{Policy, arena_of}
 use Rattle.hg_machine.specs.Holders.{is_number}
 use Rattle.hg_agreement.specs.Views.{View}
 use Rattle.hg_history.specs.Steps.{Decides}
-use Rattle.hg_roles.specs.Roles.{Call, Pooled, of_pool, RolePart}
+use Rattle.hg_roles.specs.Roles.{Call, Pooled, Role, of_pool}
 use Rattle.hg_roles.specs.Served.{running}
 use Rattle.hg_roles.specs.Joined.{IsSeatWith, both_called}
 
@@ -55,9 +55,9 @@ without p segment = record p {
 -- an Abandon of a segment that the worker holds
 abbrev pub AbandonsDecide : Type 0
 AbandonsDecide =
-    (policy : Policy) (words : List ℕ) (parts : List RolePart) (log given : List Call)
+    (policy : Policy) (words : List ℕ) (parts : List Role) (log : List Call)
     (before : View) (p : Pooled) (segment : ℕ)
-    → IsSeatWith before log (record { role = of_pool p; log = given }) parts
+    → IsSeatWith before log (of_pool p) parts
     → before.worker < policy.workers → before.holds segment ≡ true
     → Decides (running policy)
     ((before.worker, (event.Abandon segment, answer.Done)) ∷ []) words words parts
@@ -67,9 +67,9 @@ AbandonsDecide =
 -- a Refill that finds a segment
 abbrev pub RefillsDecide : Type 0
 RefillsDecide =
-    (policy : Policy) (words : List ℕ) (parts : List RolePart) (log given : List Call)
+    (policy : Policy) (words : List ℕ) (parts : List Role) (log : List Call)
     (before : View) (p : Pooled) (arena segment : ℕ)
-    → IsSeatWith before log (record { role = of_pool p; log = given }) parts
+    → IsSeatWith before log (of_pool p) parts
     → before.worker < policy.workers → next_in policy arena p ≡ Some segment
     → Decides (running policy)
     ((before.worker, (event.Refill arena, answer.Refilled segment)) ∷ []) words words parts
@@ -79,9 +79,9 @@ RefillsDecide =
 -- and one that finds none, which changes nothing
 abbrev pub EmptyRefillsDecide : Type 0
 EmptyRefillsDecide =
-    (policy : Policy) (words : List ℕ) (parts : List RolePart) (log given : List Call)
+    (policy : Policy) (words : List ℕ) (parts : List Role) (log : List Call)
     (before : View) (p : Pooled) (arena : ℕ)
-    → IsSeatWith before log (record { role = of_pool p; log = given }) parts
+    → IsSeatWith before log (of_pool p) parts
     → before.worker < policy.workers → next_in policy arena p ≡ None
     → Decides (running policy)
     ((before.worker, (event.Refill arena, answer.NoSegment)) ∷ []) words words parts

@@ -1,5 +1,6 @@
 -- What the seats of a running service have for the run of all calls, by role.
-use Rattle.std.specs.Prelude.{◌≡◌, ℕ, ◌+◌, ◌==◌, Bool, true, List, length, Option, None, count_by}
+use Rattle.std.specs.Prelude.{◌≡◌, ℕ, ◌+◌, ◌==◌, Bool, true, List, [], length, Option, None}
+use Rattle.std.specs.Prelude.{count_by}
 use Rattle.hg_place.specs.Places.{segment_of, segment_of_page}
 use Rattle.hg_place.specs.Words.{bit_of}
 use Rattle.hg_place.specs.declared.standing.Standing.{Standing}
@@ -23,22 +24,23 @@ pub record Pooled : Type 0 where
   pub standing : ℕ → Standing
   pub block : ℕ → List ℕ
 
--- a worker, with what it has; the remote list of a segment, with the places that are sent to it;
--- the pool; and the seat of a segment, which has nothing of the machine's state by itself
-pub data Role : Type 0 where
-  of_worker : View → Role
-  of_remote : ℕ → List ℕ → Role
-  of_pool : Pooled → Role
-  of_segment : ℕ → Role
-
 -- a call: its event, and its answer
 abbrev pub Call : Type 0
 Call = Event × Answer
 
--- a part of a seat's view: its role, and its calls so far, in their order
-pub record RolePart : Type 0 where
-  pub role : Role
-  pub log : List Call
+-- A part of a seat's view: a worker, with what it has and its calls so far, in their order; the
+-- remote list of a segment, with the places that are sent to it; the pool; or the seat of a
+-- segment, which has nothing of the machine's state by itself
+pub data Role : Type 0 where
+  of_worker : View → List Call → Role
+  of_remote : ℕ → List ℕ → Role
+  of_pool : Pooled → Role
+  of_segment : ℕ → Role
+
+-- what a part has logged: workers alone make calls
+abbrev pub calls_in : Role → List Call
+calls_in (of_worker view log) = log
+calls_in role = []
 
 -- each place that is sent to the segment stands once in the list, and no other does
 abbrev pub RemoteAgrees : State → ℕ → List ℕ → Type 0
@@ -61,14 +63,14 @@ pub record PoolAgrees (m : State) (p : Pooled) : Type 0 where
 
 -- the state agrees with what has this role
 abbrev pub RoleAgrees : Role → State → Type 0
-RoleAgrees (of_worker view) m = Agrees m view None
+RoleAgrees (of_worker view log) m = Agrees m view None
 RoleAgrees (of_remote segment sent) m = RemoteAgrees m segment sent
 RoleAgrees (of_pool pooled) m = PoolAgrees m pooled
 RoleAgrees (of_segment segment) m = Unit {0}
 
 -- each role is of another name: the workers' numbers come first
 abbrev pub name_of : Policy → Role → ℕ
-name_of policy (of_worker view) = view.worker
+name_of policy (of_worker view log) = view.worker
 name_of policy (of_remote segment sent) = policy.workers + segment
 name_of policy (of_pool pooled) = policy.workers + length policy.segments
 name_of policy (of_segment segment) = policy.workers + length policy.segments + 1 + segment

@@ -7,7 +7,7 @@ use Rattle.hg_machine.specs.Shown.{IsShownBy}
 use Rattle.hg_machine.specs.Soundness.{IsSound}
 use Rattle.hg_machine.specs.Steps.{Step}
 use Rattle.hg_history.specs.Service.{Service}
-use Rattle.hg_roles.specs.Roles.{Call, RolePart, RoleAgrees, name_of}
+use Rattle.hg_roles.specs.Roles.{Call, Role, RoleAgrees, name_of, calls_in}
 
 abbrev pub places_of_policy : Policy → ℕ
 places_of_policy policy = length policy.segments * SEGMENT_PLACES
@@ -23,13 +23,13 @@ pub record WordsShow (policy : Policy) (words : List ℕ) (m : State) : Type 0 w
       → IsShownBy (record_at m place) (slice_index words (place + 1))
 
 -- workers, remote lists, the pool and the seats of segments, over the words of a table
-abbrev pub running : Policy → Service State Call (List ℕ) RolePart
+abbrev pub running : Policy → Service State Call (List ℕ) Role
 running policy = record {
   Steps = λ old who call new. Step old who call.0 call.1 new;
   start = opening policy;
   Shows = WordsShow policy;
-  Agrees = λ part m. RoleAgrees part.role m;
+  Agrees = RoleAgrees;
   count = policy.workers + length policy.segments + 1 + length policy.segments;
-  name = λ part. name_of policy part.role;
-  log = λ part. part.log;
+  name = name_of policy;
+  log = calls_in;
 }

@@ -5,7 +5,7 @@
 ghost use Rattle.hg_roles.specs.Beginning.{OpenedIsNew};
 ghost use Rattle.hg_roles.specs.Deciding.{TiesDecide, PrivateCallsDecide, RefusalsDecide};
 ghost use Rattle.hg_roles.specs.FirstParts.{FirstPartsAreThere};
-ghost use Rattle.hg_roles.specs.Histories.{PartsKeepOneRun, HistoriesAreRuns};
+ghost use Rattle.hg_roles.specs.Histories.{PartsKeepOneRun, HistoriesAreRuns, EndsAreRuns};
 ghost use Rattle.hg_roles.specs.Joined.{TakesDecide, DeliversDecide};
 ghost use Rattle.hg_roles.specs.Names.{NamesAreApart};
 ghost use Rattle.hg_roles.specs.Pooling.{AbandonsDecide, RefillsDecide, EmptyRefillsDecide};
@@ -73,4 +73,9 @@ pub fn empty_refills_decide()
 /// A history of the service is a run of the machine.
 pub fn histories_are_runs()
     ensures { HistoriesAreRuns }
+{}
+
+/// Who has all parts of a service knows one run of the machine, of all calls of its workers.
+pub fn ends_are_runs()
+    ensures { EndsAreRuns }
 {}
