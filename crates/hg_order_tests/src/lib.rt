@@ -1,4 +1,4 @@
-//! The search for orders beside an older form of it.
+//! What the search for orders finds.
 #![tactic(auto)]
 
 #[cfg(test)]

@@ -1,15 +1,14 @@
 mod alike;
 mod alike_segments;
 mod altered;
-mod both;
 mod counted;
 mod drawn;
 mod events;
+mod found;
 mod homes;
 mod lacking;
 mod limits;
 mod numbers;
-mod old;
 mod orphans;
 mod policies;
 mod racers;

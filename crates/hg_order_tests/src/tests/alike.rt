@@ -1,4 +1,4 @@
-//! Logs about blocks, drawn from seeds, and what both forms of the search find for each.
+//! Logs about blocks, drawn from seeds, and what the search finds for each.
 
 use crate::tests::altered::{ALL, Way};
 use crate::tests::counted::{Draws, are_alike};
@@ -23,6 +23,7 @@ fn crowds_are_alike(rt: HostRuntime) {
         refill: 280,
         abandon: 30,
         take: 10,
+        mark: 0xea47_20e9_a0e4_b146,
         ..NONE
     };
     are_alike(&rt, rt.alloc(), CROWD, draws, &ways, least);
@@ -46,6 +47,7 @@ fn altered_crowds_are_alike(rt: HostRuntime) {
         refill: 220,
         abandon: 10,
         take: 5,
+        mark: 0xba6e_f363_6fe8_53f4,
         ..NONE
     };
     are_alike(&rt, rt.alloc(), CROWD, draws, &ways, least);
@@ -76,6 +78,7 @@ fn worn_places_are_alike(rt: HostRuntime) {
         abandon: 20,
         take: 12,
         segment_lacking: 80,
+        mark: 0x6714_db87_3c2e_a369,
         ..NONE
     };
     are_alike(&rt, rt.alloc(), WORN, draws, &ways, least);
@@ -106,6 +109,7 @@ fn pairs_are_alike(rt: HostRuntime) {
         abandon: 14,
         take: 4,
         segment_lacking: 110,
+        mark: 0xc7be_a04b_7bc5_de2f,
         ..NONE
     };
     are_alike(&rt, rt.alloc(), PAIR, draws, &ways, least);
@@ -129,6 +133,7 @@ fn lone_workers_are_alike(rt: HostRuntime) {
         refill: 140,
         abandon: 12,
         segment_lacking: 25,
+        mark: 0x1790_3a35_038b_7199,
         ..NONE
     };
     are_alike(&rt, rt.alloc(), LONE, draws, &ways, least);
@@ -150,6 +155,7 @@ fn wide_places_are_alike(rt: HostRuntime) {
         refill: 65,
         abandon: 15,
         wide: 55,
+        mark: 0x1023_1991_d3f6_38a9,
         ..NONE
     };
     are_alike(&rt, rt.alloc(), WIDE, draws, &ALL, least);

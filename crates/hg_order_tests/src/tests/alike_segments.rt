@@ -25,6 +25,7 @@ fn segments_are_alike(rt: HostRuntime) {
         take: 2,
         lower: 70,
         higher: 60,
+        mark: 0x8db6_a758_c834_9df3,
         ..NONE
     };
     are_alike(&rt, rt.alloc(), CROWD, draws, &ALL, least);
@@ -49,6 +50,7 @@ fn sent_blocks_are_alike(rt: HostRuntime) {
         take: 100,
         lower: 30,
         higher: 30,
+        mark: 0x638d_21f9_1b00_df2b,
         ..NONE
     };
     are_alike(&rt, rt.alloc(), CROWD, draws, &ALL, least);
@@ -74,6 +76,7 @@ fn strange_events_are_alike(rt: HostRuntime) {
         alloc_lacking: 480,
         segment_lacking: 570,
         place_lacking: 600,
+        mark: 0x8919_a33e_d101_eb65,
         ..NONE
     };
     are_alike(&rt, rt.alloc(), CROWD, draws, &ALL, least);
@@ -97,6 +100,7 @@ fn strange_events_of_bare_policies_are_alike(rt: HostRuntime) {
         alloc_lacking: 620,
         segment_lacking: 520,
         place_lacking: 560,
+        mark: 0x1c48_bd71_3c46_2e0b,
         ..NONE
     };
     are_alike(&rt, rt.alloc(), BARE, draws, &ALL, least);
@@ -117,6 +121,7 @@ fn full_policies_are_alike(rt: HostRuntime) {
         fronts: 6,
         refill: 20,
         abandon: 6,
+        mark: 0x04a2_5ee2_e9ec_7265,
         ..NONE
     };
     are_alike(&rt, rt.alloc(), FULL, draws, &ALL, least);

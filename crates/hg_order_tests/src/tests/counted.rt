@@ -1,9 +1,9 @@
 //! Logs that are drawn, altered and counted.
 
 use crate::tests::altered::{Way, altered};
-use crate::tests::both::both;
 use crate::tests::drawn::{Shelf, by_worker};
 use crate::tests::events::Kind;
+use crate::tests::found::ended;
 use crate::tests::numbers::Numbers;
 use crate::tests::situations::situations_in;
 use crate::tests::tally::{NONE, Tally};
@@ -53,12 +53,12 @@ fn count(
     if way != Way::Not {
         calls = altered(alloc, &calls, way, numbers)?;
     }
-    let end = both(alloc, policy, &calls)?;
+    let end = ended(alloc, policy, &calls)?;
     tally.add(end, way != Way::Not, found);
     Ok(())
 }
 
-/// Counts logs; the first for which both forms don't find the same is the last.
+/// Counts logs.
 fn tallied(
     alloc: Global,
     policy: &Policy,
@@ -70,15 +70,12 @@ fn tallied(
     for _ in 0..draws.many {
         for way in ways {
             count(alloc, policy, draws, *way, (&mut numbers, &mut tally))?;
-            if tally.other != 0 {
-                return Ok(tally);
-            }
         }
     }
     Ok(tally)
 }
 
-/// Both find the same for logs under a policy, and each end and situation comes up so often.
+/// What is found for logs under a policy has this mark, and each end and situation comes up so often.
 pub fn are_alike<R: Abort>(
     rt: &R,
     alloc: Global,

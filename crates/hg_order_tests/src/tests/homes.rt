@@ -1,7 +1,7 @@
 //! Logs in which two workers send blocks to a segment each. What was sent to one segment says
 //! nothing of the other, so the search comes to few states, in however many orders they send.
 
-use crate::tests::both::{End, both};
+use crate::tests::found::{End, end};
 use crate::tests::policies::SENDERS;
 use crate::tests::script::Script;
 use hg_machine::{Answer, Event};
@@ -28,15 +28,15 @@ fn send_home(script: &mut Script, home: u8, sender: u8) -> Result<(), AllocError
     script.call(home, Event::Take { segment: home })
 }
 
-/// How both end for workers 2 and 3 that send to the segments of workers 0 and 1, where worker 0
+/// How the search ends for workers 2 and 3 that send to the segments of workers 0 and 1, where worker 0
 /// then says that it was given no block, which it was.
-fn refuted(alloc: Global, policy: &Policy) -> Result<Option<End>, AllocError> {
+fn refuted(alloc: Global, policy: &Policy) -> Result<End, AllocError> {
     let mut script = Script::new(alloc, policy)?;
     send_home(&mut script, 0, 2)?;
     send_home(&mut script, 1, 3)?;
     let _: Option<Handle> = script.alloc(0, BYTES)?;
     script.alter(Answer::NoRoom);
-    both(alloc, policy, script.calls())
+    end(alloc, policy, script.calls())
 }
 
 /// The shortest front that no order comes past has all calls of worker 0.
@@ -48,5 +48,5 @@ fn segments_are_told_apart(rt: HostRuntime) {
     };
     let found = refuted(rt.alloc(), &policy);
     drop(policy);
-    assert_eq!(&rt; found, Ok(Some(End::Front(BLOCKS as usize + 3))));
+    assert_eq!(&rt; found, Ok(End::Front(BLOCKS as usize + 3)));
 }

@@ -1,6 +1,6 @@
 //! Logs of one call that names what the policy lacks: an arena, a segment, a place or the worker.
 
-use crate::tests::both::{End, both};
+use crate::tests::found::{End, end};
 use crate::tests::policies::CROWD;
 use crate::tests::script::Script;
 use hg_machine::{Answer, Event};
@@ -82,36 +82,36 @@ fn wrong_answers() -> [Answer; 6] {
     ]
 }
 
-/// How both end for a call that is answered as a core answers it.
-fn right(alloc: Global, policy: &Policy, event: Event) -> Result<Option<End>, AllocError> {
+/// How the search ends for a call that is answered as a core answers it.
+fn right(alloc: Global, policy: &Policy, event: Event) -> Result<End, AllocError> {
     let mut script = Script::new(alloc, policy)?;
     script.call(1, event)?;
-    both(alloc, policy, script.calls())
+    end(alloc, policy, script.calls())
 }
 
-/// How both end for a call of a worker that is answered so.
+/// How the search ends for a call of a worker that is answered so.
 fn said(
     alloc: Global,
     policy: &Policy,
     worker: u8,
     (event, answer): (Event, Answer),
-) -> Result<Option<End>, AllocError> {
+) -> Result<End, AllocError> {
     let mut script = Script::new(alloc, policy)?;
     script.say(worker, event, answer)?;
-    both(alloc, policy, script.calls())
+    end(alloc, policy, script.calls())
 }
 
 /// The right answer has an order, and no wrong one has; a worker that the policy lacks has neither.
 fn case<R: Abort>(rt: &R, alloc: Global, policy: &Policy, event: Event) {
     let found = right(alloc, policy, event);
-    assert_eq!(rt; found, Ok(Some(End::Order)), "{event:?}");
+    assert_eq!(rt; found, Ok(End::Order), "{event:?}");
     for answer in wrong_answers() {
         let call = (event, answer);
         let found = said(alloc, policy, 1, call);
-        assert_eq!(rt; found, Ok(Some(End::Front(1))), "{call:?}");
+        assert_eq!(rt; found, Ok(End::Front(1)), "{call:?}");
         for worker in [4, 255] {
             let found = said(alloc, policy, worker, call);
-            assert_eq!(rt; found, Ok(Some(End::GivenUp)), "{call:?} of {worker}");
+            assert_eq!(rt; found, Ok(End::GivenUp), "{call:?} of {worker}");
         }
     }
 }

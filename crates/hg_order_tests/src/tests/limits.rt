@@ -1,6 +1,6 @@
 //! Logs at the limits of the search: half a million tries, and a million fronts.
 
-use crate::tests::both::End;
+use crate::tests::found::End;
 use crate::tests::policies::{RACERS, SENDERS};
 use crate::tests::racers::{Stuck, raced};
 use crate::tests::senders::{Sending, sent};
@@ -19,7 +19,7 @@ const TWO: Sending = Sending {
     fits: true,
 };
 
-/// Both end so for a log of senders.
+/// The search ends so for a log of senders.
 fn senders_end<R: Abort>(rt: &R, alloc: Global, sending: Sending, end: End) {
     let Ok(policy) = read_policy(alloc, SENDERS.as_bytes()) else {
         assert!(rt; false, "the policy is read");
@@ -27,10 +27,10 @@ fn senders_end<R: Abort>(rt: &R, alloc: Global, sending: Sending, end: End) {
     };
     let found = sent(alloc, &policy, sending);
     drop(policy);
-    assert_eq!(rt; found, Ok(Some(end)));
+    assert_eq!(rt; found, Ok(end));
 }
 
-/// Both end so for a log of racers.
+/// The search ends so for a log of racers.
 fn racers_end<R: Abort>(rt: &R, alloc: Global, stuck: Stuck, end: End) {
     let Ok(policy) = read_policy(alloc, RACERS.as_bytes()) else {
         assert!(rt; false, "the policy is read");
@@ -38,7 +38,7 @@ fn racers_end<R: Abort>(rt: &R, alloc: Global, stuck: Stuck, end: End) {
     };
     let found = raced(alloc, &policy, stuck);
     drop(policy);
-    assert_eq!(rt; found, Ok(Some(end)));
+    assert_eq!(rt; found, Ok(end));
 }
 
 /// One call more that changes nothing is one try more: with it the limit is reached at the choice

@@ -1,6 +1,6 @@
 //! Two orphans of one arena at once: a worker gives back two segments, and two others take them.
 
-use crate::tests::both::{End, both};
+use crate::tests::found::{End, end};
 use crate::tests::policies::CROWD;
 use crate::tests::script::Script;
 use hg_machine::{Answer, Event};
@@ -12,12 +12,7 @@ const REFILL: Event = Event::Refill { arena: 0 };
 
 /// Worker 0 gives back both segments, this one and then the other one, workers 1 and 2 say that
 /// they were given these, and worker 3 that it was given the third, which was never held.
-fn orphans(
-    alloc: Global,
-    policy: &Policy,
-    first: u8,
-    given: (u8, u8),
-) -> Result<Option<End>, AllocError> {
+fn orphans(alloc: Global, policy: &Policy, first: u8, given: (u8, u8)) -> Result<End, AllocError> {
     let mut script = Script::new(alloc, policy)?;
     script.repeat(0, REFILL, 2)?;
     script.call(0, Event::Abandon { segment: first })?;
@@ -25,10 +20,10 @@ fn orphans(
     script.say(1, REFILL, Answer::Refilled(given.0))?;
     script.say(2, REFILL, Answer::Refilled(given.1))?;
     script.say(3, REFILL, Answer::Refilled(2))?;
-    both(alloc, policy, script.calls())
+    end(alloc, policy, script.calls())
 }
 
-/// How both end, by what workers 1 and 2 say: there is an order where they took one each.
+/// How the search ends, by what workers 1 and 2 say: there is an order where they took one each.
 static CASES: [((u8, u8), End); 7] = [
     ((0, 1), End::Order),
     ((1, 0), End::Order),
@@ -39,11 +34,11 @@ static CASES: [((u8, u8), End); 7] = [
     ((3, 0), End::Front(1)),
 ];
 
-/// Both end so for what workers 1 and 2 say, in whatever order the segments were given back.
+/// The search ends so for what workers 1 and 2 say, in whatever order the segments were given back.
 fn case<R: Abort>(rt: &R, alloc: Global, policy: &Policy, given: (u8, u8), end: End) {
     for first in 0..2u8 {
         let found = orphans(alloc, policy, first, given);
-        assert_eq!(rt; found, Ok(Some(end)), "{given:?}, {first} first");
+        assert_eq!(rt; found, Ok(end), "{given:?}, {first} first");
     }
 }
 

@@ -2,7 +2,7 @@
 //! second is stuck. The first of a pair is there at once, the second late. So there are 256 fronts
 //! that can't be passed, and very many fronts that are past some of them.
 
-use crate::tests::both::{End, both};
+use crate::tests::found::{End, end};
 use crate::tests::script::Script;
 use hg_machine::{Answer, Event};
 use hg_place::{Actor, Handle};
@@ -67,8 +67,8 @@ fn racers(alloc: Global, policy: &Policy, stuck: Stuck) -> Result<Script, AllocE
     Ok(script)
 }
 
-/// How both forms of the search end for a log.
-pub fn raced(alloc: Global, policy: &Policy, stuck: Stuck) -> Result<Option<End>, AllocError> {
+/// How the search ends for a log.
+pub fn raced(alloc: Global, policy: &Policy, stuck: Stuck) -> Result<End, AllocError> {
     let script = racers(alloc, policy, stuck)?;
-    both(alloc, policy, script.calls())
+    end(alloc, policy, script.calls())
 }

@@ -1,6 +1,6 @@
 //! How often each end and each situation came up among logs.
 
-use crate::tests::both::End;
+use crate::tests::found::{End, FIRST_MARK, marked};
 use crate::tests::situations::Situations;
 
 /// Counts of logs.
@@ -8,8 +8,6 @@ use crate::tests::situations::Situations;
 pub struct Tally {
     /// Logs that were tried.
     pub logs: u64,
-    /// Those for which both forms found something else.
-    pub other: u64,
     /// Those that weren't altered, and for which no order was found.
     pub missed: u64,
     /// Those with an order, and how many of these were altered.
@@ -31,12 +29,13 @@ pub struct Tally {
     pub place_lacking: u64,
     /// Both a place that is near and one that is far.
     pub wide: u64,
+    /// What was found for all of them, one after the other.
+    pub mark: u64,
 }
 
 /// No log.
 pub const NONE: Tally = Tally {
     logs: 0,
-    other: 0,
     missed: 0,
     orders: 0,
     altered_orders: 0,
@@ -53,6 +52,7 @@ pub const NONE: Tally = Tally {
     segment_lacking: 0,
     place_lacking: 0,
     wide: 0,
+    mark: FIRST_MARK,
 };
 
 /// One more, if it is so.
@@ -63,17 +63,18 @@ fn one_more(count: &mut u64, is_so: bool) {
 }
 
 impl Tally {
-    /// Counts how both ended for a log, made from one in which this came up.
-    pub fn add(&mut self, end: Option<End>, is_altered: bool, found: Situations) {
+    /// Counts how the search ended for a log, made from one in which this came up, and what it
+    /// found, by its mark.
+    pub fn add(&mut self, (end, mark): (End, u64), is_altered: bool, found: Situations) {
+        self.mark = marked(self.mark, mark);
         one_more(&mut self.logs, true);
-        one_more(&mut self.other, end.is_none());
-        let is_order = end == Some(End::Order);
+        let is_order = end == End::Order;
         one_more(&mut self.missed, !is_order && !is_altered);
         one_more(&mut self.orders, is_order);
         one_more(&mut self.altered_orders, is_order && is_altered);
-        one_more(&mut self.fronts, matches!(end, Some(End::Front(_))));
-        one_more(&mut self.no_fronts, end == Some(End::NoFront));
-        one_more(&mut self.given_up, end == Some(End::GivenUp));
+        one_more(&mut self.fronts, matches!(end, End::Front(_)));
+        one_more(&mut self.no_fronts, end == End::NoFront);
+        one_more(&mut self.given_up, end == End::GivenUp);
         self.add_situations(found);
     }
 
@@ -114,10 +115,10 @@ impl Tally {
             && self.wide >= least.wide
     }
 
-    /// Whether both forms always found the same, and an order where there is one, and each end and
-    /// situation came up as often as in another one.
+    /// Whether the same was found as in another one, and an order where there is one, and each end
+    /// and situation came up as often.
     pub fn has(&self, least: &Tally) -> bool {
-        let is_right = self.other == 0 && self.missed == 0;
+        let is_right = self.mark == least.mark && self.missed == 0;
         is_right && self.has_ends(least) && self.has_situations(least)
     }
 }

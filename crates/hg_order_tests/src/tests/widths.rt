@@ -1,6 +1,6 @@
 //! Logs of no call and of one, and logs in which many workers send to one segment.
 
-use crate::tests::both::{End, both};
+use crate::tests::found::{End, end};
 use crate::tests::policies::{BARE, FULL, LONE, SENDERS};
 use crate::tests::senders::{Sending, sent};
 use hg_calls::Call;
@@ -8,17 +8,17 @@ use hg_machine::{Answer, Event};
 use hg_policy::{Policy, read_policy};
 use std::alloc::{AllocError, Global};
 
-/// How both end for a log of no call, and for logs of one: a deliver, answered so.
-fn short(alloc: Global, policy: &Policy) -> Result<[Option<End>; 3], AllocError> {
+/// How the search ends for a log of no call, and for logs of one: a deliver, answered so.
+fn short(alloc: Global, policy: &Policy) -> Result<[End; 3], AllocError> {
     let call = |answer| Call {
         worker: 0,
         event: Event::Deliver,
         answer,
     };
     Ok([
-        both(alloc, policy, &[])?,
-        both(alloc, policy, &[call(Answer::NothingInHand)])?,
-        both(alloc, policy, &[call(Answer::Done)])?,
+        end(alloc, policy, &[])?,
+        end(alloc, policy, &[call(Answer::NothingInHand)])?,
+        end(alloc, policy, &[call(Answer::Done)])?,
     ])
 }
 
@@ -31,7 +31,7 @@ fn short_logs_are_alike(rt: HostRuntime) {
         };
         let found = short(rt.alloc(), &policy);
         drop(policy);
-        let ends = [Some(End::Order), Some(End::Order), Some(End::Front(1))];
+        let ends = [End::Order, End::Order, End::Front(1)];
         assert_eq!(&rt; found, Ok(ends));
     }
 }
@@ -56,6 +56,6 @@ fn many_senders_are_alike(rt: HostRuntime) {
     let found = sent(rt.alloc(), &policy, SIX);
     let refuted = sent(rt.alloc(), &policy, Sending { fits: false, ..SIX });
     drop(policy);
-    assert_eq!(&rt; found, Ok(Some(End::Order)));
-    assert_eq!(&rt; refuted, Ok(Some(End::Front(1))));
+    assert_eq!(&rt; found, Ok(End::Order));
+    assert_eq!(&rt; refuted, Ok(End::Front(1)));
 }
