@@ -72,6 +72,6 @@ pub fn ended(alloc: Global, policy: &Policy, calls: &[Call]) -> Result<(End, u64
 }
 
 /// How the search ended for these calls.
-pub fn end(alloc: Global, policy: &Policy, calls: &[Call]) -> Result<End, AllocError> {
+pub fn search_end(alloc: Global, policy: &Policy, calls: &[Call]) -> Result<End, AllocError> {
     Ok(ended(alloc, policy, calls)?.0)
 }

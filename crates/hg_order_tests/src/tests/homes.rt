@@ -1,7 +1,7 @@
 //! Logs in which two workers send blocks to a segment each. What was sent to one segment says
 //! nothing of the other, so the search comes to few states, in however many orders they send.
 
-use crate::tests::found::{End, end};
+use crate::tests::found::{End, search_end};
 use crate::tests::policies::SENDERS;
 use crate::tests::script::Script;
 use hg_machine::{Answer, Event};
@@ -36,7 +36,7 @@ fn refuted(alloc: Global, policy: &Policy) -> Result<End, AllocError> {
     send_home(&mut script, 1, 3)?;
     let _: Option<Handle> = script.alloc(0, BYTES)?;
     script.alter(Answer::NoRoom);
-    end(alloc, policy, script.calls())
+    search_end(alloc, policy, script.calls())
 }
 
 /// The shortest front that no order comes past has all calls of worker 0.

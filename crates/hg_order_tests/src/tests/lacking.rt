@@ -1,6 +1,6 @@
 //! Logs of one call that names what the policy lacks: an arena, a segment, a place or the worker.
 
-use crate::tests::found::{End, end};
+use crate::tests::found::{End, search_end};
 use crate::tests::policies::CROWD;
 use crate::tests::script::Script;
 use hg_machine::{Answer, Event};
@@ -86,7 +86,7 @@ fn wrong_answers() -> [Answer; 6] {
 fn right(alloc: Global, policy: &Policy, event: Event) -> Result<End, AllocError> {
     let mut script = Script::new(alloc, policy)?;
     script.call(1, event)?;
-    end(alloc, policy, script.calls())
+    search_end(alloc, policy, script.calls())
 }
 
 /// How the search ends for a call of a worker that is answered so.
@@ -98,7 +98,7 @@ fn said(
 ) -> Result<End, AllocError> {
     let mut script = Script::new(alloc, policy)?;
     script.say(worker, event, answer)?;
-    end(alloc, policy, script.calls())
+    search_end(alloc, policy, script.calls())
 }
 
 /// The right answer has an order, and no wrong one has; a worker that the policy lacks has neither.

@@ -1,6 +1,6 @@
 //! Two orphans of one arena at once: a worker gives back two segments, and two others take them.
 
-use crate::tests::found::{End, end};
+use crate::tests::found::{End, search_end};
 use crate::tests::policies::CROWD;
 use crate::tests::script::Script;
 use hg_machine::{Answer, Event};
@@ -20,7 +20,7 @@ fn orphans(alloc: Global, policy: &Policy, first: u8, given: (u8, u8)) -> Result
     script.say(1, REFILL, Answer::Refilled(given.0))?;
     script.say(2, REFILL, Answer::Refilled(given.1))?;
     script.say(3, REFILL, Answer::Refilled(2))?;
-    end(alloc, policy, script.calls())
+    search_end(alloc, policy, script.calls())
 }
 
 /// How the search ends, by what workers 1 and 2 say: there is an order where they took one each.

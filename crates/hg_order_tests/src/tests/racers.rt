@@ -2,7 +2,7 @@
 //! second is stuck. The first of a pair is there at once, the second late. So there are 256 fronts
 //! that can't be passed, and very many fronts that are past some of them.
 
-use crate::tests::found::{End, end};
+use crate::tests::found::{End, search_end};
 use crate::tests::script::Script;
 use hg_machine::{Answer, Event};
 use hg_place::{Actor, Handle};
@@ -70,5 +70,5 @@ fn racers(alloc: Global, policy: &Policy, stuck: Stuck) -> Result<Script, AllocE
 /// How the search ends for a log.
 pub fn raced(alloc: Global, policy: &Policy, stuck: Stuck) -> Result<End, AllocError> {
     let script = racers(alloc, policy, stuck)?;
-    end(alloc, policy, script.calls())
+    search_end(alloc, policy, script.calls())
 }

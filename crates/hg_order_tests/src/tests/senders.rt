@@ -1,7 +1,7 @@
 //! Logs with very many orders: workers send blocks to another one, and only what that one is given
 //! behind them tells in which order they did.
 
-use crate::tests::found::{End, end};
+use crate::tests::found::{End, search_end};
 use crate::tests::script::Script;
 use hg_machine::{Answer, Event};
 use hg_place::{Actor, Handle};
@@ -127,5 +127,5 @@ fn senders(alloc: Global, policy: &Policy, sending: Sending) -> Result<Script, A
 /// How the search ends for a log.
 pub fn sent(alloc: Global, policy: &Policy, sending: Sending) -> Result<End, AllocError> {
     let script = senders(alloc, policy, sending)?;
-    end(alloc, policy, script.calls())
+    search_end(alloc, policy, script.calls())
 }

@@ -1,6 +1,6 @@
 //! Logs of no call and of one, and logs in which many workers send to one segment.
 
-use crate::tests::found::{End, end};
+use crate::tests::found::{End, search_end};
 use crate::tests::policies::{BARE, FULL, LONE, SENDERS};
 use crate::tests::senders::{Sending, sent};
 use hg_calls::Call;
@@ -16,9 +16,9 @@ fn short(alloc: Global, policy: &Policy) -> Result<[End; 3], AllocError> {
         answer,
     };
     Ok([
-        end(alloc, policy, &[])?,
-        end(alloc, policy, &[call(Answer::NothingInHand)])?,
-        end(alloc, policy, &[call(Answer::Done)])?,
+        search_end(alloc, policy, &[])?,
+        search_end(alloc, policy, &[call(Answer::NothingInHand)])?,
+        search_end(alloc, policy, &[call(Answer::Done)])?,
     ])
 }
 
