@@ -2,10 +2,10 @@
 
 ghost use Rattle.std.specs.Prelude.{None, false};
 
+use crate::narrow::Narrow;
 use hg_program::{Host, program};
 use hg_replay::{ReadFault, Status, read_limited};
 use std::alloc::Global;
-use std::io;
 use std::io::Write;
 use std::process::Abort;
 use std::sync::Wait;
@@ -272,24 +272,6 @@ fn a_test_has_a_trace(rt: HostRuntime) {
     assert!(&rt; status == Status::BadLine);
     assert!(&rt; out.len() == 0);
     assert!(&rt; err.as_slice().starts_with(b"error: "));
-}
-
-/// A writer that takes so many bytes, and then nothing.
-#[derive(Drop)]
-struct Narrow {
-    left: usize,
-}
-
-impl Write for Narrow {
-    fn write(&mut self, buf: &[u8]) -> io::Result<usize> {
-        let taken = self.left.min(buf.len());
-        self.left -= taken;
-        Ok(taken)
-    }
-
-    fn flush(&mut self) -> io::Result<()> {
-        Ok(())
-    }
 }
 
 /// A write that stops is a fault, wherever it stops, and whether lines differ or not.

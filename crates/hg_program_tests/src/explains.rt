@@ -2,11 +2,11 @@
 
 ghost use Rattle.std.specs.Prelude.{None, true, false};
 
-use hg_program::{Host, program};
+use crate::files::{ended, ends};
+use crate::narrow::Narrow;
+use hg_program::Host;
 use hg_replay::{ReadFault, Status, read_limited};
 use std::alloc::Global;
-use std::io;
-use std::io::Write;
 use std::process::Abort;
 use std::sync::Wait;
 use std::thread::Threads;
@@ -89,36 +89,6 @@ impl Host for Files {
 }
 
 const PIPED: Files = Files { is_terminal: false };
-
-/// How the program ends on an input.
-fn ended<T: Threads + Wait, W: Write, E: Write>(
-    rt: &T,
-    alloc: Global,
-    words: &[&str],
-    host: &Files,
-    input: &str,
-    out: &mut W,
-    err: &mut E,
-) -> Status {
-    program(rt, alloc, words, host, &mut input.as_bytes(), out, err)
-}
-
-/// The program ends with this status, output and standard error.
-fn ends<T: Abort + Threads + Wait>(
-    rt: &T,
-    alloc: Global,
-    words: &[&str],
-    host: &Files,
-    input: &str,
-    want: (Status, &str, &str),
-) {
-    let mut out = Vec::new(alloc);
-    let mut err = Vec::new(alloc);
-    let status = ended(rt, alloc, words, host, input, &mut out, &mut err);
-    assert!(rt; err.as_slice() == want.2.as_bytes(), "{words:?}");
-    assert!(rt; out.as_slice() == want.1.as_bytes(), "{words:?}");
-    assert!(rt; status == want.0, "{words:?}");
-}
 
 /// The words of a command line, its input, and how the program ends: its status, output and
 /// standard error.
@@ -222,24 +192,6 @@ fn a_terminal_is_told_what_is_explained(rt: HostRuntime) {
         "",
         (Status::Done, STORY, ""),
     );
-}
-
-/// A writer that takes so many bytes, and then nothing.
-#[derive(Drop)]
-struct Narrow {
-    left: usize,
-}
-
-impl Write for Narrow {
-    fn write(&mut self, buf: &[u8]) -> io::Result<usize> {
-        let taken = self.left.min(buf.len());
-        self.left -= taken;
-        Ok(taken)
-    }
-
-    fn flush(&mut self) -> io::Result<()> {
-        Ok(())
-    }
 }
 
 /// A write that stops is a fault, wherever it stops.

@@ -95,7 +95,7 @@ impl Write for Full {
 }
 
 /// How the program ends on a host and an input.
-fn ended<T: Threads + Wait, H: Host, W: Write, E: Write>(
+pub fn ended<T: Threads + Wait, H: Host, W: Write, E: Write>(
     rt: &T,
     alloc: Global,
     words: &[&str],
@@ -108,7 +108,7 @@ fn ended<T: Threads + Wait, H: Host, W: Write, E: Write>(
 }
 
 /// The program ends with this status, output and standard error.
-fn ends<T: Abort + Threads + Wait, H: Host>(
+pub fn ends<T: Abort + Threads + Wait, H: Host>(
     rt: &T,
     alloc: Global,
     words: &[&str],

@@ -11,6 +11,8 @@ mod files;
 #[cfg(test)]
 mod jobs;
 #[cfg(test)]
+mod narrow;
+#[cfg(test)]
 mod races;
 #[cfg(test)]
 mod shows;

@@ -2,10 +2,10 @@
 
 ghost use Rattle.std.specs.Prelude.{None, false};
 
+use crate::narrow::Narrow;
 use hg_program::{Host, program};
 use hg_replay::{ReadFault, Status, read_limited};
 use std::alloc::Global;
-use std::io;
 use std::io::Write;
 use std::process::Abort;
 use std::sync::Wait;
@@ -179,24 +179,6 @@ static ENDINGS: [Row; 6] = [
 #[test]
 fn policies_are_shown(rt: HostRuntime) {
     end_each(&rt, rt.alloc(), &ENDINGS);
-}
-
-/// A writer that takes so many bytes, and then nothing.
-#[derive(Drop)]
-struct Narrow {
-    left: usize,
-}
-
-impl Write for Narrow {
-    fn write(&mut self, buf: &[u8]) -> io::Result<usize> {
-        let taken = self.left.min(buf.len());
-        self.left -= taken;
-        Ok(taken)
-    }
-
-    fn flush(&mut self) -> io::Result<()> {
-        Ok(())
-    }
 }
 
 /// A write that stops is a fault, wherever it stops.
