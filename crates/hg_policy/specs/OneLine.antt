@@ -1,4 +1,5 @@
--- A text of a document in one line.
+-- A text of a document in one line. That it writes out more than control characters, and why, is
+-- decided in docs/DECISIONS.md ('A control character in a key or name ..').
 use Rattle.std.specs.Prelude.{◌==◌, ◌&&◌, ◌||◌, ◌/◌, ◌%◌, ◌++◌, ℕ, Bool, List, [], ◌∷◌, codes, slice_index}
 use Rattle.std.specs.Prelude.{nat_le}
 use Rattle.std.specs.Prelude.{if◌then◌else◌}

@@ -1,5 +1,6 @@
 //! A service of workers in threads of their caller: what they share stands behind locks, each of
-//! which a call holds for as long as it moves one block, list or segment, and no other under it.
+//! which a call holds for as long as it moves one block, list or segment, and no other under it;
+//! closing takes the others under the pool's.
 #![tactic(auto)]
 
 mod caller_locked;
