@@ -20,6 +20,8 @@ mod leaving;
 #[cfg(test)]
 mod lost;
 #[cfg(test)]
+mod meanwhile;
+#[cfg(test)]
 mod memory;
 #[cfg(test)]
 mod parts;
