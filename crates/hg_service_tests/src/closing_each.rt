@@ -6,7 +6,7 @@ use crate::services::{
 };
 use hg_close::CloseFault;
 use hg_machine::{Answer, Event};
-use hg_place::Handle;
+use hg_place::{Handle, MAX_SEGMENTS};
 use hg_service::{Service, Worker};
 use hg_worker::ServiceName;
 use std::alloc::Global;
@@ -23,12 +23,32 @@ tenant = [ {name = "alice", limit = 64} ]
 arena = [ {name = "main", segments = 1} ]
 "#;
 
+/// As many segments as a policy may have.
+const WIDE: &str = r#"version = 1
+workers = 2
+tenant = [ {name = "alice", limit = 8388608} ]
+arena = [ {name = "main", segments = 64} ]
+"#;
+
+/// How many blocks of a page each a segment has.
+const PAGES: u32 = 16;
+
 /// A block of alice's of an arena.
 fn block_in<N: ServiceName, R: Wait + Abort>(rt: &R, worker: &mut Worker<N>, arena: u8) -> Handle {
+    block_of(rt, worker, arena, 24)
+}
+
+/// The same of so many bytes.
+fn block_of<N: ServiceName, R: Wait + Abort>(
+    rt: &R,
+    worker: &mut Worker<N>,
+    arena: u8,
+    bytes: u64,
+) -> Handle {
     let asked = Event::Alloc {
         actor: ALICE,
         arena,
-        bytes: 24,
+        bytes,
     };
     let Answer::Block(handle) = answer(rt, worker, asked) else {
         panic!(rt; "no block")
@@ -72,6 +92,61 @@ impl Trial for SentToEach {
 #[test]
 fn each_list_comes_over(rt: HostRuntime) {
     tried(&rt, rt.alloc(), &SentToEach);
+}
+
+/// All pages of a segment are given out, and the last block is sent there.
+fn filled_and_sent<N: ServiceName, R: Wait + Abort>(
+    rt: &R,
+    one: &mut Worker<N>,
+    other: &mut Worker<N>,
+    segment: u8,
+) {
+    for _ in 1..PAGES {
+        assert_eq!(rt; block_of(rt, one, MAIN, 4096).place.segment, segment);
+    }
+    let last = block_of(rt, one, MAIN, 4096);
+    assert_eq!(rt; last.place.segment, segment);
+    sends(rt, other, last);
+}
+
+/// Each segment is refilled, by its number, and has one place taken in.
+fn taken_in_each<R: Abort>(rt: &R, alloc: Global) -> Vec<(Event, Answer)> {
+    let mut rows = Vec::new(alloc);
+    for segment in 1..MAX_SEGMENTS as u8 {
+        let row = (refill(MAIN), Answer::Refilled(segment));
+        rows.push(row).expect(rt, "memory");
+    }
+    for segment in 0..MAX_SEGMENTS as u8 {
+        rows.push((take(segment), Answer::Taken(1)))
+            .expect(rt, "memory");
+    }
+    rows
+}
+
+struct SentToAll;
+
+impl Trial for SentToAll {
+    fn go<N: ServiceName, R: Wait + Abort>(&self, rt: &R, alloc: Global, service: Service<N>) {
+        let mut service = service;
+        let (mut one, mut other) = both(rt, &mut service);
+        filled_and_sent(rt, &mut one, &mut other, 0);
+        for segment in 1..MAX_SEGMENTS as u8 {
+            answers(rt, &mut one, refill(MAIN), Answer::Refilled(segment));
+            filled_and_sent(rt, &mut one, &mut other, segment);
+        }
+        leaves(rt, other);
+        leaves(rt, one);
+        let core = closed(rt, alloc, service);
+        let rows = taken_in_each(rt, alloc);
+        answers_so(rt, core, rows.as_slice());
+        drop(rows);
+    }
+}
+
+/// So it is of as many segments as a policy may have.
+#[test]
+fn all_lists_come_over(rt: HostRuntime) {
+    assert!(&rt; is_tried(&rt, rt.alloc(), WIDE, &SentToAll));
 }
 
 struct LastOut;
