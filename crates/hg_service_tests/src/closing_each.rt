@@ -166,3 +166,29 @@ impl Trial for LastOut {
 fn last_worker_is_out(rt: HostRuntime) {
     assert!(&rt; is_tried(&rt, rt.alloc(), MANY, &LastOut));
 }
+
+struct EachOut;
+
+impl Trial for EachOut {
+    fn go<N: ServiceName, R: Wait + Abort>(&self, rt: &R, alloc: Global, service: Service<N>) {
+        let mut service = service;
+        let mut workers = Vec::new(alloc);
+        for number in 0..16u8 {
+            let taken = worker(rt, &mut service, number);
+            workers.push(taken).expect(rt, "memory");
+        }
+        workers.reverse();
+        for number in 0..16u8 {
+            service = unclosed(rt, alloc, service, CloseFault::StillOut(number));
+            leaves(rt, workers.pop().expect(rt, "a worker"));
+        }
+        drop(workers);
+        drop(closed(rt, alloc, service));
+    }
+}
+
+/// Of sixteen workers that leave one after the other the lowest is told that is still out.
+#[test]
+fn each_worker_is_asked_for(rt: HostRuntime) {
+    assert!(&rt; is_tried(&rt, rt.alloc(), MANY, &EachOut));
+}
