@@ -55,9 +55,9 @@ impl<N: ServiceName> CallerLocked<N> {
     /// Memory is asked for first, all of it. Then `StillHeld` with the lowest segment that isn't in
     /// the pool, and `StillOut` with the lowest worker that isn't among `workers` with an empty hand:
     /// then the parts come back as they were. A list that isn't given back counts as one to which
-    /// nothing was sent, and of two of one segment the last counts. `Lost` where a block was parted
-    /// that stands on no list: the parts of a core come back, with its place, and what was locked
-    /// before is given up.
+    /// nothing was sent, and of two of one segment the last counts. `Lost` where a place isn't
+    /// accounted for, as one whose block was parted and stands on no list: the parts of a core come
+    /// back, with the lowest such place, and what was locked before is given up.
     pub fn close(self, alloc: Global) -> Result<Core, UnclosedParts<N>>
         ensures quiet { IfOk result (IsQuiet N.policy) }
         ensures made { IfOk result (IsMadeOfParts N.policy self) }

@@ -22,8 +22,9 @@ impl<N: ServiceName> Service<N> {
     ///
     /// Memory is asked for first, all of it. Then `StillHeld` with the lowest segment that isn't in
     /// the pool, and `StillOut` with the lowest worker that was taken and hasn't left: then the
-    /// service comes back as it was. `Lost` where a block was parted that stands on none of the
-    /// service's lists: the parts of a core come back, with its place, and the service is given up.
+    /// service comes back as it was. `Lost` where a place isn't accounted for, as one whose block
+    /// was parted and stands on none of the service's lists: the parts of a core come back, with
+    /// the lowest such place, and the service is given up.
     ///
     /// It waits for the lock of the pool and, under that, for those of the workers that have left
     /// and of each list.

@@ -10,7 +10,8 @@ use hg_worker::ServiceName;
 pub enum Unclosed<N: ServiceName> {
     /// It goes on, as it was, for this reason.
     Running(Service<N>, CloseFault),
-    /// The lowest place that isn't accounted for, and the parts of the service, which is given up.
+    /// The lowest place that isn't accounted for, and the parts of a core that was to be made of the
+    /// service, which is given up.
     Lost(Place, Parts),
 }
 
