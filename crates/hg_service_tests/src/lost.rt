@@ -163,6 +163,28 @@ fn taken_away<N: ServiceName, R: Abort>(
     assert_eq!(rt; holder.own.take_from(0, list), Answer::Taken(1));
 }
 
+/// How many places a segment has.
+const PLACES: u32 = 8_192;
+
+/// A place comes off the remote list of segment 0; the others stay there.
+fn taken_off<R: Abort>(rt: &R, alloc: Global, parts: &mut Parts, place: Place) {
+    assert!(rt; parts.remotes.len() > 0);
+    let list = &mut parts.remotes[0];
+    let mut others = Vec::new(alloc);
+    for _ in 0..PLACES {
+        let Some(sent) = list.drain_one() else {
+            break;
+        };
+        if sent != (place.page, place.index) {
+            others.push(sent).expect(rt, "memory");
+        }
+    }
+    for (page, index) in others {
+        assert!(rt; page < 16 && index < 512);
+        assert!(rt; list.push(page, index).is_ok());
+    }
+}
+
 struct HomeAlready;
 
 impl Trial for HomeAlready {
@@ -171,21 +193,27 @@ impl Trial for HomeAlready {
         let mut list = RemoteList::new(alloc).expect(rt, "a list");
         let (mut one, mut other) = both(rt, &mut service);
         let x = block(rt, &mut one);
+        let y = block(rt, &mut one);
         answers(rt, &mut other, free(ALICE, x), Answer::Parted);
         answers(rt, &mut other, Event::Deliver, Answer::Done);
         taken_away(rt, &mut one, &mut list, x.place);
+        answers(rt, &mut other, free(ALICE, y), Answer::Parted);
         leaves(rt, one);
         leaves(rt, other);
         let (place, mut parts) = lost(rt, alloc, service);
         assert_eq!(rt; place, x.place);
         assert!(rt; !is_put(rt, &mut parts, place));
-        drop(parts);
+        taken_off(rt, alloc, &mut parts, place);
+        let Ok(core) = audited(rt, alloc, parts) else {
+            panic!(rt; "more is lost")
+        };
+        answers_so(rt, core, &[(take(0), Answer::Taken(1))]);
         drop(list);
     }
 }
 
-/// A place that stands on its list and has come home by another is lost, too: it is on the list
-/// already.
+/// A place that stands on its list and has come home by another is lost, too. It is on the list
+/// already, and the parts become a core once it comes off.
 #[test]
 fn home_place_on_its_list_is_lost(rt: HostRuntime) {
     tried(&rt, rt.alloc(), &HomeAlready);
