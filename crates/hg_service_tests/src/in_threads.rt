@@ -4,6 +4,7 @@
 ghost use Rattle.std.specs.Prelude.{◌≡◌, length};
 ghost use Rattle.hg_table.specs.Named.{table_of};
 
+use crate::meanwhile::asked_meanwhile;
 use crate::sending::by_turns;
 use crate::services::made;
 use crate::stress::crowd;
@@ -24,6 +25,7 @@ pub enum Tried {
     SeenAfterJoin,
     ByTurns,
     Crowd,
+    AskedMeanwhile,
 }
 
 /// Tries it on a new service of a document's policy.
@@ -49,21 +51,26 @@ fn tried_on<N: ServiceName + Send + Sync, R: Threads + Wait + Abort + Sync>(
     requires segments { table.segments ≡ length policy.segments }
     requires workers { table.workers ≡ policy.workers }
 {
-    let mut service = Service::<N>::open(alloc, policy, table).expect(rt, "a service");
-    go(rt, alloc, &mut service, what);
-    drop(service);
+    let service = Service::<N>::open(alloc, policy, table).expect(rt, "a service");
+    go(rt, alloc, service, what);
 }
 
 fn go<N: ServiceName + Send + Sync, R: Threads + Wait + Abort + Sync>(
     rt: &R,
     alloc: Global,
-    service: &mut Service<N>,
+    service: Service<N>,
     what: Tried,
 ) {
+    let mut service = service;
     match what {
-        Tried::FreedAtOnce => freed_at_once(rt, service),
-        Tried::SeenAfterJoin => seen_after_join(rt, service),
-        Tried::ByTurns => by_turns(rt, alloc, service),
-        Tried::Crowd => crowd(rt, alloc, service),
+        Tried::FreedAtOnce => freed_at_once(rt, &mut service),
+        Tried::SeenAfterJoin => seen_after_join(rt, &mut service),
+        Tried::ByTurns => by_turns(rt, alloc, &mut service),
+        Tried::Crowd => crowd(rt, alloc, &mut service),
+        Tried::AskedMeanwhile => {
+            asked_meanwhile(rt, alloc, service);
+            return;
+        }
     }
+    drop(service);
 }

@@ -1,23 +1,17 @@
 //! A service is asked to close, again and again, while its workers go on in threads.
 
-ghost use Rattle.std.specs.Prelude.{◌≡◌, length};
-ghost use Rattle.hg_table.specs.Named.{table_of};
-
 use crate::closed::answers_so;
+use crate::in_threads::{Tried, in_threads};
 use crate::services::{
-    ALICE, DOCUMENT, MAIN, answers, block, both, free, leaves, made, read, refill, take,
-    write,
+    ALICE, DOCUMENT, MAIN, answers, block, both, free, leaves, read, refill, take, write,
 };
 use hg_close::CloseFault;
 use hg_core::Core;
 use hg_machine::{Answer, Event};
 use hg_place::Handle;
-use hg_policy::Policy;
 use hg_service::{Service, Unclosed, Worker};
-use hg_table::LifeTable;
 use hg_worker::ServiceName;
 use std::alloc::Global;
-use std::marker::Brand;
 use std::process::Abort;
 use std::sync::Wait;
 use std::sync::atomic::{AtomicU64, Ordering};
@@ -132,17 +126,13 @@ fn in_three<N: ServiceName + Send + Sync, R: Threads + Wait + Abort + Sync>(
     core
 }
 
-fn asked_meanwhile<N: ServiceName + Send + Sync, R: Threads + Wait + Abort + Sync>(
+/// A service is asked while its workers go on, and has in the end what they left.
+pub fn asked_meanwhile<N: ServiceName + Send + Sync, R: Threads + Wait + Abort + Sync>(
     rt: &R,
     alloc: Global,
-    made: (Policy, LifeTable),
-)
-    requires table { table_of made.1 ≡ N.table }
-    requires policy { made.0 ≡ N.policy }
-    requires segments { made.1.segments ≡ length made.0.segments }
-    requires workers { made.1.workers ≡ made.0.workers }
-{
-    let mut service = Service::<N>::open(alloc, made.0, made.1).expect(rt, "memory");
+    service: Service<N>,
+) {
+    let mut service = service;
     let (mut one, other) = both(rt, &mut service);
     let kept = block(rt, &mut one);
     answers(rt, &mut one, write(ALICE, kept, 5), Answer::Done);
@@ -167,6 +157,5 @@ fn asked_meanwhile<N: ServiceName + Send + Sync, R: Threads + Wait + Abort + Syn
 /// back each time, none of them meets an empty pool, and it closes with all that they left.
 #[test]
 fn close_is_asked_meanwhile(rt: HostRuntime) {
-    let made = made(rt.alloc(), DOCUMENT).expect(&rt, "memory");
-    asked_meanwhile::<Brand, _>(&rt, rt.alloc(), made);
+    in_threads(&rt, rt.alloc(), DOCUMENT, Tried::AskedMeanwhile);
 }
