@@ -1,6 +1,6 @@
 -- A core whose workers hold nothing.
 use Rattle.std.proofs.Common.{◌≡◌, ℕ, zero, suc, Bool, true, false, List, [], ◌∷◌, length, map}
-use Rattle.std.proofs.Common.{Option, None, slice_index_or, refl, ap, ◌∙◌, arith, inl, inr}
+use Rattle.std.proofs.Common.{Option, None, slice_index_or, refl, ap, ◌∙◌, arith, inl, inr, subst, sym}
 use Rattle.std.specs.Option.{option_map}
 use Rattle.std.specs.List.{AllByRecursion, list_any, range_with_len}
 use Rattle.std.proofs.lemmas.Bool.{cases_lt}
@@ -24,9 +24,10 @@ use Rattle.hg_events.specs.Core.{Core, parts_of}
 use Rattle.hg_parts.specs.Audit.{IsInOrder}
 use Rattle.hg_audit.specs.declared.faults.AuditFault.{AuditFault}
 use Rattle.hg_audit.specs.declared.faults.AuditFault.TheVariants as fault
+use Rattle.hg_audit.specs.declared.parts.Parts.{Parts as Handed}
 use Rattle.hg_audit.specs.Handed.{core_in, parts_in}
 use Rattle.hg_audit.specs.Told.{IsFirstFault}
-use Rattle.hg_close.specs.Closed.{IsQuiet, IsPlace}
+use Rattle.hg_close.specs.Closed.{IsQuiet, IsPlace, AreLost}
 use Rattle.hg_close.specs.declared.room.CloseRoom.{CloseRoom}
 use Rattle.hg_close.specs.Rooms.{IsRoom}
 
@@ -87,3 +88,16 @@ pub is_place : (parts : CoreParts) (why : AuditFault) → ((n : ℕ) → IsInOrd
 is_place parts (fault.Segment n) ordered first = first.wrong (ordered n)
 is_place parts (fault.Place place) ordered first = tt
 is_place parts fault.Memory ordered first = first
+
+-- parts that are a room's, in which an audit found a place
+pub lost : (room : CloseRoom) → IsRoom room → (parts : Handed) → parts ≡ room.parts
+    → (why : AuditFault) → IsFirstFault (parts_in room.parts) why
+    → (place : Place) → why ≡ fault.Place place → AreLost room.parts.policy place parts
+lost room is parts same why first place told =
+    subst (AreLost room.parts.policy place) (sym same) (record {
+      policy_is = refl;
+      complete = is.complete;
+      heaps = is.heaps;
+      hands = is.hands;
+      first = subst (IsFirstFault (parts_in room.parts)) told first;
+    })

@@ -1,5 +1,6 @@
 -- What a service closes into.
-use Rattle.std.specs.Prelude.{◌≡◌, ℕ, false, List, None}
+use Rattle.std.specs.Prelude.{◌≡◌, ℕ, false, List, [], None, slice_index_or}
+use Rattle.std.specs.List.{AllByRecursion}
 use Rattle.hg_place.specs.declared.Place.{Place}
 use Rattle.hg_place.specs.declared.standing.Standing.{Standing}
 use Rattle.hg_place.specs.Places.{number_of}
@@ -34,10 +35,13 @@ IsPlace (fault.Segment segment) = ⊥
 IsPlace (fault.Place place) = Unit {0}
 IsPlace fault.Memory = ⊥
 
--- parts of this policy whose first fault is that this place isn't accounted for
+-- parts of this policy, in which nobody holds a segment and each hand is empty, whose first fault is
+-- that this place isn't accounted for
 pub record AreLost (policy : Policy) (place : Place) (parts : Parts) : Type 0 where
   pub policy_is : parts.policy ≡ policy
   pub complete : IsComplete parts
+  pub heaps : AllByRecursion (λ heap. heap.segments ≡ []) parts.heaps.items
+  pub hands : (worker : ℕ) → slice_index_or parts.hands.items worker None ≡ None
   pub first : IsFirstPlace (parts_in parts) (number_of place)
 
 module _ {S : Type 0} (number : S → ℕ) (records : S → List Standing)
