@@ -1,6 +1,12 @@
+pub mod Bands
+pub mod Json
+pub mod Lines
 pub mod Matrix
+pub mod Meant
 pub mod Parts
 pub mod Pieces
 pub mod Rows
 pub mod Shown
+pub mod Standings
+pub mod Texts
 pub mod Warnings

@@ -12,13 +12,20 @@ pub(crate) fn push(out: &mut Vec<u8>, text: &str) -> Result<(), AllocError>
     out.extend_from_slice(text.as_bytes())
 }
 
+/// Appends a number.
+pub(crate) fn push_number(out: &mut Vec<u8>, n: u64) -> Result<(), AllocError>
+    ensures { OnOk result (out.new.items ≡ out.old.items ++ decimal n) }
+{
+    let mut digits = itoa::Buffer::new();
+    push(out, digits.format(n))
+}
+
 /// Appends a word and a number behind it.
 pub(crate) fn push_count(out: &mut Vec<u8>, word: &str, n: u64) -> Result<(), AllocError>
     ensures { OnOk result (out.new.items ≡ out.old.items ++ word.now ++ decimal n) }
 {
-    let mut digits = itoa::Buffer::new();
     push(out, word)?;
-    push(out, digits.format(n))
+    push_number(out, n)
 }
 
 /// Appends so many blanks.

@@ -5,7 +5,8 @@ ghost use Rattle.toml.specs.Data.{as_array, get_member};
 ghost use Rattle.toml.specs.View.{table_view, view};
 ghost use Rattle.hg_policy.specs.Document.{tree_of};
 ghost use Rattle.hg_policy.specs.Faults.{Gives, or_fault, not_toml};
-ghost use Rattle.hg_show.specs.Rows.{elements_or_none, rows_at, text_at, text_in};
+ghost use Rattle.hg_show.specs.Rows.{elements_at, elements_or_none, is_empty_at, rows_at};
+ghost use Rattle.hg_show.specs.Rows.{text_at, text_in, text_of};
 
 use hg_policy::PolicyFault;
 use std::alloc::Global;
@@ -55,15 +56,39 @@ pub(crate) fn rows<'a>(table: &'a Table, key: &str) -> &'a [Value]
     }
 }
 
+/// The elements of the array at a key of a row.
+pub(crate) fn elements_at<'a>(row: &'a Value, key: &str) -> &'a [Value]
+    ensures { map view result.now ≡ elements_at key.now (view row.now) }
+{
+    match row.as_table() {
+        Some(table) => rows(table, key),
+        None => &[],
+    }
+}
+
+/// Whether that array has no element.
+pub(crate) fn is_empty_at(row: &Value, key: &str) -> bool
+    ensures { result ≡ is_empty_at key.now (view row.now) }
+{
+    elements_at(row, key).is_empty()
+}
+
 /// The text that a value is, and no text of another one.
-fn text_of<'a>(value: Option<&'a Value>) -> &'a str
+pub(crate) fn text_of(value: &Value) -> &str
+    ensures { result.now ≡ text_of (view value.now) }
+{
+    match value.as_str() {
+        Some(text) => text,
+        None => "",
+    }
+}
+
+/// The text that stands somewhere, if any.
+fn text_in<'a>(value: Option<&'a Value>) -> &'a str
     ensures { result.now ≡ text_in (option_map (λ value. view value.now) value.entry) }
 {
     match value {
-        Some(value) => match value.as_str() {
-            Some(text) => text,
-            None => "",
-        },
+        Some(value) => text_of(value),
         None => "",
     }
 }
@@ -73,7 +98,7 @@ pub(crate) fn text_at<'a>(row: &'a Value, key: &str) -> &'a str
     ensures { result.now ≡ text_at key.now (view row.now) }
 {
     match row.as_table() {
-        Some(table) => text_of(field(table, key)),
+        Some(table) => text_in(field(table, key)),
         None => "",
     }
 }

@@ -5,4 +5,4 @@ use Rattle.hg_show.proofs.matrix.push_actor_lines.Given as goal
 
 -- the numbers so far are told
 abbrev pub invariant-loop-actor : goal.invariant-loop-actor
-invariant-loop-actor l = l.out.items ≡ l.fn.out.items ++ flat_map (actor_line l.policy) (range_with_len 0 l.actor)
+invariant-loop-actor l = l.out.items ≡ l.fn.out.items ++ flat_map (actor_line l.policy l.band) (range_with_len 0 l.actor)

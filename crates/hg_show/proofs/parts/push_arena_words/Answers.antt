@@ -1,5 +1,5 @@
 use Rattle.hg_show.specs.Parts.{arena_word}
-use Rattle.hg_show.proofs.Texts.{rows_more}
+use Rattle.hg_show.proofs.TextLemmas.{rows_more}
 use Rattle.hg_show.proofs.parts.push_arena_words.Goals as goal
 
 pub loop-arena-preserved : goal.loop-arena-preserved

@@ -3,7 +3,7 @@ use Rattle.std.proofs.Common.{map}
 use Rattle.toml.specs.View.{view}
 use Rattle.hg_show.specs.Rows.{names_in}
 use Rattle.hg_show.specs.Parts.{tenant_line}
-use Rattle.hg_show.proofs.Texts.{numbers_more, numbers_all}
+use Rattle.hg_show.proofs.TextLemmas.{numbers_more, numbers_all}
 use Rattle.hg_show.proofs.parts.push_tenant_lines.Goals as goal
 
 pub loop-tenant-preserved : goal.loop-tenant-preserved

@@ -1,6 +1,6 @@
 use Rattle.std.proofs.Common.{◌≡◌, length, arith}
 use Rattle.hg_show.specs.Parts.{tenant_word}
-use Rattle.hg_show.proofs.Texts.{numbers_more, numbers_all}
+use Rattle.hg_show.proofs.TextLemmas.{numbers_more, numbers_all}
 use Rattle.hg_show.proofs.parts.push_tenant_words.Goals as goal
 
 pub loop-tenant-preserved : goal.loop-tenant-preserved

@@ -1,8 +1,0 @@
-use Rattle.std.proofs.Common.{◌≡◌, ◌++◌}
-use Rattle.std.specs.List.{flat_map, range_with_len}
-use Rattle.hg_show.specs.Warnings.{tenant_warnings}
-use Rattle.hg_show.proofs.warnings.push_of_tenants.Given as goal
-
--- the numbers so far are told
-abbrev pub invariant-loop-tenant : goal.invariant-loop-tenant
-invariant-loop-tenant l = l.out.items ≡ l.fn.out.items ++ flat_map (tenant_warnings l.policy) (range_with_len 0 l.tenant)
