@@ -1,6 +1,6 @@
 //! Owners in bands, so that no line of the matrix is long.
 
-ghost use Rattle.std.specs.Prelude.{◌≡◌, ◌≤◌, ◌^◌, ◌+◌, ◌<◌, ◌==◌, ◌&&◌, not, nat_lt, length};
+ghost use Rattle.std.specs.Prelude.{◌≡◌, ◌≤◌, ◌^◌, ◌+◌, nat_lt};
 ghost use Rattle.hg_show.specs.Bands.{column_width, is_full, line_width};
 
 use crate::parts::name_of;

@@ -5,7 +5,6 @@ ghost use Rattle.std.specs.List.{flat_map};
 ghost use Rattle.hg_show.specs.Bands.{bands, bands_from};
 ghost use Rattle.hg_show.specs.Matrix.{actor_line, band_text, bands_text, cell, column};
 ghost use Rattle.hg_show.specs.Matrix.{column_head, letter_of, mark, mark_of, matrix_text};
-ghost use Rattle.hg_show.specs.Matrix.{next_band_text};
 ghost use Rattle.hg_show.specs.Parts.{tenants_in};
 
 use crate::bands::is_full;

@@ -1,6 +1,6 @@
 //! Rows that can't be of use.
 
-ghost use Rattle.std.specs.Prelude.{◌≡◌, ◌++◌, ◌&&◌, codes, map, IfOk, OnOk};
+ghost use Rattle.std.specs.Prelude.{◌≡◌, ◌++◌, ◌&&◌, map, IfOk, OnOk};
 ghost use Rattle.std.specs.List.{flat_map, list_any};
 ghost use Rattle.toml.specs.View.{table_view, view};
 ghost use Rattle.hg_show.specs.Parts.{may_be_in, tenants_in};
