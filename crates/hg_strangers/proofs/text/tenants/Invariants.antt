@@ -1,0 +1,9 @@
+use Rattle.std.proofs.Common.{◌≡◌, map}
+use Rattle.std.specs.List.{range_with_len}
+use Rattle.hg_strangers.specs.Texts.{tenant_at}
+use Rattle.hg_strangers.proofs.Finds.{texts}
+use Rattle.hg_strangers.proofs.text.tenants.Given as goal
+
+-- the names so far
+abbrev pub invariant-loop-tenant : goal.invariant-loop-tenant
+invariant-loop-tenant l = texts l.names.items ≡ map (tenant_at l.policy) (range_with_len 0 l.tenant)

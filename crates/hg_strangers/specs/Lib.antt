@@ -1,0 +1,4 @@
+pub mod Mentions
+pub mod Near
+pub mod Texts
+pub mod Endings
