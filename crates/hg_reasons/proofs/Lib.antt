@@ -1,3 +1,4 @@
 mod Ranges
+mod Rows
 mod Naming
 pub mod Explaining

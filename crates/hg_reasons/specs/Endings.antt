@@ -10,7 +10,7 @@ use Rattle.hg_replay.specs.RunFaults.{status_of}
 use Rattle.hg_replay.specs.declared.run.fault.RunFault.{RunFault}
 use Rattle.hg_replay.specs.declared.run.status.Status.{Status}
 use Rattle.hg_replay.specs.declared.run.status.Status.TheVariants as status
-use Rattle.hg_reasons.specs.Explaining.{Story, IsStoryOf}
+use Rattle.hg_reasons.specs.Explaining.{IsExplained}
 
 -- the bytes of the policy, or of the trace, have a fault with this status, or memory was refused
 abbrev pub IsFaulty : Status → List ℕ → List ℕ → Type 0
@@ -25,7 +25,7 @@ IsFaulty _ policy_bytes trace_bytes = ⊥
 -- with nothing written; Failed for want of memory, and for a write that stopped in that text
 abbrev pub EndsExplained : Status → List ℕ → List ℕ → Seen → Seen → Type 0
 EndsExplained status.Done policy_bytes trace_bytes old new =
-    (last : Story) × IsStoryOf policy_bytes trace_bytes last × Wrote old new last.text
+    (text : List ℕ) × IsExplained policy_bytes trace_bytes text × Wrote old new text
 EndsExplained status.BadPolicy policy_bytes trace_bytes old new =
     NoPolicy policy_bytes × (new ≡ old)
 EndsExplained status.BadTrace policy_bytes trace_bytes old new =
@@ -33,7 +33,7 @@ EndsExplained status.BadTrace policy_bytes trace_bytes old new =
     × (new ≡ old)
 EndsExplained status.Failed policy_bytes trace_bytes old new =
     (new ≡ old)
-    ⊎ ((last : Story) × IsStoryOf policy_bytes trace_bytes last × StopsIn old new last.text)
+    ⊎ ((text : List ℕ) × IsExplained policy_bytes trace_bytes text × StopsIn old new text)
 EndsExplained status.BadLine policy_bytes trace_bytes old new = ⊥
 EndsExplained status.Differs policy_bytes trace_bytes old new = ⊥
 

@@ -16,6 +16,7 @@ use Rattle.hg_replay.specs.Events.{unknown_worker}
 use Rattle.hg_replay.specs.Replays.{Progress, Answered, starting}
 use Rattle.hg_replay.specs.Tellings.{IsTold}
 use Rattle.hg_replay.specs.Statuses.{Means}
+use Rattle.hg_reasons.specs.Counts.{counts_text}
 use Rattle.hg_reasons.specs.Past.{Past, no_past, past_after}
 use Rattle.hg_reasons.specs.Reasons.{reason_of}
 use Rattle.hg_reasons.specs.Shown.{shown}
@@ -92,17 +93,25 @@ pub record ExplainsAll (trace_bytes : List ℕ) (policy : Policy) (lines : List 
       Explains store.names (texts_of trace_bytes) (starting (opened policy)) (beginning policy)
       lines end last
 
+-- a text is what was told of the lines, and how many came to what behind it
+abbrev pub told_text : Policy → Story → List ℕ
+told_text policy last = last.text ++ counts_text policy last.past.lines
+
+abbrev pub IsToldOf : List ℕ → Policy → List Line → List ℕ → Type 0
+IsToldOf trace_bytes policy lines text =
+    (last : Story) × ExplainsAll trace_bytes policy lines last × (text ≡ told_text policy last)
+
 -- the same, where no line's worker is unknown; or the first such line, or want of memory
 abbrev pub ExplainedAs : List ℕ → Policy → List Line → Result Story ReplayFault → Type 0
-ExplainedAs trace_bytes policy lines (Ok last) =
-    (unknown_worker policy.workers lines ≡ None) × ExplainsAll trace_bytes policy lines last
+ExplainedAs trace_bytes policy lines (Ok story) =
+    (unknown_worker policy.workers lines ≡ None) × IsToldOf trace_bytes policy lines story.text
 ExplainedAs trace_bytes policy lines (Err (fault.Worker line)) =
     unknown_worker policy.workers lines ≡ Some line
 ExplainedAs trace_bytes policy lines (Err fault.Memory) = ⊤
 ExplainedAs trace_bytes policy lines (Err fault.Write) = ⊥
 
 -- the bytes mean a policy and a trace for it, and this is told of its lines
-abbrev pub IsStoryOf : List ℕ → List ℕ → Story → Type 0
-IsStoryOf policy_bytes trace_bytes last =
+abbrev pub IsExplained : List ℕ → List ℕ → List ℕ → Type 0
+IsExplained policy_bytes trace_bytes text =
     (policy : Policy) × (lines : List Line) × Means policy_bytes trace_bytes policy lines
-    × ExplainsAll trace_bytes policy lines last
+    × IsToldOf trace_bytes policy lines text

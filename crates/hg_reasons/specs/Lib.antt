@@ -1,4 +1,5 @@
 pub mod Shown
+pub mod Counts
 pub mod Past
 pub mod Reasons
 pub mod Wording

@@ -12,14 +12,18 @@ use Rattle.hg_trace.specs.declared.line.Command.{Command}
 use Rattle.hg_trace.specs.declared.line.Command.TheVariants as command
 use Rattle.hg_replay.specs.declared.replaying.told.Told.{Told}
 use Rattle.hg_replay.specs.declared.replaying.told.Told.TheVariants as told
+use Rattle.hg_reasons.specs.Counts.{counted}
+use Rattle.hg_reasons.specs.declared.counts.Outcome.{Outcome}
 use Rattle.hg_reasons.specs.declared.past.Life.{Life}
 use Rattle.hg_reasons.specs.declared.past.Bound.{Bound}
 
 -- by place the tenant that was given a block there last, and the line that freed it, 0 where none
--- did; and by label its line, and what its allocation was answered
+-- did; by label its line, and what its allocation was answered; and what each line came to, as it is
+-- counted
 pub record Past : Type 0 where
   pub lives : List Life
   pub labels : List Bound
+  pub lines : List Outcome
 
 abbrev pub no_life : Life
 no_life = record { owner = 255; freed = 0 }
@@ -32,6 +36,7 @@ abbrev pub no_past : Policy → Past
 no_past policy = record {
   lives = replicate (length policy.segments * SEGMENT_PLACES) no_life;
   labels = [];
+  lines = [];
 }
 
 -- a tenant is given a block at a place, by this answer
@@ -72,4 +77,5 @@ abbrev pub past_after : Past → ℕ → Command → Told → Past
 past_after past number command told = record {
   lives = lives_after past.lives number told;
   labels = labels_after past.labels number command told;
+  lines = past.lines ++ counted told ∷ [];
 }

@@ -11,10 +11,11 @@ ghost use Rattle.hg_replay.specs.Replays.{Answered, Progress, starting};
 ghost use Rattle.hg_replay.specs.StoredLabels.{binds};
 ghost use Rattle.hg_replay.specs.Tellings.{IsTold};
 ghost use Rattle.hg_reasons.specs.Explaining.{beginning, line_text, reply_text, story_after};
-ghost use Rattle.hg_reasons.specs.Explaining.{text_of, texts_of, words_of, Explains};
+ghost use Rattle.hg_reasons.specs.Explaining.{text_of, texts_of, told_text, words_of, Explains};
 ghost use Rattle.hg_reasons.specs.Shown.{shown};
 ghost use Rattle.hg_reasons.specs.Wording.{reason_text, said_by};
 
+use crate::counts::push_counts;
 use crate::past::Past;
 use crate::reason::{Reason, reason_of};
 use crate::wording::{Said, push, push_count};
@@ -175,6 +176,13 @@ impl Story {
         &self.text
     }
 
+    /// Tells how many lines came to what.
+    pub(crate) fn end(&mut self, policy: &Policy) -> Result<(), AllocError>
+        ensures { OnOk result (self.new.text ≡ told_text policy.now self.old) }
+    {
+        push_counts(&mut self.text, policy, self.past.lines())
+    }
+
     /// Tells a line of this text, which left this core and printed this reply.
     fn tell(
         &mut self,
@@ -241,6 +249,7 @@ pub(crate) fn explain(
     requires count { vec_len ready.old.handles ≡ 0 }
     requires room { label_count (lines_in trace.now) ≤ vec_capacity ready.old.handles }
     ensures numbered { AreNumbered trace.now }
+    ensures policy { OnOk result (ready.new.core.state.policy ≡ ready.old.core.state.policy) }
     ensures told { OnOk result ((end : Progress)
         × Explains trace.now.names (map (λ text. text.now) texts.now) (starting ready.old.core)
         story.old (lines_in trace.now) end story.new) }

@@ -6,6 +6,7 @@ ghost use Rattle.hg_trace.specs.Stored.{command_in};
 ghost use Rattle.hg_reasons.specs.Past.{freed_by, given, is_freed, labels_after, life_at};
 ghost use Rattle.hg_reasons.specs.Past.{lives_after, lives_of, no_life, no_past, past_after};
 
+use crate::counts::{Outcome, counted};
 use hg_machine::{Answer, Event};
 use hg_place::{Place, SEGMENT_PLACES};
 use hg_policy::Policy;
@@ -34,11 +35,13 @@ const NO_LIFE: Life = Life {
     freed: 0,
 };
 
-/// What the lines so far have done: by place whose block it had last, and by label its line.
+/// What the lines so far have done: by place whose block it had last, by label its line, and what each
+/// line came to, as it is counted.
 #[derive(Drop)]
 pub(crate) struct Past {
     lives: Vec<Life>,
     labels: Vec<Bound>,
+    lines: Vec<Outcome>,
 }
 
 impl Model for Past {
@@ -46,7 +49,11 @@ impl Model for Past {
 
     ghost Value = { past.Past };
 
-    ghost view = { λ p. record { lives = p.lives.items; labels = p.labels.items } };
+    ghost view = { λ p. record {
+      lives = p.lives.items;
+      labels = p.labels.items;
+      lines = p.lines.items;
+    } };
 }
 
 /// Notes the life of a place, where there is such a place.
@@ -156,6 +163,7 @@ impl Past {
         Ok(Past {
             lives,
             labels: Vec::new(alloc),
+            lines: Vec::new(alloc),
         })
     }
 
@@ -173,12 +181,20 @@ impl Past {
         self.labels.get(label as usize).copied()
     }
 
+    /// What each line came to.
+    pub(crate) fn lines(&self) -> &[Outcome]
+        ensures { result.now ≡ self.now.lines }
+    {
+        &self.lines
+    }
+
     /// Notes what a line came to.
     pub(crate) fn note(&mut self, line: &StoredLine, told: Told) -> Result<(), AllocError>
         ensures { OnOk result ((names labels : List (List ℕ)) → self.new
             ≡ past_after self.old line.now.number (command_in names labels line.now.command) told) }
     {
         note_lives(&mut self.lives, line.number, told);
-        note_label(&mut self.labels, line.number, line.command, told)
+        note_label(&mut self.labels, line.number, line.command, told)?;
+        Ok(self.lines.push(counted(told))?)
     }
 }

@@ -3,7 +3,7 @@
 ghost use Rattle.std.specs.Prelude.{◌≡◌, ◌<◌, IfOk, IfErr, All};
 ghost use Rattle.hg_trace.specs.Stored.{lines_in};
 ghost use Rattle.hg_reasons.specs.Endings.{ended_by, EndsExplained, IsFaulty};
-ghost use Rattle.hg_reasons.specs.Explaining.{ExplainedAs, ExplainsAll, IsStoryOf};
+ghost use Rattle.hg_reasons.specs.Explaining.{ExplainedAs, IsExplained, IsToldOf};
 ghost use Rattle.hg_replay.specs.RunFaults.{status_of};
 
 use crate::explain::{Story, explain, texts_of};
@@ -21,12 +21,13 @@ fn explain_all(
     bytes: &[u8],
 ) -> Result<Story, AllocError>
     requires { All (λ line. line.worker < policy.workers) (lines_in trace.now) }
-    ensures { IfOk result (ExplainsAll bytes.now policy (lines_in trace.now)) }
+    ensures { IfOk result (λ story. IsToldOf bytes.now policy (lines_in trace.now) story.text) }
 {
     let texts = texts_of(alloc, bytes)?;
     let mut story = Story::new(alloc, &policy)?;
     let mut ready = start(alloc, policy, trace)?;
     explain(alloc, &mut ready, trace, &texts, &mut story)?;
+    story.end(ready.core.policy())?;
     Ok(story)
 }
 
@@ -50,7 +51,7 @@ fn explained(
 
 /// What is told of the lines of a trace under a policy.
 fn story_of(alloc: Global, policy: &[u8], trace: &[u8]) -> Result<Story, RunFault>
-    ensures story { IfOk result (IsStoryOf policy.now trace.now) }
+    ensures story { IfOk result (λ story. IsExplained policy.now trace.now story.text) }
     ensures faulty { IfErr result (λ fault. IsFaulty (status_of fault) policy.now trace.now) }
 {
     let read = read_policy(alloc, policy)?;
@@ -72,8 +73,8 @@ fn run<W: Sink>(alloc: Global, policy: &[u8], trace: &[u8], out: &mut W) -> Resu
 }
 
 /// Replays a trace, and writes each of its lines that has a command with its number, what a replay
-/// prints for it, and behind an answer that serves nothing the reason, in the policy's words. All
-/// is written at the end, so a fault, or want of memory, at whatever request, leaves nothing
+/// prints for it, and behind an answer that serves nothing the reason, in the policy's words; and then
+/// how many lines came to what, and how much was denied to whom. All is written at the end, so a fault, or want of memory, at whatever request, leaves nothing
 /// written.
 ///
 /// The policy is read first; the first fault is told on `err`, whose own faults are ignored, as a

@@ -136,6 +136,30 @@ elsewhere: nobody holds segment 2
 ok
 39: w0 free stranger z
 denied stranger: the policy has no tenant stranger
+
+answers 37
+  served 9
+  denied stranger 2
+  denied stale 3
+  denied freed 2
+  denied arena 3
+  denied forbidden 1
+  denied grant 2
+  denied limit 1
+  large 1
+  noroom 1
+  elsewhere 2
+  range 1
+  busy 1
+  empty 1
+  notheld 2
+  nosegment 2
+  unbound 3
+denials 14
+  alice 5
+  bob 5
+  carol 2
+  (no tenant) 2
 ";
 
 /// The explanation of a trace ends so.
@@ -209,6 +233,15 @@ denied limit: alice has 24 of 64 bytes with worker 0, and asks for 44, a block o
 unbound: line 3 was denied limit
 5: w0 write bob x 0 1
 denied grant: alice lets bob read and free, not write
+
+answers 5
+  served 2
+  denied grant 1
+  denied limit 1
+  unbound 1
+denials 2
+  alice 1
+  bob 1
 ";
 
 /// The story, or want of memory and nothing written.
