@@ -20,11 +20,14 @@ unproved() {
     guard
     scratch=$(mktemp -d)
     # The option goes behind the files, wherever it stood; behind `--` it is the name of one.
-    explain='' ended=''
+    option='' ended=''
     for it; do
         shift
         [ "$it" != -- ] || ended=yes
-        if [ "$ended$it" = --explain ]; then explain=$it; else set -- "$@" "$it"; fi
+        case $ended$it in
+            --explain | --json) option=$it ;;
+            *) set -- "$@" "$it" ;;
+        esac
     done
     # Only a race has threads, of which it is worth saying that nobody looks for races of theirs.
     left_out='/^\(checked\|interpreter\): /d; /^run=ended /d'
@@ -34,10 +37,10 @@ unproved() {
             lend policy "$2"
             set -- "$1" policy
             ;;
-        replay/3)
+        check/3 | replay/3)
             lend policy "$2"
             lend trace "$3"
-            set -- replay policy trace
+            set -- "$1" policy trace
             ;;
         race/3)
             lend policy "$2"
@@ -58,7 +61,7 @@ unproved() {
             ;;
     esac
     # shellcheck disable=SC2086 # no word where it is empty
-    set -- -- "$@" $explain
+    set -- -- "$@" $option
     for it in "$scratch/policy" "$scratch"/trace*; do
         [ ! -f "$it" ] || set -- --data "${it##*/}=$it" "$@"
     done

@@ -8,7 +8,7 @@ use std::alloc::Global;
 use std::fs;
 use std::io::IsTerminal;
 
-/// The files and the terminal of the system.
+/// The files and the terminal of the system. The file `-` is the input.
 #[derive(Drop)]
 pub(crate) struct Disk<'a> {
     pub(crate) rt: &'a HostRuntime,
@@ -22,6 +22,9 @@ impl Host for Disk<'_> {
     ghost may_be_terminal = { λ _. true };
 
     fn read_file(&self, alloc: Global, path: &str) -> Result<Vec<u8>, ReadFault> {
+        if path == "-" {
+            return read_limited(alloc, &mut self.rt.reader());
+        }
         match fs::open(self.rt, path) {
             Ok(mut file) => read_limited(alloc, &mut file),
             Err(_) => Err(ReadFault::Failed),

@@ -1,5 +1,5 @@
 -- What the words of some command lines are answered.
-use Rattle.std.proofs.Common.{◌≡◌, ◌≢◌, ◌⊎◌, [], ◌∷◌, refl, inl, inr, ap, sym, subst, codes, slice_index, arith, Some}
+use Rattle.std.proofs.Common.{◌≡◌, ◌≢◌, ◌⊎◌, ℕ, List, [], ◌∷◌, refl, inl, inr, ap, sym, subst, codes, slice_index, arith, Some}
 use Rattle.clap.specs.Faults.{defaults_fault, walk_fault}
 use Rattle.clap.specs.Walk.{walked}
 use Rattle.clap.specs.declared.error.kind.ErrorKind.{ErrorKind}
@@ -7,7 +7,7 @@ use Rattle.clap.specs.declared.error.kind.ErrorKind.TheVariants as kind
 use Rattle.hg_job.specs.Jobs.{IsDecimal, IsNumber, RefusedBy, faults_of}
 use Rattle.hg_job.specs.JobLaws.{OptionsAreJobs, WordsAreJobs, RequestsArePrinted, IsPrinted, IsTold}
 use Rattle.hg_job.specs.declared.job.Job.TheVariants.{Joined, Check, Replay, Race, Test, Show}
-use Rattle.hg_job.specs.declared.job.Job.TheVariants.{ExplainJoined, Explain}
+use Rattle.hg_job.specs.declared.job.Job.TheVariants.{ExplainJoined, Explain, CheckTrace, ShowJson}
 use Rattle.hg_job.specs.declared.job.JobFault.{JobFault}
 use Rattle.hg_job.specs.declared.job.JobFault.TheVariants.{Print, Line, Memory}
 
@@ -27,10 +27,30 @@ test_is_no_race e = let first : 116 ≡ 114 = ap (λ text. slice_index text 0) e
 job_of : {A B : Type 0} → A × B → B
 job_of (none, job) = job
 
+-- what a text is that is the same as one that is there
+some_of : {a b : List ℕ} → Some a ≡ Some b → b ≡ a
+some_of e = cc
+
 pub words_are_jobs : WordsAreJobs
 unfolding walked
-words_are_jobs Joined = ((λ e. e), (λ h. job_of h), (λ h. job_of h), (λ h. job_of h), (λ h. job_of h), (λ h. job_of h))
-words_are_jobs ExplainJoined = ((λ e. e), (λ h. job_of h), (λ h. job_of h), (λ h. job_of h), (λ h. job_of h), (λ h. job_of h))
+words_are_jobs Joined = (
+  (λ e. e),
+  (λ h. job_of h),
+  (λ h. job_of h),
+  (λ h. job_of h),
+  (λ h. job_of h),
+  (λ h. job_of h),
+  (λ h. job_of h),
+)
+words_are_jobs ExplainJoined = (
+  (λ e. e),
+  (λ h. job_of h),
+  (λ h. job_of h),
+  (λ h. job_of h),
+  (λ h. job_of h),
+  (λ h. job_of h),
+  (λ h. job_of h),
+)
 words_are_jobs (Check policy) = (
   (λ e. e),
   (λ h. (job_of h).1),
@@ -38,11 +58,22 @@ words_are_jobs (Check policy) = (
   (λ h. let e = (job_of h).0 in absurd (cc)),
   (λ h. let e = (job_of h).0 in absurd (cc)),
   (λ h. let e = (job_of h).0 in absurd (cc)),
+  (λ h. let found = (job_of h).2 in absurd (cc)),
+)
+words_are_jobs (CheckTrace policy trace) = (
+  (λ e. e),
+  (λ h. let found = (job_of h).2 in absurd (cc)),
+  (λ h. let e = (job_of h).0 in absurd (cc)),
+  (λ h. let e = (job_of h).0 in absurd (cc)),
+  (λ h. let e = (job_of h).0 in absurd (cc)),
+  (λ h. let e = (job_of h).0 in absurd (cc)),
+  (λ h. let job = job_of h in (job.1, some_of job.2)),
 )
 words_are_jobs (Replay policy trace) = (
   (λ e. e),
   (λ h. let e = (job_of h).0 in absurd (cc)),
   (λ h. let job = job_of h in (job.1, job.2)),
+  (λ h. let e = (job_of h).0 in absurd (cc)),
   (λ h. let e = (job_of h).0 in absurd (cc)),
   (λ h. let e = (job_of h).0 in absurd (cc)),
   (λ h. let e = (job_of h).0 in absurd (cc)),
@@ -54,6 +85,7 @@ words_are_jobs (Explain policy trace) = (
   (λ h. let e = (job_of h).0 in absurd (cc)),
   (λ h. let e = (job_of h).0 in absurd (cc)),
   (λ h. let e = (job_of h).0 in absurd (cc)),
+  (λ h. let e = (job_of h).0 in absurd (cc)),
 )
 words_are_jobs (Race policy rounds) = (
   (λ e. e),
@@ -62,6 +94,7 @@ words_are_jobs (Race policy rounds) = (
   (λ h. let job = job_of h in let read : IsNumber (Some (codes "1000")) rounds = job.2 in (job.1, read.0 is_1000)),
   (λ h. absurd (test_is_no_race (job_of h).0)),
   (λ h. absurd (race_is_no_show (sym (job_of h).0))),
+  (λ h. let e = (job_of h).0 in absurd (cc)),
 )
 words_are_jobs (Test policy traces) = (
   (λ e. e),
@@ -70,6 +103,7 @@ words_are_jobs (Test policy traces) = (
   (λ h. absurd (test_is_no_race (sym (job_of h).0))),
   (λ h. let job = job_of h in (job.1, job.2)),
   (λ h. absurd (test_is_no_show (sym (job_of h).0))),
+  (λ h. let e = (job_of h).0 in absurd (cc)),
 )
 words_are_jobs (Show policy) = (
   (λ e. e),
@@ -78,22 +112,70 @@ words_are_jobs (Show policy) = (
   (λ h. absurd (race_is_no_show (job_of h).0)),
   (λ h. absurd (test_is_no_show (job_of h).0)),
   (λ h. (job_of h).1),
+  (λ h. let e = (job_of h).0 in absurd (cc)),
+)
+words_are_jobs (ShowJson policy) = (
+  (λ e. e),
+  (λ h. let e = (job_of h).0 in absurd (cc)),
+  (λ h. let e = (job_of h).0 in absurd (cc)),
+  (λ h. absurd (race_is_no_show (job_of h).0)),
+  (λ h. absurd (test_is_no_show (job_of h).0)),
+  (λ h. let given = (job_of h).2 in absurd (cc)),
+  (λ h. let e = (job_of h).0 in absurd (cc)),
 )
 
 pub options_are_jobs : OptionsAreJobs
 unfolding walked
-options_are_jobs Joined = ((λ e. e), (λ h. job_of h), (λ h. job_of h))
-options_are_jobs ExplainJoined = ((λ e. e), (λ h. job_of h), (λ h. job_of h))
-options_are_jobs (Check policy) = ((λ e. e), (λ h. let e = (job_of h).0 in absurd (cc)), (λ h. let e = (job_of h).0 in absurd (cc)))
-options_are_jobs (Race policy rounds) = ((λ e. e), (λ h. let e = (job_of h).0 in absurd (cc)), (λ h. let e = (job_of h).0 in absurd (cc)))
-options_are_jobs (Test policy traces) = ((λ e. e), (λ h. let e = (job_of h).0 in absurd (cc)), (λ h. let e = (job_of h).0 in absurd (cc)))
-options_are_jobs (Show policy) = ((λ e. e), (λ h. let e = (job_of h).0 in absurd (cc)), (λ h. let e = (job_of h).0 in absurd (cc)))
+options_are_jobs Joined = ((λ e. e), (λ h. job_of h), (λ h. job_of h), (λ h. job_of h))
+options_are_jobs ExplainJoined = ((λ e. e), (λ h. job_of h), (λ h. job_of h), (λ h. job_of h))
+options_are_jobs (Check policy) = (
+  (λ e. e),
+  (λ h. let e = (job_of h).0 in absurd (cc)),
+  (λ h. let e = (job_of h).0 in absurd (cc)),
+  (λ h. let e = (job_of h).0 in absurd (cc)),
+)
+options_are_jobs (CheckTrace policy trace) = (
+  (λ e. e),
+  (λ h. let e = (job_of h).0 in absurd (cc)),
+  (λ h. let e = (job_of h).0 in absurd (cc)),
+  (λ h. let e = (job_of h).0 in absurd (cc)),
+)
+options_are_jobs (Race policy rounds) = (
+  (λ e. e),
+  (λ h. let e = (job_of h).0 in absurd (cc)),
+  (λ h. let e = (job_of h).0 in absurd (cc)),
+  (λ h. absurd (race_is_no_show (sym (job_of h).0))),
+)
+options_are_jobs (Test policy traces) = (
+  (λ e. e),
+  (λ h. let e = (job_of h).0 in absurd (cc)),
+  (λ h. let e = (job_of h).0 in absurd (cc)),
+  (λ h. absurd (test_is_no_show (sym (job_of h).0))),
+)
+options_are_jobs (Show policy) = (
+  (λ e. e),
+  (λ h. let e = (job_of h).0 in absurd (cc)),
+  (λ h. let e = (job_of h).0 in absurd (cc)),
+  (λ h. let given = (job_of h).2 in absurd (cc)),
+)
+options_are_jobs (ShowJson policy) = (
+  (λ e. e),
+  (λ h. let e = (job_of h).0 in absurd (cc)),
+  (λ h. let e = (job_of h).0 in absurd (cc)),
+  (λ h. (job_of h).1),
+)
 options_are_jobs (Replay policy trace) = (
   (λ e. e),
   (λ h. let given = (job_of h).3 in absurd (cc)),
   (λ h. let given = (job_of h).3 in absurd (cc)),
+  (λ h. let e = (job_of h).0 in absurd (cc)),
 )
-options_are_jobs (Explain policy trace) = ((λ e. e), (λ h. let job = job_of h in (job.1, job.2)), (λ h. let job = job_of h in (job.1, job.2)))
+options_are_jobs (Explain policy trace) = (
+  (λ e. e),
+  (λ h. let job = job_of h in (job.1, job.2)),
+  (λ h. let job = job_of h in (job.1, job.2)),
+  (λ h. let e = (job_of h).0 in absurd (cc)),
+)
 
 -- where a request is all that the words may be refused for
 only_printed : (k : ErrorKind) → (k ≡ kind.DisplayHelp) ⊎ (k ≡ kind.DisplayVersion) → (fault : JobFault) → RefusedBy (k ∷ []) fault → IsPrinted fault
@@ -149,6 +231,22 @@ faults_of-before : faults_of (codes "--explain" ∷ codes "check" ∷ codes "p" 
 unfolding walk_fault walked defaults_fault
 faults_of-before = refl
 
+faults_of-help_word : faults_of (codes "help" ∷ []) ≡ kind.DisplayHelp ∷ []
+unfolding walk_fault walked defaults_fault
+faults_of-help_word = refl
+
+faults_of-help_check : faults_of (codes "help" ∷ codes "check" ∷ []) ≡ kind.DisplayHelp ∷ []
+unfolding walk_fault walked defaults_fault
+faults_of-help_check = refl
+
+faults_of-help_jump : faults_of (codes "help" ∷ codes "jump" ∷ []) ≡ kind.UnknownArgument ∷ kind.InvalidSubcommand ∷ []
+unfolding walk_fault walked defaults_fault
+faults_of-help_jump = refl
+
+faults_of-two_inputs : faults_of (codes "replay" ∷ codes "-" ∷ codes "-" ∷ []) ≡ kind.ArgumentConflict ∷ []
+unfolding walk_fault walked defaults_fault
+faults_of-two_inputs = refl
+
 pub requests_are_printed : RequestsArePrinted
 requests_are_printed fault = (
   (λ h. only_printed kind.DisplayHelp (inl refl) fault (subst (λ ks. RefusedBy ks fault) faults_of-help h)),
@@ -157,4 +255,8 @@ requests_are_printed fault = (
   (λ h. only_one_told kind.ValueValidation (λ e. cc) (λ e. cc) fault (subst (λ ks. RefusedBy ks fault) faults_of-no_rounds h)),
   (λ h. only_one_told kind.ArgumentConflict (λ e. cc) (λ e. cc) fault (subst (λ ks. RefusedBy ks fault) faults_of-twice h)),
   (λ h. only_one_told kind.ArgumentConflict (λ e. cc) (λ e. cc) fault (subst (λ ks. RefusedBy ks fault) faults_of-before h)),
+  (λ h. only_printed kind.DisplayHelp (inl refl) fault (subst (λ ks. RefusedBy ks fault) faults_of-help_word h)),
+  (λ h. only_printed kind.DisplayHelp (inl refl) fault (subst (λ ks. RefusedBy ks fault) faults_of-help_check h)),
+  (λ h. only_told kind.UnknownArgument kind.InvalidSubcommand (λ e. cc) (λ e. cc) (λ e. cc) (λ e. cc) fault (subst (λ ks. RefusedBy ks fault) faults_of-help_jump h)),
+  (λ h. only_one_told kind.ArgumentConflict (λ e. cc) (λ e. cc) fault (subst (λ ks. RefusedBy ks fault) faults_of-two_inputs h)),
 )

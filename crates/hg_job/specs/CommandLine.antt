@@ -23,8 +23,14 @@ several name = record (required name) {
 abbrev pub flag : Text → Rule
 flag name = record (new_rule name) { long = Some name; action = Some SetTrue }
 
+-- an operand that may be left out
+abbrev pub optional : Text → Rule
+optional name = new_rule name
+
 abbrev pub check : App
-check = with_rule (new_app (codes "check")) (required (codes "POLICY"))
+check =
+    with_rule (with_rule (new_app (codes "check")) (required (codes "POLICY")))
+    (optional (codes "TRACE"))
 
 abbrev pub replay : App
 replay =
@@ -44,7 +50,9 @@ test =
     (several (codes "TRACE"))
 
 abbrev pub show : App
-show = with_rule (new_app (codes "show")) (required (codes "POLICY"))
+show =
+    with_rule (with_rule (new_app (codes "show")) (required (codes "POLICY")))
+    (flag (codes "json"))
 
 -- the program alone: its words come without its own name, and help and the version are asked for by
 -- flags
@@ -61,6 +69,10 @@ named = record (new_app (codes "heapguard")) {
 abbrev pub alone : App
 alone = with_rule named (flag (codes "explain"))
 
+-- a command of its own asks for help, of the program or of a command
+abbrev pub help : App
+help = with_rule (new_app (codes "help")) (optional (codes "COMMAND"))
+
 -- the program with the commands that read a policy or a trace once, with those that run traces and
 -- races too, and with all its commands
 abbrev pub reader : App
@@ -70,7 +82,7 @@ abbrev pub runner : App
 runner = with_subcommand (with_subcommand reader race.top) test.top
 
 abbrev pub heapguard : App
-heapguard = with_subcommand runner show.top
+heapguard = with_subcommand (with_subcommand runner show.top) help.top
 
 -- the names of the commands
 abbrev pub command_names : List Text

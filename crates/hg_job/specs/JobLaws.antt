@@ -5,7 +5,7 @@ use Rattle.hg_job.specs.CommandLine.{heapguard}
 use Rattle.hg_job.specs.Jobs.{IsJobAt, RefusedBy, faults_of}
 use Rattle.hg_job.specs.declared.job.Job.{Job}
 use Rattle.hg_job.specs.declared.job.Job.TheVariants.{Joined, Check, Replay, Race, Test, Show}
-use Rattle.hg_job.specs.declared.job.Job.TheVariants.{ExplainJoined, Explain}
+use Rattle.hg_job.specs.declared.job.Job.TheVariants.{ExplainJoined, Explain, CheckTrace, ShowJson}
 use Rattle.hg_job.specs.declared.job.JobFault.{JobFault}
 use Rattle.hg_job.specs.declared.job.JobFault.TheVariants.{Print, Line}
 
@@ -13,6 +13,12 @@ use Rattle.hg_job.specs.declared.job.JobFault.TheVariants.{Print, Line}
 abbrev pub IsCheckOf : Text → Job → Type 0
 IsCheckOf file (Check policy) = policy.now ≡ file
 IsCheckOf file _ = ⊥
+
+-- a check of the policy of the first file, and of the trace of the second
+abbrev pub IsCheckTraceOf : Text → Text → Job → Type 0
+IsCheckTraceOf first second (CheckTrace policy trace) =
+    (policy.now ≡ first) × (trace.now ≡ second)
+IsCheckTraceOf first second _ = ⊥
 
 -- a replay of the second file under the first
 abbrev pub IsReplayOf : Text → Text → Job → Type 0
@@ -40,6 +46,11 @@ abbrev pub IsShowOf : Text → Job → Type 0
 IsShowOf file (Show policy) = policy.now ≡ file
 IsShowOf file _ = ⊥
 
+-- the same, as JSON
+abbrev pub IsShowJsonOf : Text → Job → Type 0
+IsShowJsonOf file (ShowJson policy) = policy.now ≡ file
+IsShowJsonOf file _ = ⊥
+
 -- the words ask for this job
 abbrev pub AskFor : List Text → Job → Type 0
 AskFor words job = IsJobAt (matches_of heapguard words) (subcommand_of heapguard words) job
@@ -56,8 +67,10 @@ WordsAreJobs =
     × (AskFor (codes "test" ∷ codes "p" ∷ codes "t" ∷ codes "u" ∷ []) job
     → IsTestOf (codes "p") (codes "t" ∷ codes "u" ∷ []) job)
     × (AskFor (codes "show" ∷ codes "p" ∷ []) job → IsShowOf (codes "p") job)
+    × (AskFor (codes "check" ∷ codes "p" ∷ codes "t" ∷ []) job
+    → IsCheckTraceOf (codes "p") (codes "t") job)
 
--- and so where an explanation is asked for
+-- and so where an explanation is asked for, or JSON
 abbrev pub OptionsAreJobs : Type 0
 OptionsAreJobs =
     (job : Job)
@@ -66,6 +79,7 @@ OptionsAreJobs =
     → IsExplainOf (codes "p") (codes "t") job)
     × (AskFor (codes "replay" ∷ codes "p" ∷ codes "t" ∷ codes "--explain" ∷ []) job
     → IsExplainOf (codes "p") (codes "t") job)
+    × (AskFor (codes "show" ∷ codes "p" ∷ codes "--json" ∷ []) job → IsShowJsonOf (codes "p") job)
 
 -- a text to print, or want of memory
 abbrev pub IsPrinted : JobFault → Type 0
@@ -77,8 +91,9 @@ abbrev pub IsTold : JobFault → Type 0
 IsTold (Print text) = ⊥
 IsTold _ = ⊤
 
--- help and the version are printed; and a word that is no command, a race of no rounds, an option
--- twice, and one before a command, are told
+-- help, of the program and of a command, and the version are printed; and a word that is no command,
+-- also behind `help`, a race of no rounds, an option twice, one before a command, and two files that
+-- are the standard input, are told
 abbrev pub RequestsArePrinted : Type 0
 RequestsArePrinted =
     (fault : JobFault)
@@ -89,3 +104,7 @@ RequestsArePrinted =
     × (RefusedBy (faults_of (codes "--explain" ∷ codes "--explain" ∷ [])) fault → IsTold fault)
     × (RefusedBy (faults_of (codes "--explain" ∷ codes "check" ∷ codes "p" ∷ [])) fault
     → IsTold fault)
+    × (RefusedBy (faults_of (codes "help" ∷ [])) fault → IsPrinted fault)
+    × (RefusedBy (faults_of (codes "help" ∷ codes "check" ∷ [])) fault → IsPrinted fault)
+    × (RefusedBy (faults_of (codes "help" ∷ codes "jump" ∷ [])) fault → IsTold fault)
+    × (RefusedBy (faults_of (codes "replay" ∷ codes "-" ∷ codes "-" ∷ [])) fault → IsTold fault)

@@ -1,7 +1,7 @@
 -- The job that a command with its operands asks for.
 use Rattle.std.specs.Prelude.{⊤, ◌⊎◌, ◌≡◌, ◌≢◌, ◌<◌, ◌^◌, ℕ, List, [], Option, Some, None, Result, Ok}
 use Rattle.std.specs.Prelude.{Err, Bool, true, false, ◌&&◌, not, Contains, is_some, unwrap_or}
-use Rattle.std.specs.Prelude.{codes, map, ◌∷◌, if◌then◌else◌}
+use Rattle.std.specs.Prelude.{codes, map, ◌∷◌, ◌||◌, count_by, nat_lt, if◌then◌else◌}
 use Rattle.std.specs.Str.{bytes_eq}
 use Rattle.std.specs.Str.Parse.{IsNumeral, digits_value, without_leading_plus}
 use Rattle.clap.specs.Words.{Row, Text, all_of, first_of, one_of, matches_of, subcommand_of}
@@ -12,7 +12,7 @@ use Rattle.clap.specs.declared.error.kind.ErrorKind.TheVariants as kind
 use Rattle.hg_job.specs.CommandLine.{heapguard, command_names}
 use Rattle.hg_job.specs.declared.job.Job.{Job}
 use Rattle.hg_job.specs.declared.job.Job.TheVariants.{Joined, Check, Replay, Race, Test, Show}
-use Rattle.hg_job.specs.declared.job.Job.TheVariants.{ExplainJoined, Explain}
+use Rattle.hg_job.specs.declared.job.Job.TheVariants.{ExplainJoined, Explain, CheckTrace, ShowJson}
 use Rattle.hg_job.specs.declared.job.JobFault.{JobFault}
 use Rattle.hg_job.specs.declared.job.JobFault.TheVariants.{Print, Line, Memory}
 
@@ -47,6 +47,10 @@ IsJobOf name rows Joined = ⊥
 IsJobOf name rows ExplainJoined = ⊥
 IsJobOf name rows (Check policy) =
     (name ≡ codes "check") × (policy.now ≡ operand (codes "POLICY") rows)
+    × (first_of (codes "TRACE") rows ≡ None)
+IsJobOf name rows (CheckTrace policy trace) =
+    (name ≡ codes "check") × (policy.now ≡ operand (codes "POLICY") rows)
+    × (first_of (codes "TRACE") rows ≡ Some trace.now)
 IsJobOf name rows (Replay policy trace) =
     (name ≡ codes "replay") × (policy.now ≡ operand (codes "POLICY") rows)
     × (trace.now ≡ operand (codes "TRACE") rows) × (is_given (codes "explain") rows ≡ false)
@@ -61,29 +65,65 @@ IsJobOf name rows (Test policy traces) =
     × (map (λ trace. trace.now) traces.items ≡ operands (codes "TRACE") rows)
 IsJobOf name rows (Show policy) =
     (name ≡ codes "show") × (policy.now ≡ operand (codes "POLICY") rows)
+    × (is_given (codes "json") rows ≡ false)
+IsJobOf name rows (ShowJson policy) =
+    (name ≡ codes "show") × (policy.now ≡ operand (codes "POLICY") rows)
+    × (is_given (codes "json") rows ≡ true)
+
+-- a file of this name is the standard input
+abbrev pub is_input : Text → Bool
+is_input name = bytes_eq name (codes "-")
+
+-- two of these files are: the policy and a trace, or two traces
+abbrev pub is_read_twice : Text → List Text → Bool
+is_read_twice policy traces =
+    (is_input policy && nat_lt 0 (count_by is_input traces)) || nat_lt 1 (count_by is_input traces)
+
+abbrev pub reads_twice : List Row → Bool
+reads_twice rows = is_read_twice (operand (codes "POLICY") rows) (operands (codes "TRACE") rows)
+
+abbrev pub twice_faults : List Row → Kinds
+twice_faults rows = if reads_twice rows then kind.ArgumentConflict ∷ [] else []
+
+-- the words that `help` stands for, as which it is answered
+abbrev pub help_words : Option Text → List Text
+help_words None = codes "--help" ∷ []
+help_words (Some name) = name ∷ codes "--help" ∷ []
+
+abbrev pub help_faults : List Row → Kinds
+help_faults rows =
+    or_else (fault_of heapguard (help_words (first_of (codes "COMMAND") rows)))
+    (kind.InvalidSubcommand ∷ [])
+
+-- what is against a command where the parser has nothing: an option of the program alone before it;
+-- that it is `help`; or that two files are the standard input
+abbrev pub against : List Row → Option (Text × List Row) → Kinds
+against options None = []
+against options (Some p) =
+    if is_given (codes "explain") options then kind.ArgumentConflict ∷ []
+    else (if bytes_eq p.0 (codes "help") then help_faults p.1 else twice_faults p.1)
 
 -- the job of the command that was entered, if any was, behind these options
 abbrev pub IsJobAt : List Row → Option (Text × List Row) → Job → Type 0
 IsJobAt options None job =
     job ≡ (if is_given (codes "explain") options then ExplainJoined else Joined)
-IsJobAt options (Some p) job =
-    (is_given (codes "explain") options ≡ false) × IsJobOf p.0 p.1 job
+IsJobAt options (Some p) job = (against options (Some p) ≡ []) × IsJobOf p.0 p.1 job
 
--- an option of the program alone stands before a command, which has its own
-abbrev pub is_before : List Row → Option (Text × List Row) → Bool
-is_before options entered = is_given (codes "explain") options && is_some entered
+-- what is so against words
+abbrev pub against_words : List Text → Kinds
+against_words words = against (matches_of heapguard words) (subcommand_of heapguard words)
 
-abbrev pub is_misplaced : List Text → Bool
-is_misplaced words = is_before (matches_of heapguard words) (subcommand_of heapguard words)
+abbrev pub is_none : Kinds → Bool
+is_none [] = true
+is_none _ = false
 
 -- whether the words are a command line of the program
 abbrev pub accepts : List Text → Bool
-accepts words = takes heapguard words && not (is_misplaced words)
+accepts words = takes heapguard words && is_none (against_words words)
 
--- what may be against them: what the parser finds, and else an option before a command
+-- what may be against them: what the parser finds, and else this
 abbrev pub faults_of : List Text → Kinds
-faults_of words = or_else (fault_of heapguard words)
-    (if is_misplaced words then kind.ArgumentConflict ∷ [] else [])
+faults_of words = or_else (fault_of heapguard words) (against_words words)
 
 -- the command that was entered, if any was, is one of the program's
 abbrev pub IsKnown : Option (Text × List Row) → Type 0
@@ -96,12 +136,6 @@ abbrev pub TellsOf : ErrorKind → JobFault → Type 0
 TellsOf k (Print text) = (k ≡ kind.DisplayHelp) ⊎ (k ≡ kind.DisplayVersion)
 TellsOf k (Line text) = (k ≢ kind.DisplayHelp) × (k ≢ kind.DisplayVersion)
 TellsOf k Memory = ⊥
-
--- the refusal tells of an option before a command, where there is one, or of want of memory
-abbrev pub IsBefore : List Row → Option (Text × List Row) → JobFault → Type 0
-IsBefore options entered e =
-    (e ≡ Memory)
-    ⊎ ((is_before options entered ≡ true) × TellsOf kind.ArgumentConflict e)
 
 -- the refusal tells of one of the kinds, or of want of memory
 abbrev pub RefusedBy : Kinds → JobFault → Type 0

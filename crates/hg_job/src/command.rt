@@ -2,8 +2,9 @@
 ghost use Rattle.std.specs.Prelude.{◌≡◌, codes, false, IfOk};
 ghost use Rattle.clap.specs.Words.{app_of, rule_of};
 ghost use Rattle.clap.specs.declared.builder.command.Command.TheViews.{out-Command};
-ghost use Rattle.hg_job.specs.CommandLine.{alone, check, counted, flag, heapguard, named, race};
-ghost use Rattle.hg_job.specs.CommandLine.{reader, replay, required, runner, several, show, test};
+ghost use Rattle.hg_job.specs.CommandLine.{alone, check, counted, flag, heapguard, help, named};
+ghost use Rattle.hg_job.specs.CommandLine.{optional, race, reader, replay, required, runner, several};
+ghost use Rattle.hg_job.specs.CommandLine.{show, test};
 
 use clap::{Arg, ArgAction, Command, value_parser};
 use std::alloc::{AllocError, Global};
@@ -26,11 +27,14 @@ Exit status:
 const CHECK_ABOUT: &str = "Reads a policy and counts what it names";
 
 const CHECK_MORE: &str = "\
-Prints one line, `ok workers N tenants N arenas N segments N`.
+Prints one line, `ok workers N tenants N arenas N segments N`. With a trace it reads that too,
+and then warns of each tenant and arena that a line names and the policy lacks: the first
+such line, a name of the policy that is like it, and how many such lines there are.
 
 Exit status:
-  0  the policy has no fault
+  0  the policy has no fault, nor has the trace
   1  the policy has a fault, told in one line on standard error
+  2  the trace has a fault, told with its line's number
   3  reading or writing failed, or memory was refused
   4  the command line is wrong";
 
@@ -85,14 +89,16 @@ const SHOW_ABOUT: &str = "Prints what a policy says";
 const SHOW_MORE: &str = "\
 Prints how many workers and generations there are; of each tenant its limit and the arenas
 that it may be in; of each arena its segments and the tenants that it admits; and in a row
-for each tenant what it may do with the blocks of each: `-` isn't granted, `!` is denied.
-Then it warns of each tenant and arena that can't be of use.
+for each tenant what it may do with the blocks of each: `-` isn't granted, `!` is denied,
+`.` is granted where no arena is in common. Then it warns of each row that can't be of use.
 
 Exit status:
   0  the policy has no fault
   1  the policy has a fault, told in one line on standard error
   3  reading or writing failed, or memory was refused
   4  the command line is wrong";
+
+const HELP_ABOUT: &str = "Prints this help, or that of a command";
 
 /// An operand that has to be there.
 fn operand<'a>(alloc: Global, name: &'a str, help: &'a str) -> Arg<'a>
@@ -106,7 +112,11 @@ fn policy<'a>(alloc: Global) -> Arg<'a>
     ensures rule { rule_of result ≡ required (codes "POLICY") }
     ensures local { result.global ≡ false }
 {
-    operand(alloc, "POLICY", "File with the policy, a TOML document")
+    operand(
+        alloc,
+        "POLICY",
+        "File with the policy, a TOML document; `-` is standard input",
+    )
 }
 
 fn trace<'a>(alloc: Global) -> Arg<'a>
@@ -136,14 +146,31 @@ fn traces<'a>(alloc: Global) -> Arg<'a>
     .num_args(1..)
 }
 
+/// An operand that may be left out.
+fn optional<'a>(alloc: Global, name: &'a str, help: &'a str) -> Arg<'a>
+    ensures rule { rule_of result ≡ optional name.entry.now }
+    ensures local { result.global ≡ false }
+{
+    Arg::new(alloc, name).help(help)
+}
+
+/// An option that is there or not.
+fn option<'a>(alloc: Global, name: &'a str, help: &'a str) -> Arg<'a>
+    ensures rule { rule_of result ≡ flag name.entry.now }
+    ensures local { result.global ≡ false }
+{
+    Arg::new(alloc, name)
+        .long(name)
+        .action(ArgAction::SetTrue)
+        .help(help)
+}
+
 fn explain<'a>(alloc: Global) -> Arg<'a>
     ensures rule { rule_of result ≡ flag (codes "explain") }
     ensures local { result.global ≡ false }
 {
-    Arg::new(alloc, "explain")
-        .long("explain")
-        .action(ArgAction::SetTrue)
-        .help("Print each line with its answer and the reason")
+    let help = "Print each line with its answer and the reason";
+    option(alloc, "explain", help)
 }
 
 fn check_command<'a>(alloc: Global) -> Result<Command<'a>, AllocError>
@@ -153,7 +180,8 @@ fn check_command<'a>(alloc: Global) -> Result<Command<'a>, AllocError>
     Command::new(alloc, "check")
         .about(CHECK_ABOUT)
         .after_help(CHECK_MORE)
-        .arg(policy(alloc))
+        .arg(policy(alloc))?
+        .arg(optional(alloc, "TRACE", "File with a trace for it"))
 }
 
 fn replay_command<'a>(alloc: Global) -> Result<Command<'a>, AllocError>
@@ -197,7 +225,17 @@ fn show_command<'a>(alloc: Global) -> Result<Command<'a>, AllocError>
     Command::new(alloc, "show")
         .about(SHOW_ABOUT)
         .after_help(SHOW_MORE)
-        .arg(policy(alloc))
+        .arg(policy(alloc))?
+        .arg(option(alloc, "json", "Print it as JSON, for programs"))
+}
+
+fn help_command<'a>(alloc: Global) -> Result<Command<'a>, AllocError>
+    ensures app { IfOk result (λ c. app_of c ≡ help) }
+    ensures local { IfOk result (λ c. (out-Command c).has_globals ≡ false) }
+{
+    Command::new(alloc, "help")
+        .about(HELP_ABOUT)
+        .arg(optional(alloc, "COMMAND", "Name of a command"))
 }
 
 /// The program with no command and no option yet.
@@ -244,5 +282,6 @@ pub(crate) fn command<'a>(alloc: Global) -> Result<Command<'a>, AllocError>
     ensures { IfOk result (λ c. app_of c ≡ heapguard) }
 {
     let show = show_command(alloc)?;
-    runner(alloc)?.subcommand(show)
+    let help = help_command(alloc)?;
+    runner(alloc)?.subcommand(show)?.subcommand(help)
 }

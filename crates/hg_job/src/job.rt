@@ -12,7 +12,8 @@ use clap::Error;
 use clap::error::ErrorKind;
 use std::alloc::{AllocError, Global};
 
-/// What is to be done. Each operand is the name of a file, as it was written.
+/// What is to be done. Each operand is the name of a file, as it was written; `-`, the standard input,
+/// is one file at most.
 #[derive(Debug, Drop)]
 pub enum Job<'a> {
     /// Replay what stands on standard input: the policy, a line `---`, and the trace.
@@ -21,6 +22,9 @@ pub enum Job<'a> {
     ExplainJoined,
     /// Read the policy of this file, and count what it names.
     Check(&'a str),
+    /// The same, and then read the trace of the second file, and tell which of its names the policy
+    /// lacks.
+    CheckTrace(&'a str, &'a str),
     /// Read the policy of the first file, and replay the trace of the second.
     Replay(&'a str, &'a str),
     /// The same, with the reason for each answer.
@@ -32,6 +36,8 @@ pub enum Job<'a> {
     Test(&'a str, Vec<&'a str>),
     /// Print what the policy of this file says.
     Show(&'a str),
+    /// The same, as JSON.
+    ShowJson(&'a str),
 }
 
 /// Why there is nothing to do.

@@ -3,19 +3,21 @@
 ghost use Rattle.hg_job.specs.JobLaws.{OptionsAreJobs, RequestsArePrinted, WordsAreJobs};
 
 /// No words ask for a replay of standard input, `check p` for a check of that file, and `replay p t`
-/// for a replay of the second file under the first.
+/// for a replay of the second file under the first; so with each command that has no option.
 pub fn words_are_jobs()
     ensures { WordsAreJobs }
 {}
 
 /// `--explain` asks for a replay of standard input with reasons, and `replay --explain p t` and
-/// `replay p t --explain` for one of the second file under the first.
+/// `replay p t --explain` for one of the second file under the first; and `show p --json` for what
+/// the policy says as JSON.
 pub fn options_are_jobs()
     ensures { OptionsAreJobs }
 {}
 
-/// `--help` and `--version` are answered by a text to print, and never by a line; a word that is no
-/// command, and an option twice or before a command, by a line, and never by a text to print.
+/// `--help`, `help`, `help check` and `--version` are answered by a text to print, and never by a line;
+/// a word that is no command, also behind `help`, a race of no rounds, an option twice or before a
+/// command, and `-` as two files, by a line, and never by a text to print.
 pub fn requests_are_printed()
     ensures { RequestsArePrinted }
 {}

@@ -1,9 +1,13 @@
 //! The job that a parse found.
-ghost use Rattle.std.specs.Prelude.{◌≡◌, ◌⊎◌, codes, map, Contains, IfErr, IfOk};
-ghost use Rattle.clap.specs.Words.{found_of, one_of, rows_of, subcommand_rows_of};
-ghost use Rattle.hg_job.specs.CommandLine.{command_names};
-ghost use Rattle.hg_job.specs.Jobs.{is_given, operand, operands, IsBefore, IsJobAt, IsJobOf};
-ghost use Rattle.hg_job.specs.Jobs.{IsKnown, IsNumber, TellsOf};
+ghost use Rattle.std.specs.Prelude.{◌≡◌, ◌≢◌, ◌⊎◌, ◌∷◌, [], Some, codes, count_by, map};
+ghost use Rattle.std.specs.Prelude.{option_map, Contains, IfErr, IfOk};
+ghost use Rattle.clap.specs.Kinds.{or_else};
+ghost use Rattle.clap.specs.Words.{fault_of, first_of, found_of, one_of, rows_of};
+ghost use Rattle.clap.specs.Words.{subcommand_rows_of};
+ghost use Rattle.hg_job.specs.CommandLine.{command_names, heapguard};
+ghost use Rattle.hg_job.specs.Jobs.{against, help_faults, is_given, is_input, is_read_twice};
+ghost use Rattle.hg_job.specs.Jobs.{operand, operands, reads_twice, twice_faults, IsJobAt};
+ghost use Rattle.hg_job.specs.Jobs.{IsJobOf, IsKnown, IsNumber, RefusedBy, TellsOf};
 
 use crate::command::command;
 use crate::job::fault_in;
@@ -15,6 +19,20 @@ use std::alloc::{AllocError, Global};
 /// What is told of an option that stands before a command.
 const MISPLACED: &str =
     "'--explain' can't stand before a command: see `heapguard replay --explain POLICY TRACE`";
+
+/// What is told where two files are the standard input.
+const TWICE: &str = "the file '-' is standard input, which can't be read twice";
+
+/// What is told of a word behind `help` for which the parser has no help.
+const NO_HELP: &str = "there is no help of this: see `heapguard --help`";
+
+/// The first value of an operand, if it has one.
+fn first_in<'a>(matches: &ArgMatches<'a>, name: &str) -> Option<&'a str>
+    ensures { option_map (λ value. value.now) result
+        ≡ first_of name.now (rows_of (found_of matches.now)) }
+{
+    matches.get_str(name)
+}
 
 /// The first value of an operand, and no text where it has none.
 fn operand_in<'a>(matches: &ArgMatches<'a>, name: &str) -> &'a str
@@ -61,14 +79,48 @@ fn number_in(matches: &ArgMatches<'_>, name: &str) -> u32
     matches.get_one::<u32>(name).unwrap_or(0)
 }
 
+/// Whether a file of this name is the standard input.
+fn is_input(name: &str) -> bool
+    ensures { result ≡ is_input name.now }
+{
+    name == "-"
+}
+
+/// How many of these files are.
+fn inputs_in(names: &[&str]) -> usize
+    ensures { result ≡ count_by is_input (map (λ name. name.now) names.now) }
+{
+    names.iter().filter(|name| is_input(name)).count()
+}
+
+/// Whether two of these files are.
+fn is_read_twice(policy: &str, traces: &[&str]) -> bool
+    ensures { result ≡ is_read_twice policy.now (map (λ name. name.now) traces.now) }
+{
+    let inputs = inputs_in(traces);
+    (is_input(policy) && inputs > 0) || inputs > 1
+}
+
+/// Whether two files of a command are.
+fn reads_twice(alloc: Global, matches: &ArgMatches<'_>) -> Result<bool, AllocError>
+    ensures { IfOk result (λ twice. twice ≡ reads_twice (rows_of (found_of matches.now))) }
+{
+    let traces = operands_in(alloc, matches, "TRACE")?;
+    Ok(is_read_twice(operand_in(matches, "POLICY"), &traces))
+}
+
 /// The job of the command of this name, with its operands.
 fn job_named<'a>(alloc: Global, name: &str, matches: &ArgMatches<'a>) -> Result<Job<'a>, AllocError>
-    requires { Contains command_names name.now }
+    requires known { Contains command_names name.now }
+    requires other { name.now ≢ codes "help" }
     ensures { IfOk result (IsJobOf name.now (rows_of (found_of matches.now))) }
 {
     let policy = operand_in(matches, "POLICY");
     match name {
-        "check" => Ok(Job::Check(policy)),
+        "check" => match first_in(matches, "TRACE") {
+            Some(trace) => Ok(Job::CheckTrace(policy, trace)),
+            None => Ok(Job::Check(policy)),
+        },
         "replay" if is_given(matches, "explain") => {
             Ok(Job::Explain(policy, operand_in(matches, "TRACE")))
         }
@@ -78,17 +130,18 @@ fn job_named<'a>(alloc: Global, name: &str, matches: &ArgMatches<'a>) -> Result<
             let traces = operands_in(alloc, matches, "TRACE")?;
             Ok(Job::Test(policy, traces))
         }
+        "show" if is_given(matches, "json") => Ok(Job::ShowJson(policy)),
         "show" => Ok(Job::Show(policy)),
         _ => unreachable!(),
     }
 }
 
-/// The refusal of an option that stands before a command.
-fn misplaced(alloc: Global) -> JobFault
-    ensures { (result ≡ JobFault.Memory) ⊎ TellsOf ErrorKind.ArgumentConflict result }
+/// The refusal of this kind, in these words.
+fn told(alloc: Global, kind: ErrorKind, words: &str) -> JobFault
+    ensures { (result ≡ JobFault.Memory) ⊎ TellsOf kind result }
 {
     match command(alloc) {
-        Ok(mut command) => match command.error(ErrorKind::ArgumentConflict, MISPLACED) {
+        Ok(mut command) => match command.error(kind, words) {
             Ok(error) => fault_in(alloc, &error),
             Err(_) => JobFault::Memory,
         },
@@ -96,19 +149,76 @@ fn misplaced(alloc: Global) -> JobFault
     }
 }
 
-/// The job of the command that was entered, unless an option stands before it.
+/// What the parser answers to these words, where it has something against them, and else a
+/// refusal.
+fn answered(alloc: Global, words: &[&str]) -> Result<JobFault, AllocError>
+    ensures { IfOk result (RefusedBy (or_else (fault_of heapguard (map (λ w. w.now) words.now))
+        (ErrorKind.InvalidSubcommand ∷ []))) }
+{
+    match command(alloc)?.try_get_matches_from(words) {
+        Ok(_) => Ok(told(alloc, ErrorKind::InvalidSubcommand, NO_HELP)),
+        Err(error) => Ok(fault_in(alloc, &error)),
+    }
+}
+
+/// What `help` is answered: the help of the program, or of a command.
+fn helped(alloc: Global, matches: &ArgMatches<'_>) -> Result<JobFault, AllocError>
+    ensures { IfOk result (RefusedBy (help_faults (rows_of (found_of matches.now)))) }
+{
+    match first_in(matches, "COMMAND") {
+        Some(name) => answered(alloc, &[name, "--help"]),
+        None => answered(alloc, &["--help"]),
+    }
+}
+
+/// The job of a command other than `help`, unless it reads the standard input twice.
+fn job_reading<'a>(alloc: Global, name: &str, matches: &ArgMatches<'a>) -> Result<Job<'a>, JobFault>
+    requires known { Contains command_names name.now }
+    requires other { name.now ≢ codes "help" }
+    ensures job { IfOk result (IsJobOf name.now (rows_of (found_of matches.now))) }
+    ensures once { IfOk result (λ _. twice_faults (rows_of (found_of matches.now)) ≡ []) }
+    ensures err { IfErr result (RefusedBy (twice_faults (rows_of (found_of matches.now)))) }
+{
+    if reads_twice(alloc, matches)? {
+        return Err(told(alloc, ErrorKind::ArgumentConflict, TWICE));
+    }
+    Ok(job_named(alloc, name, matches)?)
+}
+
+/// The job of a command, unless that is `help`, an option stands before it, or it reads the standard
+/// input twice.
+fn job_within<'a>(
+    alloc: Global,
+    options: &ArgMatches<'a>,
+    name: &str,
+    matches: &ArgMatches<'a>,
+) -> Result<Job<'a>, JobFault>
+    requires { Contains command_names name.now }
+    ensures job { IfOk result (IsJobAt (rows_of (found_of options.now))
+        (Some (name.now, rows_of (found_of matches.now)))) }
+    ensures err { IfErr result (RefusedBy (against (rows_of (found_of options.now))
+        (Some (name.now, rows_of (found_of matches.now))))) }
+{
+    if is_given(options, "explain") {
+        return Err(told(alloc, ErrorKind::ArgumentConflict, MISPLACED));
+    }
+    if name == "help" {
+        return Err(helped(alloc, matches)?);
+    }
+    job_reading(alloc, name, matches)
+}
+
+/// The job of the command that was entered, or that of the program alone.
 pub(crate) fn job_in<'a>(alloc: Global, matches: &ArgMatches<'a>) -> Result<Job<'a>, JobFault>
     requires { IsKnown (subcommand_rows_of matches.now) }
     ensures job { IfOk result
         (IsJobAt (rows_of (found_of matches.now)) (subcommand_rows_of matches.now)) }
     ensures err { IfErr result
-        (IsBefore (rows_of (found_of matches.now)) (subcommand_rows_of matches.now)) }
+        (RefusedBy (against (rows_of (found_of matches.now)) (subcommand_rows_of matches.now))) }
 {
-    let explains = is_given(matches, "explain");
     match matches.subcommand() {
-        None if explains => Ok(Job::ExplainJoined),
+        Some((name, inner)) => job_within(alloc, matches, name, inner),
+        None if is_given(matches, "explain") => Ok(Job::ExplainJoined),
         None => Ok(Job::Joined),
-        Some(_) if explains => Err(misplaced(alloc)),
-        Some((name, inner)) => Ok(job_named(alloc, name, inner)?),
     }
 }

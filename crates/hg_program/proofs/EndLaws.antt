@@ -3,7 +3,8 @@ use Rattle.std.proofs.Common.{◌≡◌, ◌<◌, ℕ, List, Option, Some, lengt
 use Rattle.hg_replay.specs.Sinks.{Seen}
 use Rattle.hg_replay.specs.declared.run.input.TheConstants.{LIMIT}
 use Rattle.hg_replay.specs.declared.run.status.Status.{Status}
-use Rattle.hg_program.specs.Ends.{IsOf, ReadsNone, EndsOnFile, EndsOnFiles, EndsOnExplained, EndsOnRace}
+use Rattle.hg_program.specs.Ends.{IsOf, ReadsNone, EndsOnChecked, EndsOnFile, EndsOnFiles}
+use Rattle.hg_program.specs.Ends.{EndsOnExplained, EndsOnRace}
 use Rattle.hg_program.specs.EndLaws.{LongFilesFail}
 
 -- what was read of such a file
@@ -37,6 +38,14 @@ module _ (bytes : List ℕ) (other : Option (List ℕ)) (rounds : ℕ) (ended : 
   long_explained_trace (inl none) = none
   long_explained_trace (inr ends) = absurd (long_is_of bytes ends.1 long ends.3)
 
+  long_checked_policy : EndsOnChecked (Some bytes) other ended old new → ReadsNone ended old new
+  long_checked_policy (inl none) = none
+  long_checked_policy (inr ends) = absurd (long_is_of bytes ends.0 long ends.2)
+
+  long_checked_trace : EndsOnChecked other (Some bytes) ended old new → ReadsNone ended old new
+  long_checked_trace (inl none) = none
+  long_checked_trace (inr ends) = absurd (long_is_of bytes ends.1 long ends.3)
+
 pub long_files_fail : LongFilesFail
 long_files_fail bytes other rounds ended old new long = (
   long_checked bytes other rounds ended old new long,
@@ -45,4 +54,6 @@ long_files_fail bytes other rounds ended old new long = (
   long_trace bytes other rounds ended old new long,
   long_explained_policy bytes other rounds ended old new long,
   long_explained_trace bytes other rounds ended old new long,
+  long_checked_policy bytes other rounds ended old new long,
+  long_checked_trace bytes other rounds ended old new long,
 )

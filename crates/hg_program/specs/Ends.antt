@@ -15,7 +15,8 @@ use Rattle.hg_trace.specs.Joined.{policy_in, trace_in}
 use Rattle.hg_reasons.specs.Endings.{EndsExplained}
 use Rattle.hg_expect.specs.Tests.{EndsTests, IsUnwarned, Progress, Stands}
 use Rattle.hg_expect.specs.declared.source.Source.{Source}
-use Rattle.hg_program.specs.ShowEnds.{EndsShow}
+use Rattle.hg_strangers.specs.Endings.{EndsChecked}
+use Rattle.hg_program.specs.ShowEnds.{EndsShow, EndsShowJson}
 use Rattle.hg_job.specs.Jobs.{IsAnswerTo}
 use Rattle.hg_job.specs.declared.job.Job.{Job}
 use Rattle.hg_job.specs.declared.job.Job.TheVariants as job
@@ -34,6 +35,14 @@ ReadsNone ended old new = (ended ≡ status.Failed) × (new ≡ old)
 abbrev pub EndsOnFile : Option (List ℕ) → Status → Seen → Seen → Type 0
 EndsOnFile held ended old new =
     ReadsNone ended old new ⊎ ((bytes : List ℕ) × IsOf held bytes × EndsCheck ended bytes old new)
+
+-- a file is not read, or a check of the first's bytes and of the second's under them ends so
+abbrev pub EndsOnChecked
+    : Option (List ℕ) → Option (List ℕ) → Status → Seen → Seen → Type 0
+EndsOnChecked first second ended old new =
+    ReadsNone ended old new
+    ⊎ ((policy : List ℕ) × (trace : List ℕ) × IsOf first policy × IsOf second trace
+    × EndsChecked ended policy trace old new)
 
 -- a file is not read, or a replay of the second's bytes under the first's ends so
 abbrev pub EndsOnFiles : Option (List ℕ) → Option (List ℕ) → Status → Seen → Seen → Type 0
@@ -103,12 +112,20 @@ abbrev pub EndsOnShow : Option (List ℕ) → Status → Seen → Seen → Type 
 EndsOnShow held ended old new =
     ReadsNone ended old new ⊎ ((bytes : List ℕ) × IsOf held bytes × EndsShow ended bytes old new)
 
+-- and so as JSON
+abbrev pub EndsOnShowJson : Option (List ℕ) → Status → Seen → Seen → Type 0
+EndsOnShowJson held ended old new =
+    ReadsNone ended old new
+    ⊎ ((bytes : List ℕ) × IsOf held bytes × EndsShowJson ended bytes old new)
+
 -- a job ends so, where these are what the file of a path holds and what the input has left
 abbrev pub EndsJob
     : (List ℕ → Option (List ℕ)) → Option (List ℕ) → Job → Status → Seen → Seen → Type 0
 EndsJob holds input job.Joined ended old new = EndsJoined ended input old new
 EndsJob holds input job.ExplainJoined ended old new = EndsExplainedJoined input ended old new
 EndsJob holds input (job.Check policy) ended old new = EndsOnFile (holds policy.now) ended old new
+EndsJob holds input (job.CheckTrace policy trace) ended old new =
+    EndsOnChecked (holds policy.now) (holds trace.now) ended old new
 EndsJob holds input (job.Replay policy trace) ended old new =
     EndsOnFiles (holds policy.now) (holds trace.now) ended old new
 EndsJob holds input (job.Explain policy trace) ended old new =
@@ -118,6 +135,8 @@ EndsJob holds input (job.Race policy rounds) ended old new =
 EndsJob holds input (job.Test policy traces) ended old new =
     EndsOnTests holds policy.now (map (λ trace. trace.now) traces.items) ended old new
 EndsJob holds input (job.Show policy) ended old new = EndsOnShow (holds policy.now) ended old new
+EndsJob holds input (job.ShowJson policy) ended old new =
+    EndsOnShowJson (holds policy.now) ended old new
 
 -- the text is written, or its writing stopped
 abbrev pub Tries : Seen → Seen → List ℕ → Type 0

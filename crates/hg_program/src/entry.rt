@@ -8,11 +8,11 @@ ghost use Rattle.hg_replay.specs.declared.run.status.Status.{Status};
 ghost use Rattle.hg_program.specs.Ends.{AreQuietWords, EndsJob, EndsProgram, EndsWordless};
 ghost use Rattle.hg_program.specs.Ends.{IsQuietJob};
 
-use crate::files::{check_file, explain_files, race_file, replay_files, test_files};
+use crate::files::{check_file, check_files, explain_files, race_file, replay_files, test_files};
 use crate::host::Host;
 use crate::joined::{explain_input, replay_input};
 use crate::refusal::{fails, refuse};
-use crate::showing::show_file;
+use crate::showing::{show_file, show_file_json};
 use hg_job::{Job, job_of};
 use hg_replay::{ReadFault, Sink, Status};
 use std::alloc::{AllocError, Global};
@@ -41,6 +41,7 @@ fn do_job<T: Threads + Wait, H: Host, R: Read, W: Sink, E: Write>(
         Job::Joined => replay_input(alloc, host, input, out, err),
         Job::ExplainJoined => explain_input(alloc, host, input, out, err),
         Job::Check(policy) => check_file(alloc, host, policy, out, err),
+        Job::CheckTrace(policy, trace) => check_files(alloc, host, policy, trace, out, err),
         Job::Replay(policy, trace) => replay_files(alloc, host, policy, trace, out, err),
         Job::Explain(policy, trace) => explain_files(alloc, host, policy, trace, out, err),
         Job::Race(policy, rounds) => race_file(rt, alloc, host, policy, *rounds, out, err),
@@ -48,12 +49,13 @@ fn do_job<T: Threads + Wait, H: Host, R: Read, W: Sink, E: Write>(
             test_files(alloc, host, policy, traces.as_slice(), out, err)
         }
         Job::Show(policy) => show_file(alloc, host, policy, out, err),
+        Job::ShowJson(policy) => show_file_json(alloc, host, policy, out, err),
     }
 }
 
 /// Does what the words after the program's name ask for: a job, with its output on `out` and what
-/// goes wrong in one line on `err`, before which a test may warn; help or the version, on `out`; or it tells on `err` what is
-/// wrong with the words. Faults of `err` are ignored.
+/// goes wrong in one line on `err`, before which a test may warn; help or the version, on `out`; or it
+/// tells on `err` what is wrong with the words. Faults of `err` are ignored.
 pub fn program<T: Threads + Wait, H: Host, R: Read, W: Sink, E: Sink + Write>(
     rt: &T,
     alloc: Global,

@@ -2,8 +2,8 @@
 
 ghost use Rattle.std.specs.Prelude.{◌≡◌, ◌≤◌, ℕ, List, IfOk, IfSome, map, vec_len};
 ghost use Rattle.hg_replay.specs.declared.run.input.TheConstants.{LIMIT};
-ghost use Rattle.hg_program.specs.Ends.{EndsOnExplained, EndsOnFile, EndsOnFiles, EndsOnRace};
-ghost use Rattle.hg_program.specs.Ends.{EndsOnTests, IsOf, IsQuietTest, StandOf};
+ghost use Rattle.hg_program.specs.Ends.{EndsOnChecked, EndsOnExplained, EndsOnFile, EndsOnFiles};
+ghost use Rattle.hg_program.specs.Ends.{EndsOnRace, EndsOnTests, IsOf, IsQuietTest, StandOf};
 
 use crate::host::Host;
 use crate::refusal::fails;
@@ -11,6 +11,7 @@ use hg_expect::{Source, Tests};
 use hg_race::run_race;
 use hg_reasons::run_explained;
 use hg_replay::{ReadFault, Sink, Status, run_check, run_texts};
+use hg_strangers::run_check_trace;
 use std::alloc::Global;
 use std::io::Write;
 use std::sync::Wait;
@@ -45,6 +46,28 @@ pub(crate) fn check_file<H: Host, W: Sink, E: Write>(
 {
     match host.read_file(alloc, policy) {
         Ok(policy) => run_check(alloc, policy.as_slice(), out, err),
+        Err(fault) => fails(fault, err),
+    }
+}
+
+/// Checks the policy of a file, and the trace of another under it. Both are read before any fault of
+/// either is told.
+pub(crate) fn check_files<H: Host, W: Sink, E: Write>(
+    alloc: Global,
+    host: &H,
+    policy: &str,
+    trace: &str,
+    out: &mut W,
+    err: &mut E,
+) -> Status
+    ensures ends { EndsOnChecked (H.holds host.now policy.now) (H.holds host.now trace.now) result
+        (W.seen out.old) (W.seen out.new) }
+    ensures quiet { result ≡ Status.Done → err.new ≡ err.old }
+{
+    match read_files(alloc, host, policy, trace) {
+        Ok((policy, trace)) => {
+            run_check_trace(alloc, policy.as_slice(), trace.as_slice(), out, err)
+        }
         Err(fault) => fails(fault, err),
     }
 }

@@ -2,13 +2,13 @@
 
 ghost use Rattle.std.specs.Prelude.{◌≡◌};
 ghost use Rattle.hg_replay.specs.RunFaults.{status_after};
-ghost use Rattle.hg_program.specs.Ends.{EndsOnShow};
-ghost use Rattle.hg_program.specs.ShowEnds.{EndsShow};
+ghost use Rattle.hg_program.specs.Ends.{EndsOnShow, EndsOnShowJson};
+ghost use Rattle.hg_program.specs.ShowEnds.{EndsShow, EndsShowJson};
 
 use crate::host::Host;
 use crate::refusal::fails;
 use hg_replay::{ReplayFault, RunFault, Sink, Status, put};
-use hg_show::show;
+use hg_show::{show, show_json};
 use std::alloc::Global;
 use std::io::Write;
 
@@ -22,12 +22,22 @@ fn write_shown<W: Sink>(alloc: Global, policy: &[u8], out: &mut W) -> Result<(),
     }
 }
 
-/// Shows a policy. What is wrong is one line on `err`, whose own faults are ignored.
-fn run_show<W: Sink, E: Write>(alloc: Global, policy: &[u8], out: &mut W, err: &mut E) -> Status
-    ensures ends { EndsShow result policy.now (W.seen out.old) (W.seen out.new) }
+fn write_json<W: Sink>(alloc: Global, policy: &[u8], out: &mut W) -> Result<(), RunFault>
+    ensures { EndsShowJson (status_after result) policy.now (W.seen out.old) (W.seen out.new) }
+{
+    let text = show_json(alloc, policy)?;
+    match put(out, text.as_slice()) {
+        Ok(()) => Ok(()),
+        Err(_) => Err(RunFault::Replay(ReplayFault::Write)),
+    }
+}
+
+/// The status of what was shown. What is wrong is one line on `err`, whose own faults are ignored.
+fn told<E: Write>(ended: Result<(), RunFault>, err: &mut E) -> Status
+    ensures status { result ≡ status_after ended }
     ensures quiet { result ≡ Status.Done → err.new ≡ err.old }
 {
-    match write_shown(alloc, policy, out) {
+    match ended {
         Ok(()) => Status::Done,
         Err(fault) => {
             let _ = writeln!(err, "{fault}");
@@ -49,7 +59,25 @@ pub(crate) fn show_file<H: Host, W: Sink, E: Write>(
     ensures quiet { result ≡ Status.Done → err.new ≡ err.old }
 {
     match host.read_file(alloc, policy) {
-        Ok(policy) => run_show(alloc, policy.as_slice(), out, err),
+        Ok(policy) => told(write_shown(alloc, policy.as_slice(), out), err),
+        Err(fault) => fails(fault, err),
+    }
+}
+
+/// The same, as JSON.
+pub(crate) fn show_file_json<H: Host, W: Sink, E: Write>(
+    alloc: Global,
+    host: &H,
+    policy: &str,
+    out: &mut W,
+    err: &mut E,
+) -> Status
+    ensures ends { EndsOnShowJson (H.holds host.now policy.now) result
+        (W.seen out.old) (W.seen out.new) }
+    ensures quiet { result ≡ Status.Done → err.new ≡ err.old }
+{
+    match host.read_file(alloc, policy) {
+        Ok(policy) => told(write_json(alloc, policy.as_slice(), out), err),
         Err(fault) => fails(fault, err),
     }
 }

@@ -52,6 +52,21 @@ denied grant: alice lets bob read, not write
 denied limit: alice has 64 of 64 bytes with worker 0, and asks for 8, a block of 8
 6: w0 read alice y 0
 unbound: line 5 was denied limit
+
+answers 5
+  served 2
+  denied grant 1
+  denied limit 1
+  unbound 1
+denials 2
+  alice 1
+  bob 1
+";
+
+/// Of no line.
+const NOTHING: &str = "
+answers 0
+denials 0
 ";
 
 const ANSWERS: &str = "segment 0
@@ -128,7 +143,7 @@ static ENDINGS: [Row; 11] = [
         &["replay", "--explain", "policy", "empty"],
         "",
         Status::Done,
-        "",
+        NOTHING,
         "",
     ),
     (

@@ -13,6 +13,7 @@ fn job_told<'a>(job: &Job<'a>) -> Told<'a> {
         Job::Joined => ("joined", "", "", 0),
         Job::ExplainJoined => ("explain joined", "", "", 0),
         Job::Check(policy) => ("check", policy, "", 0),
+        Job::CheckTrace(policy, trace) => ("check trace", policy, trace, 0),
         Job::Replay(policy, trace) => ("replay", policy, trace, 0),
         Job::Explain(policy, trace) => ("explain", policy, trace, 0),
         Job::Race(policy, rounds) => ("race", policy, "", *rounds),
@@ -21,6 +22,7 @@ fn job_told<'a>(job: &Job<'a>) -> Told<'a> {
             ("test", policy, first, traces.len().min(99) as u32)
         }
         Job::Show(policy) => ("show", policy, "", 0),
+        Job::ShowJson(policy) => ("show json", policy, "", 0),
     }
 }
 
@@ -82,9 +84,9 @@ fn tells(rt: &impl Abort, alloc: Global, words: &[&str], parts: &[&str]) {
 }
 
 /// Command lines that are refused by a line.
-static NO_JOBS: [&str; 30] = [
+static NO_JOBS: [&str; 38] = [
     "check",
-    "check p q",
+    "check p q r",
     "check -p",
     "replay p",
     "replay p t u",
@@ -110,13 +112,25 @@ static NO_JOBS: [&str; 30] = [
     "jump",
     "Check p",
     "--jump",
-    "help",
+    "help jump",
+    "help check p",
+    "--explain help",
+    "replay - -",
+    "replay --explain - -",
+    "check - -",
+    "test - t -",
+    "test p - t -",
+    "show p --json --json",
     "check --version",
     "a b c d e f g h i",
 ];
 
 /// Command lines that ask for help.
-static HELPS: [&str; 8] = [
+static HELPS: [&str; 12] = [
+    "help",
+    "help check",
+    "help help",
+    "help --help",
     "-h",
     "--help",
     "--explain -h",
@@ -128,7 +142,7 @@ static HELPS: [&str; 8] = [
 ];
 
 /// Command lines that come to a job.
-static JOBS: [(&[&str], Told<'static>); 18] = [
+static JOBS: [(&[&str], Told<'static>); 25] = [
     (&[], ("joined", "", "", 0)),
     (&["--explain"], ("explain joined", "", "", 0)),
     (&["replay", "--explain", "p", "t"], ("explain", "p", "t", 0)),
@@ -139,6 +153,11 @@ static JOBS: [(&[&str], Told<'static>); 18] = [
         ("replay", "p", "--explain", 0),
     ),
     (&["check", "p"], ("check", "p", "", 0)),
+    (&["check", "p", "t"], ("check trace", "p", "t", 0)),
+    (&["check", "-"], ("check", "-", "", 0)),
+    (&["replay", "-", "t"], ("replay", "-", "t", 0)),
+    (&["replay", "p", "-"], ("replay", "p", "-", 0)),
+    (&["test", "p", "t", "-"], ("test", "p", "t", 2)),
     (&["check", "--", "-p"], ("check", "-p", "", 0)),
     (&["replay", "p", "t"], ("replay", "p", "t", 0)),
     (
@@ -153,6 +172,8 @@ static JOBS: [(&[&str], Told<'static>); 18] = [
     (&["test", "p", "t", "u", "t"], ("test", "p", "t", 3)),
     (&["test", "--", "-p", "-t"], ("test", "-p", "-t", 1)),
     (&["show", "p"], ("show", "p", "", 0)),
+    (&["show", "p", "--json"], ("show json", "p", "", 0)),
+    (&["show", "--json", "p"], ("show json", "p", "", 0)),
 ];
 
 #[test]
@@ -172,13 +193,15 @@ fn job_words(rt: HostRuntime) {
 /// Refusals of a flag, whole: no tip says how to pass it as the name of a file.
 static NO_FLAGS: [(&[&str], &str); 4] = [
     (
-        &["show", "--a\nb"],
-        "err\nerror: unexpected argument '--a\nb' found\n\nUsage: heapguard show <POLICY>\n\n\
+        &["race", "--a\nb"],
+        "err\nerror: unexpected argument '--a\nb' found\n\n\
+         Usage: heapguard race <POLICY> <ROUNDS>\n\n\
          For more information, try '--help'.\n",
     ),
     (
-        &["show", "--json"],
-        "err\nerror: unexpected argument '--json' found\n\nUsage: heapguard show <POLICY>\n\n\
+        &["race", "--json"],
+        "err\nerror: unexpected argument '--json' found\n\n\
+         Usage: heapguard race <POLICY> <ROUNDS>\n\n\
          For more information, try '--help'.\n",
     ),
     (
@@ -189,7 +212,8 @@ static NO_FLAGS: [(&[&str], &str); 4] = [
     (
         &["check", "--hlep", "p"],
         "err\nerror: unexpected argument '--hlep' found\n\n  \
-         tip: a similar argument exists: '--help'\n\nUsage: heapguard check --help <POLICY>\n\n\
+         tip: a similar argument exists: '--help'\n\n\
+         Usage: heapguard check --help <POLICY> [TRACE]\n\n\
          For more information, try '--help'.\n",
     ),
 ];
@@ -204,7 +228,7 @@ fn no_tip_where_nothing_follows(rt: HostRuntime) {
 }
 
 /// Parts of the program's help.
-static HELP: [&str; 18] = [
+static HELP: [&str; 19] = [
     "out\nReplays traces",
     "\nUsage: heapguard [OPTIONS] [COMMAND]\n",
     "\n      --explain  ",
@@ -213,6 +237,7 @@ static HELP: [&str; 18] = [
     "\n  race    ",
     "\n  test    ",
     "\n  show    ",
+    "\n  help    ",
     "standard input",
     "`---`",
     "16777216 bytes",
@@ -229,16 +254,18 @@ static HELP: [&str; 18] = [
 fn help_of_the_program(rt: HostRuntime) {
     let help = text(rt.alloc(), &["--help"]).expect(&rt, "memory");
     has_all(&rt, help.as_str(), &HELP);
-    // A screen, behind the stream's line.
-    assert!(&rt; help.lines().count() <= 1 + 24, "more than a screen");
+    // A screen of 25 lines, behind the stream's line.
+    assert!(&rt; help.lines().count() <= 1 + 25, "more than a screen");
     drop(help);
 }
 
 /// Parts of the help of each command.
-static HELP_OF_CHECK: [&str; 9] = [
+static HELP_OF_CHECK: [&str; 11] = [
     "out\nReads a policy",
-    "\nUsage: heapguard check <POLICY>\n",
+    "\nUsage: heapguard check <POLICY> [TRACE]\n",
     "\n  <POLICY>  ",
+    "\n  [TRACE]   ",
+    "\n  2  ",
     "`ok workers N tenants N arenas N segments N`",
     "\nExit status:\n",
     "\n  0  ",
@@ -289,15 +316,24 @@ static HELP_OF_TEST: [&str; 12] = [
     "\n  5  ",
 ];
 
-static HELP_OF_SHOW: [&str; 8] = [
+static HELP_OF_SHOW: [&str; 9] = [
     "out\nPrints what a policy says",
-    "\nUsage: heapguard show <POLICY>\n",
+    "\nUsage: heapguard show [OPTIONS] <POLICY>\n",
+    "\n      --json  ",
     "\n  <POLICY>  ",
     "\nExit status:\n",
     "\n  0  ",
     "\n  1  ",
     "\n  3  ",
     "\n  4  ",
+];
+
+/// Words that ask for the same help.
+static HELPS_BY_WORD: [(&[&str], &[&str]); 4] = [
+    (&["help"], &["--help"]),
+    (&["help", "check"], &["check", "--help"]),
+    (&["help", "replay"], &["replay", "--help"]),
+    (&["help", "show"], &["show", "--help"]),
 ];
 
 #[test]
@@ -307,6 +343,24 @@ fn help_of_each_command(rt: HostRuntime) {
     tells(&rt, rt.alloc(), &["race", "--help"], &HELP_OF_RACE);
     tells(&rt, rt.alloc(), &["test", "--help"], &HELP_OF_TEST);
     tells(&rt, rt.alloc(), &["show", "--help"], &HELP_OF_SHOW);
+}
+
+/// `help` prints what `--help` does, and says which word is no command.
+#[test]
+fn help_as_a_command(rt: HostRuntime) {
+    for (words, flags) in HELPS_BY_WORD {
+        let helped = text(rt.alloc(), words).expect(&rt, "memory");
+        let flagged = text(rt.alloc(), flags).expect(&rt, "memory");
+        assert_eq!(&rt; helped.as_str(), flagged.as_str());
+        drop(helped);
+        drop(flagged);
+    }
+    tells(
+        &rt,
+        rt.alloc(),
+        &["help", "jump"],
+        &["err\nerror: ", "'jump'"],
+    );
 }
 
 #[test]
@@ -330,7 +384,7 @@ static NO_COMMAND: [&str; 4] = [
 static NO_OPERAND: [&str; 4] = [
     "err\n",
     "<POLICY>",
-    "\nUsage: heapguard check <POLICY>\n",
+    "\nUsage: heapguard check <POLICY> [TRACE]\n",
     "'--help'",
 ];
 

@@ -2,7 +2,7 @@ use Rattle.std.proofs.Common.{◌∙◌, ap, map}
 use Rattle.clap.specs.Words.{takes, fault_of}
 use Rattle.clap.specs.Kinds.{HasKind}
 use Rattle.hg_job.proofs.CommandLemmas.{at_free, refused_by}
-use Rattle.hg_job.proofs.OptionLemmas.{accepted_taken, before_not_accepted, before_refused, faultless, job_found, known_entered, refused_first}
+use Rattle.hg_job.proofs.OptionLemmas.{accepted_taken, opposed_not_accepted, opposed_refused, faultless, job_found, known_entered, refused_first}
 use Rattle.hg_job.proofs.job.job_of.Goals as goal
 
 pub job_in-requires : goal.job_in-requires
@@ -14,7 +14,7 @@ returns-in-Ok-clause-job c =
 
 pub returns-in-Ok-clause-taken : goal.returns-in-Ok-clause-taken
 returns-in-Ok-clause-taken c =
-    before_not_accepted (map (λ w. w.now) c.args.words.now) _ _ _ c.in_ok-command.ensures c.in-Ok.ensures.matches c.job_in.result c.job_in.ensures.err
+    opposed_not_accepted (map (λ w. w.now) c.args.words.now) _ _ _ c.in_ok-command.ensures c.in-Ok.ensures.matches c.job_in.result c.job_in.ensures.err
 
 pub returns-in-Ok-clause-faultless : goal.returns-in-Ok-clause-faultless
 returns-in-Ok-clause-faultless c =
@@ -23,7 +23,7 @@ returns-in-Ok-clause-faultless c =
 
 pub returns-in-Ok-clause-refused : goal.returns-in-Ok-clause-refused
 returns-in-Ok-clause-refused c =
-    before_refused (map (λ w. w.now) c.args.words.now) _ _ _ c.in_ok-command.ensures c.in-Ok.ensures.matches c.in-Ok.ensures.kinds
+    opposed_refused (map (λ w. w.now) c.args.words.now) _ _ _ c.in_ok-command.ensures c.in-Ok.ensures.matches c.in-Ok.ensures.kinds
     c.job_in.result c.job_in.ensures.err
 
 pub returns-in-Err-clause-taken : goal.returns-in-Err-clause-taken
