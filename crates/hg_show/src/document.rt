@@ -6,10 +6,10 @@ ghost use Rattle.hg_policy.specs.Document.{document_of};
 ghost use Rattle.hg_policy.specs.Faults.{FailsAs, fault_of};
 ghost use Rattle.hg_show.specs.Shown.{IsShown, IsShownAsJson, shown};
 
+use crate::by_key::{rows, tree};
 use crate::json::json;
 use crate::matrix::push_matrix;
 use crate::parts::{push_arenas, push_head, push_tenants};
-use crate::rows::{rows, tree};
 use crate::warnings::{push_warnings, warnings};
 use hg_policy::{Policy, PolicyFault, read_policy};
 use std::alloc::{AllocError, Global};

@@ -6,7 +6,7 @@ ghost use Rattle.toml.specs.View.{view};
 ghost use Rattle.hg_show.specs.Texts.{texts_in};
 ghost use Rattle.hg_show.specs.Warnings.{group_warnings, is_unnamed, names_it};
 
-use crate::rows::{is_empty_at, text_at};
+use crate::by_key::{is_empty_at, text_at};
 use crate::texts::warn;
 use std::alloc::{AllocError, Global};
 use toml::Value;

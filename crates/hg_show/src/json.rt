@@ -6,9 +6,9 @@ ghost use Rattle.hg_show.specs.Json.{array_at, array_of, json, json_head, quoted
 ghost use Rattle.hg_show.specs.Texts.{texts_in};
 
 use crate::arena_objects::arena_objects;
+use crate::by_key::rows;
 use crate::pairs::all_pairs;
 use crate::push::{push, push_count};
-use crate::rows::rows;
 use crate::tenant_objects::tenant_objects;
 use crate::texts::{add, push_with_commas};
 use crate::warnings::warnings;

@@ -3,6 +3,7 @@
 
 mod arena_objects;
 mod bands;
+mod by_key;
 mod document;
 mod groups;
 mod json;
@@ -12,10 +13,10 @@ mod meant;
 mod pairs;
 mod parts;
 mod push;
-mod rows;
 mod standings;
 mod tenant_objects;
 mod texts;
 mod warnings;
 
+pub use by_key::{rows, text_at};
 pub use document::{show, show_json};

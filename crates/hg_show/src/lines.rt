@@ -8,9 +8,9 @@ ghost use Rattle.hg_show.specs.Lines.{line_name, shares, shares_with_some};
 ghost use Rattle.hg_show.specs.Texts.{texts_in};
 ghost use Rattle.hg_show.specs.Warnings.{by_place, deny_warnings, grant_warnings};
 
+use crate::by_key::{is_empty_at, text_at};
 use crate::meant::meant;
 use crate::push::{push, push_number};
-use crate::rows::{is_empty_at, text_at};
 use crate::standings::may_share;
 use crate::texts::warn;
 use hg_policy::Policy;

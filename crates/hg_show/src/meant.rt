@@ -5,8 +5,8 @@ ghost use Rattle.std.specs.List.{list_any};
 ghost use Rattle.toml.specs.View.{view};
 ghost use Rattle.hg_show.specs.Meant.{has_member, is_meant, is_text, meant, stands_for};
 
+use crate::by_key::{elements_at, text_at, text_of};
 use crate::parts::name_of;
-use crate::rows::{elements_at, text_at, text_of};
 use hg_policy::Policy;
 use std::alloc::{AllocError, Global};
 use toml::Value;

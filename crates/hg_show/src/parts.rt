@@ -10,8 +10,8 @@ ghost use Rattle.hg_show.specs.Parts.{is_segment_of, may_be_in, name_of, segment
 ghost use Rattle.hg_show.specs.Parts.{tenant_line, tenant_word, tenants_in, tenants_text, told};
 ghost use Rattle.hg_show.specs.Rows.{names_in};
 
+use crate::by_key::text_at;
 use crate::push::{push, push_count};
-use crate::rows::text_at;
 use hg_place::Actor;
 use hg_policy::Policy;
 use std::alloc::AllocError;

@@ -8,10 +8,10 @@ ghost use Rattle.hg_show.specs.Parts.{tenants_in};
 ghost use Rattle.hg_show.specs.Rows.{names_in};
 ghost use Rattle.hg_show.specs.Texts.{texts_in};
 
+use crate::by_key::text_at;
 use crate::json::{add_quoted_where, push_array, push_quoted};
 use crate::parts::{limit_of, may_be_in, name_of};
 use crate::push::{push, push_count};
-use crate::rows::text_at;
 use crate::texts::add;
 use hg_policy::Policy;
 use std::alloc::{AllocError, Global};

@@ -9,11 +9,11 @@ ghost use Rattle.hg_show.specs.Texts.{texts_in};
 ghost use Rattle.hg_show.specs.Warnings.{arena_warnings, is_above, is_somewhere, segments_for};
 ghost use Rattle.hg_show.specs.Warnings.{tenant_warnings, warning_line, warning_lines, warnings};
 
+use crate::by_key::{rows, text_at};
 use crate::groups::warn_of_groups;
 use crate::lines::{warn_of_denies, warn_of_grants};
 use crate::parts::{limit_of, may_be_in, name_of, segments_at};
 use crate::push::push;
-use crate::rows::{rows, text_at};
 use crate::standings::may_hold;
 use crate::texts::warn;
 use hg_place::Actor;

@@ -1,4 +1,3 @@
 pub mod Mentions
-pub mod Near
 pub mod Texts
 pub mod Endings

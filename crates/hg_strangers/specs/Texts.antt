@@ -9,7 +9,7 @@ use Rattle.hg_trace.specs.declared.line.Line.{Line}
 use Rattle.hg_strangers.specs.declared.mention.Kind.{Kind}
 use Rattle.hg_strangers.specs.declared.mention.Kind.TheVariants as kind
 use Rattle.hg_strangers.specs.Mentions.{Mention, lacked, lines_that_say, says_another}
-use Rattle.hg_strangers.specs.Near.{near}
+use Rattle.hg_hints.specs.Near.{near}
 
 -- the names that a policy has of a kind
 abbrev pub tenant_at : Policy → ℕ → List ℕ

@@ -3,7 +3,6 @@
 
 mod lacked;
 mod mention;
-mod near;
 mod run;
 mod text;
 

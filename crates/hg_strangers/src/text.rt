@@ -11,7 +11,7 @@ ghost use Rattle.hg_strangers.specs.Texts.{warning};
 
 use crate::lacked::{lacked, lacks_another, lines_that_say};
 use crate::mention::{Kind, Mention};
-use crate::near::near;
+use hg_hints::near;
 use hg_policy::Policy;
 use hg_trace::Trace;
 use std::alloc::{AllocError, Global};

@@ -1,8 +1,7 @@
 use Rattle.std.proofs.Common.{◌≡◌, ◌++◌, ◌∷◌, [], length, ap, ◌∙◌, arith}
 use Rattle.std.proofs.lemmas.List.{map_push}
 use Rattle.hg_strangers.specs.Texts.{arena_at}
-use Rattle.hg_strangers.proofs.Finds.{texts}
-use Rattle.hg_strangers.proofs.Lists.{each_more, each_all}
+use Rattle.hg_strangers.proofs.Lists.{each_all, each_more, texts}
 use Rattle.hg_strangers.proofs.text.arenas.Goals as goal
 
 pub loop-arena-preserved : goal.loop-arena-preserved

@@ -1,7 +1,7 @@
 use Rattle.std.proofs.Common.{◌≡◌, map}
 use Rattle.std.specs.List.{range_with_len}
 use Rattle.hg_strangers.specs.Texts.{arena_at}
-use Rattle.hg_strangers.proofs.Finds.{texts}
+use Rattle.hg_strangers.proofs.Lists.{texts}
 use Rattle.hg_strangers.proofs.text.arenas.Given as goal
 
 -- the names so far

@@ -1,8 +1,7 @@
 use Rattle.std.proofs.Common.{◌≡◌, ◌++◌, ◌∷◌, [], length, ap, ◌∙◌, arith}
 use Rattle.std.proofs.lemmas.List.{map_push}
 use Rattle.hg_strangers.specs.Texts.{tenant_at}
-use Rattle.hg_strangers.proofs.Finds.{texts}
-use Rattle.hg_strangers.proofs.Lists.{each_more, each_all}
+use Rattle.hg_strangers.proofs.Lists.{each_all, each_more, texts}
 use Rattle.hg_strangers.proofs.text.tenants.Goals as goal
 
 pub loop-tenant-preserved : goal.loop-tenant-preserved

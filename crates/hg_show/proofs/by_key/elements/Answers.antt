@@ -2,7 +2,7 @@ use Rattle.std.proofs.Common.{map, sym, ap, ◌∙◌}
 use Rattle.toml.specs.View.{view}
 use Rattle.hg_policy.proofs.InTurn.{elements-view}
 use Rattle.hg_show.specs.Rows.{elements_or_none}
-use Rattle.hg_show.proofs.rows.elements.Goals as goal
+use Rattle.hg_show.proofs.by_key.elements.Goals as goal
 
 pub returns-in-Some : goal.returns-in-Some
 returns-in-Some c =

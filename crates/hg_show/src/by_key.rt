@@ -47,7 +47,7 @@ fn elements(value: &Value) -> &[Value]
 }
 
 /// The elements of the array at a key.
-pub(crate) fn rows<'a>(table: &'a Table, key: &str) -> &'a [Value]
+pub fn rows<'a>(table: &'a Table, key: &str) -> &'a [Value]
     ensures { map view result.now ≡ rows_at key.now (table_view table.now) }
 {
     match field(table, key) {
@@ -94,7 +94,7 @@ fn text_in<'a>(value: Option<&'a Value>) -> &'a str
 }
 
 /// The text at a key of a row.
-pub(crate) fn text_at<'a>(row: &'a Value, key: &str) -> &'a str
+pub fn text_at<'a>(row: &'a Value, key: &str) -> &'a str
     ensures { result.now ≡ text_at key.now (view row.now) }
 {
     match row.as_table() {

@@ -1,5 +1,5 @@
 use Rattle.toml.proofs.Views.{table_get}
-use Rattle.hg_show.proofs.rows.field.Goals as goal
+use Rattle.hg_show.proofs.by_key.field.Goals as goal
 
 pub returns : goal.returns
 returns c = table_get c.get.result c.args.key.now c.args.table.now.entries c.get.ensures.value

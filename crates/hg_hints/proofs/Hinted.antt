@@ -1,0 +1,53 @@
+-- What is told of bytes, by what is read of them.
+use Rattle.std.proofs.Common.{◌≡◌, ℕ, List, [], Option, Some, None, Ok, Err, true, refl, sym, ap, subst, ◌∙◌, inl, inr}
+use Rattle.std.proofs.lemmas.Bool.{cases_Bool}
+use Rattle.std.proofs.lemmas.Str.{IsUtf8-from_is_utf8, is_utf8-from_IsUtf8}
+use Rattle.std.specs.Prelude.{IfOk, IfSome, Result, is_some}
+use Rattle.std.specs.Str.{is_utf8, IsUtf8}
+use Rattle.toml.specs.Data.{Members}
+use Rattle.toml.specs.Parse.{parse_document}
+use Rattle.hg_machine.specs.Policy.{Policy}
+use Rattle.hg_policy.specs.Document.{document_of, policy_at, tree_of}
+use Rattle.hg_policy.specs.Faults.{Fault, FailsAs}
+use Rattle.hg_hints.specs.Hints.{IsHint, IsHintOf, IsRefused, hint_line, told_of}
+use Rattle.hg_hints.specs.Reasons.{reason}
+
+-- where there is a value, of which both hold
+pub if_both : {T E : Type 0} {P Q R : T → Type 0} (r : Result T E) → ((x : T) → P x → Q x → R x) → IfOk r P → IfOk r Q → IfOk r R
+if_both (Ok x) joined p q = joined x p q
+if_both (Err e) joined p q = p
+
+module _ (bytes hint : List ℕ) where
+  -- bytes that are a tree
+  module _ (t : Members) (tree : tree_of bytes ≡ Some t) where
+    document_is : document_of bytes ≡ policy_at t
+    unfolding document_of
+    document_is = rw tree refl
+
+    hinted : hint ≡ told_of t (policy_at t) → IsHint bytes hint
+    hinted is = subst (λ it. IsHintOf bytes it hint) (sym tree) is
+
+    -- a policy
+    pub nothing_told : (policy : Policy) → document_of bytes ≡ Ok policy → hint ≡ [] → IsHint bytes hint
+    nothing_told policy means none = hinted (none ∙ ap (told_of t) (sym means ∙ document_is))
+
+    -- a fault, which isn't want of memory
+    pub fault_told : (fault : Option Fault) → FailsAs fault (document_of bytes) → IfSome fault (λ f. hint ≡ hint_line (reason t f)) → is_some fault ≡ true
+        → IsHint bytes hint
+    fault_told None fails told some = absurd (cc)
+    fault_told (Some f) fails told some = hinted (told ∙ ap (told_of t) (sym fails ∙ document_is))
+
+  -- bytes that are none
+  pub refusal_told : tree_of bytes ≡ None → IsRefused bytes hint → IsHint bytes hint
+  refusal_told tree refused = subst (λ it. IsHintOf bytes it hint) (sym tree) refused
+
+-- the tree of text that is read, and of text that isn't
+pub tree_read : (bytes : List ℕ) (t : Members) → IsUtf8 bytes → parse_document bytes ≡ Some t → tree_of bytes ≡ Some t
+tree_read bytes t text parsed = rw (is_utf8-from_IsUtf8 bytes text, parsed) refl
+
+pub tree_refused : (bytes : List ℕ) → (IsUtf8 bytes → parse_document bytes ≡ None) → tree_of bytes ≡ None
+tree_refused bytes refused =
+    elim (cases_Bool (is_utf8 bytes)) [
+      | inl text ↦ rw (text, refused (IsUtf8-from_is_utf8 bytes text)) refl
+      | inr other ↦ rw other refl
+    ]

@@ -1,0 +1,3 @@
+mod Finds
+mod Lists
+mod Hinted

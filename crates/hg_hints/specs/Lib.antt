@@ -1,0 +1,5 @@
+pub mod Keys
+pub mod Near
+pub mod Reasons
+pub mod Spots
+pub mod Hints
