@@ -1,14 +1,16 @@
 -- How a race under the policy of some bytes ends: its status, and what it writes.
-use Rattle.std.specs.Prelude.{◌≡◌, ◌⊎◌, ℕ, true, false, List, Ok}
+use Rattle.std.specs.Prelude.{◌≡◌, ◌⊎◌, ◌++◌, ℕ, true, false, List, [], Option, Some, None, Ok, Err}
+use Rattle.std.specs.Prelude.{codes}
 use Rattle.hg_machine.specs.Policy.{Policy}
 use Rattle.hg_policy.specs.Document.{document_of}
+use Rattle.hg_policy.specs.Faults.{Read}
 use Rattle.hg_replay.specs.Sinks.{Seen}
 use Rattle.hg_replay.specs.Statuses.{NoPolicy}
 use Rattle.hg_replay.specs.Writes.{Wrote, StopsIn}
 use Rattle.hg_replay.specs.declared.run.status.Status.{Status}
 use Rattle.hg_replay.specs.declared.run.status.Status.TheVariants as status
 use Rattle.hg_race.specs.Counts.{AreCounts, counts_line}
-use Rattle.hg_race.specs.Fit.{is_fit}
+use Rattle.hg_race.specs.Fit.{is_fit, lack_text}
 
 -- the bytes mean a policy that a race can be run under
 abbrev pub CanRace : List ℕ → Type 0
@@ -36,3 +38,13 @@ EndsRace status.BadPolicy bytes most old new = IsUnfit bytes × (new ≡ old)
 EndsRace status.Failed bytes most old new =
     (new ≡ old) ⊎ (CanRace bytes × ((line : List ℕ) × IsLine most line × StopsIn old new line))
 EndsRace _ bytes most old new = ⊥
+
+-- what is told of a policy under which no race can be run, as a line of its own behind two blanks
+abbrev pub hint_of : Option (List ℕ) → List ℕ
+hint_of None = []
+hint_of (Some lack) = codes "  " ++ lack ++ codes "\n"
+
+-- of bytes that mean no policy nothing is told
+abbrev pub told_of : Read Policy → List ℕ
+told_of (Ok policy) = hint_of (lack_text policy)
+told_of (Err fault) = []

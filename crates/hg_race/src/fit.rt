@@ -1,7 +1,7 @@
 //! What a race is run with, and under which policies.
 
-ghost use Rattle.std.specs.Prelude.{◌≡◌};
-ghost use Rattle.hg_race.specs.Fit.{has_room, has_segment, is_first, is_fit};
+ghost use Rattle.std.specs.Prelude.{◌≡◌, not, option_map, is_some};
+ghost use Rattle.hg_race.specs.Fit.{has_segment, is_first, is_fit, lack_text};
 
 use hg_place::Actor;
 use hg_policy::Policy;
@@ -37,13 +37,27 @@ fn has_segment(policy: &Policy) -> bool
     false
 }
 
-/// Whether there is such a tenant, whose limit allows a block.
-fn has_room(policy: &Policy) -> bool
-    ensures { result ≡ has_room policy.now }
+/// What a policy lacks for a race, of several the first; nothing where one can be run under it.
+#[tactic(auto, unfolding(crate::specs::Fit::lack_text))]
+pub(crate) fn lack(policy: &Policy) -> Option<&'static str>
+    ensures text { option_map (λ text. text.now) result ≡ lack_text policy.now }
+    ensures unfit { is_some result ≡ not (is_fit policy.now) }
 {
+    if policy.workers() < 2 {
+        return Some("a race takes two workers, and the policy has one");
+    }
     match policy.limit(TENANT.0) {
-        Some(limit) => limit >= BYTES,
-        None => false,
+        None => Some("a race takes a tenant, and the policy has none"),
+        Some(limit) if limit < BYTES => {
+            Some("a race takes 8 bytes, and the first tenant's limit is below that")
+        }
+        Some(_) if !has_segment(policy) => {
+            Some("a race takes a segment of the first arena, and there is none")
+        }
+        Some(_) if !policy.admits(ARENA, TENANT) => Some(
+            "a race takes an arena for the first tenant, and the first one doesn't admit it",
+        ),
+        Some(_) => None,
     }
 }
 
@@ -51,5 +65,5 @@ fn has_room(policy: &Policy) -> bool
 pub(crate) fn is_fit(policy: &Policy) -> bool
     ensures { result ≡ is_fit policy.now }
 {
-    policy.workers() >= 2 && has_room(policy) && has_segment(policy) && policy.admits(ARENA, TENANT)
+    lack(policy).is_none()
 }

@@ -5,7 +5,9 @@
 mod counts;
 mod fault;
 mod fit;
+mod hint;
 mod race;
 mod racers;
 
+pub use hint::race_hint;
 pub use race::run_race;
