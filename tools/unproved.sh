@@ -19,13 +19,13 @@ unproved() {
     exec 3<&0
     guard
     scratch=$(mktemp -d)
-    # The option goes behind the files, wherever it stood; behind `--` it is the name of one.
-    option='' ended=''
+    # Options go behind the files, wherever they stood; behind `--` such a word is the name of one.
+    options='' ended=''
     for it; do
         shift
         [ "$it" != -- ] || ended=yes
         case $ended$it in
-            --explain | --json) option=$it ;;
+            --explain | --json) options="$options $it" ;;
             *) set -- "$@" "$it" ;;
         esac
     done
@@ -61,7 +61,7 @@ unproved() {
             ;;
     esac
     # shellcheck disable=SC2086 # no word where it is empty
-    set -- -- "$@" $option
+    set -- -- "$@" $options
     for it in "$scratch/policy" "$scratch"/trace*; do
         [ ! -f "$it" ] || set -- --data "${it##*/}=$it" "$@"
     done

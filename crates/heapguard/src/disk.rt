@@ -2,16 +2,34 @@
 
 ghost use Rattle.std.specs.Prelude.{None, true};
 
-use hg_program::Host;
+use hg_program::{Host, Why};
 use hg_replay::{ReadFault, read_limited};
 use std::alloc::Global;
-use std::fs;
-use std::io::IsTerminal;
+use std::io::{Error, ErrorKind, IsTerminal, Read};
+use std::{fs, io};
 
 /// The files and the terminal of the system. The file `-` is the input.
 #[derive(Drop)]
 pub(crate) struct Disk<'a> {
     pub(crate) rt: &'a HostRuntime,
+}
+
+impl Disk<'_> {
+    /// Whether a byte can be read of a file, or why not.
+    fn read_a_byte(&self, path: &str) -> io::Result<usize> {
+        let mut file = fs::open(self.rt, path)?;
+        file.read(&mut [0u8; 1])
+    }
+}
+
+/// Why the system refused a file.
+fn why(error: &Error) -> Why {
+    match error.kind() {
+        ErrorKind::NotFound | ErrorKind::NotADirectory => Why::Missing,
+        ErrorKind::IsADirectory => Why::Folder,
+        ErrorKind::PermissionDenied => Why::Denied,
+        _ => Why::Other,
+    }
 }
 
 impl Host for Disk<'_> {
@@ -28,6 +46,16 @@ impl Host for Disk<'_> {
         match fs::open(self.rt, path) {
             Ok(mut file) => read_limited(alloc, &mut file),
             Err(_) => Err(ReadFault::Failed),
+        }
+    }
+
+    fn why_unread(&self, path: &str) -> Why {
+        if path == "-" {
+            return Why::Other;
+        }
+        match self.read_a_byte(path) {
+            Ok(_) => Why::Other,
+            Err(error) => why(&error),
         }
     }
 

@@ -5,7 +5,7 @@ use Rattle.clap.specs.Walk.{walked}
 use Rattle.clap.specs.declared.error.kind.ErrorKind.{ErrorKind}
 use Rattle.clap.specs.declared.error.kind.ErrorKind.TheVariants as kind
 use Rattle.hg_job.specs.Jobs.{IsDecimal, IsNumber, RefusedBy, faults_of}
-use Rattle.hg_job.specs.JobLaws.{OptionsAreJobs, WordsAreJobs, RequestsArePrinted, IsPrinted, IsTold}
+use Rattle.hg_job.specs.JobLaws.{OptionsAreJobs, OptionsExplain, WordsAreJobs, RequestsArePrinted, IsPrinted, IsTold}
 use Rattle.hg_job.specs.declared.job.Job.TheVariants.{Joined, Check, Replay, Race, Test, Show}
 use Rattle.hg_job.specs.declared.job.Job.TheVariants.{ExplainJoined, Explain, CheckTrace, ShowJson}
 use Rattle.hg_job.specs.declared.job.JobFault.{JobFault}
@@ -176,6 +176,10 @@ options_are_jobs (Explain policy trace) = (
   (λ h. let job = job_of h in (job.1, job.2)),
   (λ h. let e = (job_of h).0 in absurd (cc)),
 )
+
+pub options_explain : OptionsExplain
+unfolding walked
+options_explain = (refl, refl, refl, refl, refl, refl, refl)
 
 -- where a request is all that the words may be refused for
 only_printed : (k : ErrorKind) → (k ≡ kind.DisplayHelp) ⊎ (k ≡ kind.DisplayVersion) → (fault : JobFault) → RefusedBy (k ∷ []) fault → IsPrinted fault

@@ -8,9 +8,10 @@ use Rattle.clap.specs.Kinds.{Kinds, IsAmong, or_else}
 use Rattle.clap.specs.declared.error.kind.ErrorKind.{ErrorKind}
 use Rattle.clap.specs.declared.error.kind.ErrorKind.TheVariants.{ArgumentConflict}
 use Rattle.hg_job.specs.CommandLine.{heapguard}
-use Rattle.hg_job.specs.Jobs.{IsJobAt, IsJobOf, IsKnown, RefusedBy, TellsOf, accepts, against, against_words, faults_of}
+use Rattle.hg_job.specs.Jobs.{IsJobAt, IsJobOf, IsKnown, IsTaskAt, RefusedBy, TellsOf, accepts, against, against_words, faults_of}
 use Rattle.hg_job.specs.Jobs.{help_faults, is_given, is_none, reads_twice, twice_faults}
 use Rattle.hg_job.specs.declared.job.Job.{Job}
+use Rattle.hg_job.specs.declared.job.Task.{Task}
 use Rattle.hg_job.specs.declared.job.JobFault.{JobFault}
 use Rattle.hg_job.specs.declared.job.JobFault.TheVariants.{Memory}
 use Rattle.hg_job.proofs.CommandLemmas.{at_free, at_simple, subcommand_known}
@@ -23,10 +24,10 @@ second_of_both : (a b : Bool) → (a && b) ≡ true → b ≡ true
 second_of_both true b h = h
 second_of_both false b h = absurd (cc)
 
--- nothing is against a job
-job_unopposed : (options : List Row) (entered : Option (Text × List Row)) (job : Job) → IsJobAt options entered job → against options entered ≡ []
-job_unopposed options None job is = refl
-job_unopposed options (Some p) job (unopposed, is) = unopposed
+-- nothing is against a task
+task_unopposed : (options : List Row) (entered : Option (Text × List Row)) (task : Task) → IsTaskAt options entered task → against options entered ≡ []
+task_unopposed options None task is = refl
+task_unopposed options (Some p) task ((unopposed, is), explains) = unopposed
 
 -- where nothing may be told, memory was refused
 memory_alone : (kinds : Kinds) (fault : JobFault) → RefusedBy kinds fault → is_none kinds ≡ true → fault ≡ Memory
@@ -129,18 +130,18 @@ module _ (words : List Text) where
     pub known_entered : IsKnown entered
     known_entered = subst IsKnown (sym entered_is) (subcommand_known words)
 
-    pub job_found : (answer : Result Job JobFault) → IfOk answer (IsJobAt options entered)
-        → IfOk answer (IsJobAt (matches_of heapguard words) (subcommand_of heapguard words))
-    job_found answer of_found =
-        subst (λ e. IfOk answer (IsJobAt (matches_of heapguard words) e)) entered_is
-        (subst (λ o. IfOk answer (IsJobAt o entered)) options_are of_found)
+    pub task_found : (answer : Result Task JobFault) → IfOk answer (IsTaskAt options entered)
+        → IfOk answer (IsTaskAt (matches_of heapguard words) (subcommand_of heapguard words))
+    task_found answer of_found =
+        subst (λ e. IfOk answer (IsTaskAt (matches_of heapguard words) e)) entered_is
+        (subst (λ o. IfOk answer (IsTaskAt o entered)) options_are of_found)
 
     not_accepted : (fault : JobFault) → RefusedBy (against options entered) fault → accepts words ≡ true → fault ≡ Memory
     not_accepted fault refused taken =
         memory_alone (against options entered) fault refused
         (ap is_none (sym against_is) ∙ second_of_both (takes heapguard words) (is_none (against_words words)) taken)
 
-    pub opposed_not_accepted : (answer : Result Job JobFault) → IfErr answer (RefusedBy (against options entered))
+    pub opposed_not_accepted : (answer : Result Task JobFault) → IfErr answer (RefusedBy (against options entered))
         → IfErr answer (λ fault. accepts words ≡ true → fault ≡ Memory)
     opposed_not_accepted answer = IfErr-weaker answer (RefusedBy (against options entered)) (λ fault. accepts words ≡ true → fault ≡ Memory) not_accepted
 
@@ -149,15 +150,15 @@ module _ (words : List Text) where
       faults_are : faults_of words ≡ against options entered
       faults_are = against_alone (at_free (λ a. fault_of a words ≡ []) command is free) ∙ against_is
 
-      faultless_job : (job : Job) → IsJobAt options entered job → faults_of words ≡ []
-      faultless_job job of_found = faults_are ∙ job_unopposed options entered job of_found
+      faultless_task : (task : Task) → IsTaskAt options entered task → faults_of words ≡ []
+      faultless_task task of_found = faults_are ∙ task_unopposed options entered task of_found
 
-      pub faultless : (answer : Result Job JobFault) → IfOk answer (IsJobAt options entered) → IfOk answer (λ _. faults_of words ≡ [])
-      faultless answer = IfOk-weaker answer (IsJobAt options entered) (λ _. faults_of words ≡ []) faultless_job
+      pub faultless : (answer : Result Task JobFault) → IfOk answer (IsTaskAt options entered) → IfOk answer (λ _. faults_of words ≡ [])
+      faultless answer = IfOk-weaker answer (IsTaskAt options entered) (λ _. faults_of words ≡ []) faultless_task
 
       refused_one : (fault : JobFault) → RefusedBy (against options entered) fault → RefusedBy (faults_of words) fault
       refused_one fault = subst (λ kinds. RefusedBy kinds fault) (sym faults_are)
 
       -- what is against the words, or want of memory
-      pub opposed_refused : (answer : Result Job JobFault) → IfErr answer (RefusedBy (against options entered)) → IfErr answer (RefusedBy (faults_of words))
+      pub opposed_refused : (answer : Result Task JobFault) → IfErr answer (RefusedBy (against options entered)) → IfErr answer (RefusedBy (faults_of words))
       opposed_refused answer = IfErr-weaker answer (RefusedBy (against options entered)) (RefusedBy (faults_of words)) refused_one

@@ -29,8 +29,10 @@ optional name = new_rule name
 
 abbrev pub check : App
 check =
-    with_rule (with_rule (new_app (codes "check")) (required (codes "POLICY")))
-    (optional (codes "TRACE"))
+    with_rule
+    (with_rule (with_rule (new_app (codes "check")) (required (codes "POLICY")))
+    (optional (codes "TRACE")))
+    (flag (codes "explain"))
 
 abbrev pub replay : App
 replay =
@@ -41,18 +43,24 @@ replay =
 
 abbrev pub race : App
 race =
-    with_rule (with_rule (new_app (codes "race")) (required (codes "POLICY")))
-    (counted (codes "ROUNDS"))
+    with_rule
+    (with_rule (with_rule (new_app (codes "race")) (required (codes "POLICY")))
+    (counted (codes "ROUNDS")))
+    (flag (codes "explain"))
 
 abbrev pub test : App
 test =
-    with_rule (with_rule (new_app (codes "test")) (required (codes "POLICY")))
-    (several (codes "TRACE"))
+    with_rule
+    (with_rule (with_rule (new_app (codes "test")) (required (codes "POLICY")))
+    (several (codes "TRACE")))
+    (flag (codes "explain"))
 
 abbrev pub show : App
 show =
-    with_rule (with_rule (new_app (codes "show")) (required (codes "POLICY")))
-    (flag (codes "json"))
+    with_rule
+    (with_rule (with_rule (new_app (codes "show")) (required (codes "POLICY")))
+    (flag (codes "json")))
+    (flag (codes "explain"))
 
 -- the program alone: its words come without its own name, and help and the version are asked for by
 -- flags

@@ -1,8 +1,8 @@
 -- Laws of what words are answered.
-use Rattle.std.specs.Prelude.{⊤, ◌≡◌, ℕ, List, [], ◌∷◌, codes, map}
+use Rattle.std.specs.Prelude.{⊤, ◌≡◌, ℕ, Bool, true, false, List, [], ◌∷◌, codes, map}
 use Rattle.clap.specs.Words.{Text, matches_of, subcommand_of}
 use Rattle.hg_job.specs.CommandLine.{heapguard}
-use Rattle.hg_job.specs.Jobs.{IsJobAt, RefusedBy, faults_of}
+use Rattle.hg_job.specs.Jobs.{IsJobAt, RefusedBy, explains, faults_of}
 use Rattle.hg_job.specs.declared.job.Job.{Job}
 use Rattle.hg_job.specs.declared.job.Job.TheVariants.{Joined, Check, Replay, Race, Test, Show}
 use Rattle.hg_job.specs.declared.job.Job.TheVariants.{ExplainJoined, Explain, CheckTrace, ShowJson}
@@ -80,6 +80,20 @@ OptionsAreJobs =
     × (AskFor (codes "replay" ∷ codes "p" ∷ codes "t" ∷ codes "--explain" ∷ []) job
     → IsExplainOf (codes "p") (codes "t") job)
     × (AskFor (codes "show" ∷ codes "p" ∷ codes "--json" ∷ []) job → IsShowJsonOf (codes "p") job)
+
+-- the words ask for faults to be explained
+abbrev pub are_explained : List Text → Bool
+are_explained words = explains (matches_of heapguard words) (subcommand_of heapguard words)
+
+-- with `--explain` behind a command faults are explained, and without it they aren't
+abbrev pub OptionsExplain : Type 0
+OptionsExplain =
+    (are_explained (codes "--explain" ∷ []) ≡ true) × (are_explained [] ≡ false)
+    × (are_explained (codes "check" ∷ codes "--explain" ∷ codes "p" ∷ []) ≡ true)
+    × (are_explained (codes "check" ∷ codes "p" ∷ []) ≡ false)
+    × (are_explained (codes "race" ∷ codes "p" ∷ codes "1000" ∷ codes "--explain" ∷ []) ≡ true)
+    × (are_explained (codes "test" ∷ codes "--explain" ∷ codes "p" ∷ codes "t" ∷ []) ≡ true)
+    × (are_explained (codes "show" ∷ codes "p" ∷ codes "--explain" ∷ []) ≡ true)
 
 -- a text to print, or want of memory
 abbrev pub IsPrinted : JobFault → Type 0

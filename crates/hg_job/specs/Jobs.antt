@@ -13,6 +13,7 @@ use Rattle.hg_job.specs.CommandLine.{heapguard, command_names}
 use Rattle.hg_job.specs.declared.job.Job.{Job}
 use Rattle.hg_job.specs.declared.job.Job.TheVariants.{Joined, Check, Replay, Race, Test, Show}
 use Rattle.hg_job.specs.declared.job.Job.TheVariants.{ExplainJoined, Explain, CheckTrace, ShowJson}
+use Rattle.hg_job.specs.declared.job.Task.{Task}
 use Rattle.hg_job.specs.declared.job.JobFault.{JobFault}
 use Rattle.hg_job.specs.declared.job.JobFault.TheVariants.{Print, Line, Memory}
 
@@ -109,6 +110,17 @@ IsJobAt options None job =
     job ≡ (if is_given (codes "explain") options then ExplainJoined else Joined)
 IsJobAt options (Some p) job = (against options (Some p) ≡ []) × IsJobOf p.0 p.1 job
 
+-- whether faults are explained: `--explain` was given to the command that was entered, or to the program
+-- alone
+abbrev pub explains : List Row → Option (Text × List Row) → Bool
+explains options None = is_given (codes "explain") options
+explains options (Some p) = is_given (codes "explain") p.1
+
+-- what is asked for so: that job, and whether faults are explained
+abbrev pub IsTaskAt : List Row → Option (Text × List Row) → Task → Type 0
+IsTaskAt options entered task =
+    IsJobAt options entered task.job × (task.explain ≡ explains options entered)
+
 -- what is so against words
 abbrev pub against_words : List Text → Kinds
 against_words words = against (matches_of heapguard words) (subcommand_of heapguard words)
@@ -141,12 +153,12 @@ TellsOf k Memory = ⊥
 abbrev pub RefusedBy : Kinds → JobFault → Type 0
 RefusedBy kinds e = (e ≡ Memory) ⊎ ((k : ErrorKind) × IsAmong k kinds × TellsOf k e)
 
--- what the parser states for words is answered so: by the job of the command that is entered, with
+-- what the parser states for words is answered so: by the task of the command that is entered, with
 -- its operands and options, and only where nothing is against the words; or by a refusal that tells
 -- of what is
-abbrev pub IsAnswerTo : List Text → Result Job JobFault → Type 0
-IsAnswerTo words (Ok job) =
-    IsJobAt (matches_of heapguard words) (subcommand_of heapguard words) job
+abbrev pub IsAnswerTo : List Text → Result Task JobFault → Type 0
+IsAnswerTo words (Ok task) =
+    IsTaskAt (matches_of heapguard words) (subcommand_of heapguard words) task
     × (faults_of words ≡ [])
 IsAnswerTo words (Err fault) =
     RefusedBy (faults_of words) fault × (accepts words ≡ true → fault ≡ Memory)

@@ -44,7 +44,8 @@ const REPLAY_MORE: &str = "\
 Prints the answer to each line of the trace in turn; a `list` prints its rows and then
 their number. Both files are read whole, the policy first, before anything is printed.
 With --explain each line is printed with its number, then its answer, and behind an answer
-that serves nothing the reason, in the policy's words; all of it at the end.
+that serves nothing the reason, in the policy's words; all of it at the end. A fault of the
+policy, or a file that can't be read, is told with what is wanted there, or why.
 
 Exit status:
   0  the trace was run to its end
@@ -165,11 +166,15 @@ fn option<'a>(alloc: Global, name: &'a str, help: &'a str) -> Arg<'a>
         .help(help)
 }
 
-fn explain<'a>(alloc: Global) -> Arg<'a>
+/// What `--explain` does where answers are printed, and where they aren't.
+const WITH_REASONS: &str = "Print each line with its answer and the reason";
+
+const WITH_WANTED: &str = "Tell of a fault what is wanted there";
+
+fn explain<'a>(alloc: Global, help: &'a str) -> Arg<'a>
     ensures rule { rule_of result ≡ flag (codes "explain") }
     ensures local { result.global ≡ false }
 {
-    let help = "Print each line with its answer and the reason";
     option(alloc, "explain", help)
 }
 
@@ -181,7 +186,8 @@ fn check_command<'a>(alloc: Global) -> Result<Command<'a>, AllocError>
         .about(CHECK_ABOUT)
         .after_help(CHECK_MORE)
         .arg(policy(alloc))?
-        .arg(optional(alloc, "TRACE", "File with a trace for it"))
+        .arg(optional(alloc, "TRACE", "File with a trace for it"))?
+        .arg(explain(alloc, WITH_WANTED))
 }
 
 fn replay_command<'a>(alloc: Global) -> Result<Command<'a>, AllocError>
@@ -193,7 +199,7 @@ fn replay_command<'a>(alloc: Global) -> Result<Command<'a>, AllocError>
         .after_help(REPLAY_MORE)
         .arg(policy(alloc))?
         .arg(trace(alloc))?
-        .arg(explain(alloc))
+        .arg(explain(alloc, WITH_REASONS))
 }
 
 fn race_command<'a>(alloc: Global) -> Result<Command<'a>, AllocError>
@@ -204,7 +210,8 @@ fn race_command<'a>(alloc: Global) -> Result<Command<'a>, AllocError>
         .about(RACE_ABOUT)
         .after_help(RACE_MORE)
         .arg(policy(alloc))?
-        .arg(rounds(alloc))
+        .arg(rounds(alloc))?
+        .arg(explain(alloc, WITH_WANTED))
 }
 
 fn test_command<'a>(alloc: Global) -> Result<Command<'a>, AllocError>
@@ -215,7 +222,8 @@ fn test_command<'a>(alloc: Global) -> Result<Command<'a>, AllocError>
         .about(TEST_ABOUT)
         .after_help(TEST_MORE)
         .arg(policy(alloc))?
-        .arg(traces(alloc))
+        .arg(traces(alloc))?
+        .arg(explain(alloc, WITH_WANTED))
 }
 
 fn show_command<'a>(alloc: Global) -> Result<Command<'a>, AllocError>
@@ -226,7 +234,8 @@ fn show_command<'a>(alloc: Global) -> Result<Command<'a>, AllocError>
         .about(SHOW_ABOUT)
         .after_help(SHOW_MORE)
         .arg(policy(alloc))?
-        .arg(option(alloc, "json", "Print it as JSON, for programs"))
+        .arg(option(alloc, "json", "Print it as JSON, for programs"))?
+        .arg(explain(alloc, WITH_WANTED))
 }
 
 fn help_command<'a>(alloc: Global) -> Result<Command<'a>, AllocError>
@@ -256,7 +265,7 @@ fn named<'a>(alloc: Global) -> Result<Command<'a>, AllocError>
 fn program<'a>(alloc: Global) -> Result<Command<'a>, AllocError>
     ensures { IfOk result (λ c. app_of c ≡ alone) }
 {
-    named(alloc)?.arg(explain(alloc))
+    named(alloc)?.arg(explain(alloc, WITH_REASONS))
 }
 
 /// The program with the commands that read a policy or a trace once.

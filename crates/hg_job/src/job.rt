@@ -3,11 +3,11 @@
 ghost use Rattle.std.specs.Prelude.{◌≡◌, ◌⊎◌, true, IfOk, IfErr, map, []};
 ghost use Rattle.clap.specs.Words.{matches_of, subcommand_of, kind_of};
 ghost use Rattle.hg_job.specs.CommandLine.{heapguard};
-ghost use Rattle.hg_job.specs.Jobs.{accepts, faults_of, IsJobAt, RefusedBy, TellsOf};
+ghost use Rattle.hg_job.specs.Jobs.{accepts, faults_of, IsTaskAt, RefusedBy, TellsOf};
 ghost use Rattle.hg_job.specs.declared.job.JobFault.TheVariants.{Memory};
 
 use crate::command::command;
-use crate::matches::job_in;
+use crate::matches::task_in;
 use clap::Error;
 use clap::error::ErrorKind;
 use std::alloc::{AllocError, Global};
@@ -38,6 +38,14 @@ pub enum Job<'a> {
     Show(&'a str),
     /// The same, as JSON.
     ShowJson(&'a str),
+}
+
+/// What the words of a command line ask for.
+#[derive(Debug, Drop)]
+pub struct Task<'a> {
+    pub job: Job<'a>,
+    /// Whether `--explain` was given: a fault is told with what is wanted in its place.
+    pub explain: bool,
 }
 
 /// Why there is nothing to do.
@@ -90,22 +98,22 @@ pub(crate) fn fault_in(alloc: Global, error: &Error) -> JobFault
 }
 
 /// What the words after the program's name ask for.
-pub fn job_of<'a>(alloc: Global, words: &'a [&'a str]) -> Result<Job<'a>, JobFault>
+pub fn task_of<'a>(alloc: Global, words: &'a [&'a str]) -> Result<Task<'a>, JobFault>
     // The job is that of the command, the operands and the options that the parser states for these
-    // words.
-    ensures job { IfOk result (IsJobAt (matches_of heapguard (map (λ w. w.now) words.now))
+    // words, and so is whether faults are explained.
+    ensures task { IfOk result (IsTaskAt (matches_of heapguard (map (λ w. w.now) words.now))
         (subcommand_of heapguard (map (λ w. w.now) words.now))) }
     // Words that the program takes are refused for memory alone.
     ensures taken { IfErr result (λ e.
         accepts (map (λ w. w.now) words.now) ≡ true → e ≡ JobFault.Memory) }
-    // There is a job only where nothing is against the words.
+    // There is a task only where nothing is against the words.
     ensures faultless { IfOk result (λ _. faults_of (map (λ w. w.now) words.now) ≡ []) }
     // A text is printed where the parser answers with help or the version, a line told where there
     // is another fault.
     ensures refused { IfErr result (RefusedBy (faults_of (map (λ w. w.now) words.now))) }
 {
     match command(alloc)?.try_get_matches_from(words) {
-        Ok(matches) => job_in(alloc, &matches),
+        Ok(matches) => task_in(alloc, &matches),
         Err(error) => Err(fault_in(alloc, &error)),
     }
 }

@@ -1,6 +1,7 @@
 //! Laws of the definitions. Each function does nothing: what it promises is the law.
 
-ghost use Rattle.hg_job.specs.JobLaws.{OptionsAreJobs, RequestsArePrinted, WordsAreJobs};
+ghost use Rattle.hg_job.specs.JobLaws.{OptionsAreJobs, OptionsExplain, RequestsArePrinted};
+ghost use Rattle.hg_job.specs.JobLaws.{WordsAreJobs};
 
 /// No words ask for a replay of standard input, `check p` for a check of that file, and `replay p t`
 /// for a replay of the second file under the first; so with each command that has no option.
@@ -13,6 +14,12 @@ pub fn words_are_jobs()
 /// the policy says as JSON.
 pub fn options_are_jobs()
     ensures { OptionsAreJobs }
+{}
+
+/// With `--explain`, alone or behind a command, before its operands or after them, faults are explained;
+/// without it they aren't.
+pub fn options_explain()
+    ensures { OptionsExplain }
 {}
 
 /// `--help`, `help`, `help check` and `--version` are answered by a text to print, and never by a line;

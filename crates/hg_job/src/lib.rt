@@ -7,4 +7,4 @@ mod job;
 pub mod laws;
 mod matches;
 
-pub use job::{Job, JobFault, job_of};
+pub use job::{Job, JobFault, Task, task_of};

@@ -5,13 +5,14 @@ ghost use Rattle.clap.specs.Kinds.{or_else};
 ghost use Rattle.clap.specs.Words.{fault_of, first_of, found_of, one_of, rows_of};
 ghost use Rattle.clap.specs.Words.{subcommand_rows_of};
 ghost use Rattle.hg_job.specs.CommandLine.{command_names, heapguard};
-ghost use Rattle.hg_job.specs.Jobs.{against, help_faults, is_given, is_input, is_read_twice};
+ghost use Rattle.hg_job.specs.Jobs.{against, explains, help_faults, is_given, is_input};
+ghost use Rattle.hg_job.specs.Jobs.{is_read_twice, IsTaskAt};
 ghost use Rattle.hg_job.specs.Jobs.{operand, operands, reads_twice, twice_faults, IsJobAt};
 ghost use Rattle.hg_job.specs.Jobs.{IsJobOf, IsKnown, IsNumber, RefusedBy, TellsOf};
 
 use crate::command::command;
 use crate::job::fault_in;
-use crate::{Job, JobFault};
+use crate::{Job, JobFault, Task};
 use clap::ArgMatches;
 use clap::error::ErrorKind;
 use std::alloc::{AllocError, Global};
@@ -209,7 +210,7 @@ fn job_within<'a>(
 }
 
 /// The job of the command that was entered, or that of the program alone.
-pub(crate) fn job_in<'a>(alloc: Global, matches: &ArgMatches<'a>) -> Result<Job<'a>, JobFault>
+fn job_in<'a>(alloc: Global, matches: &ArgMatches<'a>) -> Result<Job<'a>, JobFault>
     requires { IsKnown (subcommand_rows_of matches.now) }
     ensures job { IfOk result
         (IsJobAt (rows_of (found_of matches.now)) (subcommand_rows_of matches.now)) }
@@ -221,4 +222,27 @@ pub(crate) fn job_in<'a>(alloc: Global, matches: &ArgMatches<'a>) -> Result<Job<
         None if is_given(matches, "explain") => Ok(Job::ExplainJoined),
         None => Ok(Job::Joined),
     }
+}
+
+/// Whether `--explain` was given, to the command that was entered or to the program alone.
+fn explains(matches: &ArgMatches<'_>) -> bool
+    ensures { result ≡ explains (rows_of (found_of matches.now)) (subcommand_rows_of matches.now) }
+{
+    match matches.subcommand() {
+        Some((_, inner)) => is_given(inner, "explain"),
+        None => is_given(matches, "explain"),
+    }
+}
+
+/// The same job, and whether faults are explained.
+pub(crate) fn task_in<'a>(alloc: Global, matches: &ArgMatches<'a>) -> Result<Task<'a>, JobFault>
+    requires { IsKnown (subcommand_rows_of matches.now) }
+    ensures task { IfOk result
+        (IsTaskAt (rows_of (found_of matches.now)) (subcommand_rows_of matches.now)) }
+    ensures err { IfErr result
+        (RefusedBy (against (rows_of (found_of matches.now)) (subcommand_rows_of matches.now))) }
+{
+    let explain = explains(matches);
+    let job = job_in(alloc, matches)?;
+    Ok(Task { job, explain })
 }

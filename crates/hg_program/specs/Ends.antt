@@ -21,6 +21,7 @@ use Rattle.hg_job.specs.Jobs.{IsAnswerTo}
 use Rattle.hg_job.specs.declared.job.Job.{Job}
 use Rattle.hg_job.specs.declared.job.Job.TheVariants as job
 use Rattle.hg_job.specs.declared.job.JobFault.{JobFault}
+use Rattle.hg_job.specs.declared.job.Task.{Task}
 use Rattle.hg_job.specs.declared.job.JobFault.TheVariants as fault
 
 -- bytes of a file that holds these, where what it holds is known, and not more than the limit
@@ -155,9 +156,10 @@ EndsRefusal fault.Memory ended old new err_old err_new =
 
 -- a job is done, or the words are refused
 abbrev pub EndsAnswer
-    : (List ℕ → Option (List ℕ)) → Option (List ℕ) → Result Job JobFault → Status
+    : (List ℕ → Option (List ℕ)) → Option (List ℕ) → Result Task JobFault → Status
     → Seen → Seen → Seen → Seen → Type 0
-EndsAnswer holds input (Ok job) ended old new err_old err_new = EndsJob holds input job ended old new
+EndsAnswer holds input (Ok task) ended old new err_old err_new =
+    EndsJob holds input task.job ended old new
 EndsAnswer holds input (Err fault) ended old new err_old err_new =
     EndsRefusal fault ended old new err_old err_new
 
@@ -166,13 +168,13 @@ abbrev pub EndsProgram
     : List (List ℕ) → (List ℕ → Option (List ℕ)) → Option (List ℕ) → Status
     → Seen → Seen → Seen → Seen → Type 0
 EndsProgram words holds input ended old new err_old err_new =
-    (answer : Result Job JobFault) × IsAnswerTo words answer
+    (answer : Result Task JobFault) × IsAnswerTo words answer
     × EndsAnswer holds input answer ended old new err_old err_new
 
 -- this holds where what the words ask for warns of nothing
 abbrev pub AreQuietWords : List (List ℕ) → (List ℕ → Option (List ℕ)) → Type 0 → Type 0
 AreQuietWords words holds Quiet =
-    Quiet ⊎ ((job : Job) × IsAnswerTo words (Ok job) × IsQuietJob holds job Quiet)
+    Quiet ⊎ ((task : Task) × IsAnswerTo words (Ok task) × IsQuietJob holds task.job Quiet)
 
 -- the system gives no words, and nothing is written: for want of memory the status is Failed, and
 -- else the words are no text

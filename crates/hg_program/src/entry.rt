@@ -8,12 +8,13 @@ ghost use Rattle.hg_replay.specs.declared.run.status.Status.{Status};
 ghost use Rattle.hg_program.specs.Ends.{AreQuietWords, EndsJob, EndsProgram, EndsWordless};
 ghost use Rattle.hg_program.specs.Ends.{IsQuietJob};
 
+use crate::context::Context;
 use crate::files::{check_file, check_files, explain_files, race_file, replay_files, test_files};
 use crate::host::Host;
 use crate::joined::{explain_input, replay_input};
 use crate::refusal::{fails, refuse};
 use crate::showing::{show_file, show_file_json};
-use hg_job::{Job, job_of};
+use hg_job::{Job, Task, task_of};
 use hg_replay::{ReadFault, Sink, Status};
 use std::alloc::{AllocError, Global};
 use std::io;
@@ -25,31 +26,28 @@ use std::thread::Threads;
 /// Does a job.
 fn do_job<T: Threads + Wait, H: Host, R: Read, W: Sink, E: Write>(
     rt: &T,
-    alloc: Global,
+    cx: &Context<'_, H>,
     job: &Job,
-    host: &H,
     input: &mut R,
     out: &mut W,
     err: &mut E,
 ) -> Status
-    ensures ends { EndsJob (H.holds host.now) (R.remaining input.old) job.now result
+    ensures ends { EndsJob (H.holds cx.now.host.now) (R.remaining input.old) job.now result
         (W.seen out.old) (W.seen out.new) }
-    ensures quiet { H.may_be_terminal host.now ≡ false → result ≡ Status.Done
-        → IsQuietJob (H.holds host.now) job.now (err.new ≡ err.old) }
+    ensures quiet { H.may_be_terminal cx.now.host.now ≡ false → result ≡ Status.Done
+        → IsQuietJob (H.holds cx.now.host.now) job.now (err.new ≡ err.old) }
 {
     match job {
-        Job::Joined => replay_input(alloc, host, input, out, err),
-        Job::ExplainJoined => explain_input(alloc, host, input, out, err),
-        Job::Check(policy) => check_file(alloc, host, policy, out, err),
-        Job::CheckTrace(policy, trace) => check_files(alloc, host, policy, trace, out, err),
-        Job::Replay(policy, trace) => replay_files(alloc, host, policy, trace, out, err),
-        Job::Explain(policy, trace) => explain_files(alloc, host, policy, trace, out, err),
-        Job::Race(policy, rounds) => race_file(rt, alloc, host, policy, *rounds, out, err),
-        Job::Test(policy, traces) => {
-            test_files(alloc, host, policy, traces.as_slice(), out, err)
-        }
-        Job::Show(policy) => show_file(alloc, host, policy, out, err),
-        Job::ShowJson(policy) => show_file_json(alloc, host, policy, out, err),
+        Job::Joined => replay_input(cx, input, out, err),
+        Job::ExplainJoined => explain_input(cx, input, out, err),
+        Job::Check(policy) => check_file(cx, policy, out, err),
+        Job::CheckTrace(policy, trace) => check_files(cx, policy, trace, out, err),
+        Job::Replay(policy, trace) => replay_files(cx, policy, trace, out, err),
+        Job::Explain(policy, trace) => explain_files(cx, policy, trace, out, err),
+        Job::Race(policy, rounds) => race_file(rt, cx, policy, *rounds, out, err),
+        Job::Test(policy, traces) => test_files(cx, policy, traces.as_slice(), out, err),
+        Job::Show(policy) => show_file(cx, policy, out, err),
+        Job::ShowJson(policy) => show_file_json(cx, policy, out, err),
     }
 }
 
@@ -71,8 +69,15 @@ pub fn program<T: Threads + Wait, H: Host, R: Read, W: Sink, E: Sink + Write>(
     ensures quiet { H.may_be_terminal host.now ≡ false → result ≡ Status.Done
         → AreQuietWords (map (λ w. w.now) words.now) (H.holds host.now) (err.new ≡ err.old) }
 {
-    match job_of(alloc, words) {
-        Ok(job) => do_job(rt, alloc, &job, host, input, out, err),
+    match task_of(alloc, words) {
+        Ok(Task { job, explain }) => {
+            let cx = Context {
+                alloc,
+                host,
+                explain,
+            };
+            do_job(rt, &cx, &job, input, out, err)
+        }
         Err(fault) => refuse(&fault, out, err),
     }
 }

@@ -5,187 +5,190 @@ ghost use Rattle.hg_replay.specs.declared.run.input.TheConstants.{LIMIT};
 ghost use Rattle.hg_program.specs.Ends.{EndsOnChecked, EndsOnExplained, EndsOnFile, EndsOnFiles};
 ghost use Rattle.hg_program.specs.Ends.{EndsOnRace, EndsOnTests, IsOf, IsQuietTest, StandOf};
 
+use crate::context::{Context, Unread, told};
 use crate::host::Host;
-use crate::refusal::fails;
 use hg_expect::{Source, Tests};
 use hg_race::run_race;
 use hg_reasons::run_explained;
-use hg_replay::{ReadFault, Sink, Status, run_check, run_texts};
+use hg_replay::{Sink, Status, run_check, run_texts};
 use hg_strangers::run_check_trace;
-use std::alloc::Global;
 use std::io::Write;
 use std::sync::Wait;
 use std::thread::Threads;
 
 /// Both files, the policy's first.
-fn read_files<H: Host>(
-    alloc: Global,
-    host: &H,
-    policy: &str,
-    trace: &str,
-) -> Result<(Vec<u8>, Vec<u8>), ReadFault>
-    ensures policy { IfOk result (λ files. IsOf (H.holds host.now policy.now) files.0.items) }
-    ensures trace { IfOk result (λ files. IsOf (H.holds host.now trace.now) files.1.items) }
+fn read_files<'a, H: Host>(
+    cx: &Context<'_, H>,
+    policy: &'a str,
+    trace: &'a str,
+) -> Result<(Vec<u8>, Vec<u8>), Unread<'a>>
+    ensures policy { IfOk result (λ files. IsOf (H.holds cx.now.host.now policy.now) files.0.items) }
+    ensures trace { IfOk result (λ files. IsOf (H.holds cx.now.host.now trace.now) files.1.items) }
 {
-    let policy = host.read_file(alloc, policy)?;
-    let trace = host.read_file(alloc, trace)?;
+    let policy = cx.read(policy)?;
+    let trace = cx.read(trace)?;
     Ok((policy, trace))
 }
 
 /// Checks the policy of a file.
 pub(crate) fn check_file<H: Host, W: Sink, E: Write>(
-    alloc: Global,
-    host: &H,
+    cx: &Context<'_, H>,
     policy: &str,
     out: &mut W,
     err: &mut E,
 ) -> Status
-    ensures ends { EndsOnFile (H.holds host.now policy.now) result
+    ensures ends { EndsOnFile (H.holds cx.now.host.now policy.now) result
         (W.seen out.old) (W.seen out.new) }
     ensures quiet { result ≡ Status.Done → err.new ≡ err.old }
 {
-    match host.read_file(alloc, policy) {
-        Ok(policy) => run_check(alloc, policy.as_slice(), out, err),
-        Err(fault) => fails(fault, err),
+    match cx.read(policy) {
+        Ok(policy) => cx.explained(run_check(cx.alloc, &policy, out, err), &policy, err),
+        Err(unread) => cx.fails(unread, err),
     }
 }
 
 /// Checks the policy of a file, and the trace of another under it. Both are read before any fault of
 /// either is told.
 pub(crate) fn check_files<H: Host, W: Sink, E: Write>(
-    alloc: Global,
-    host: &H,
+    cx: &Context<'_, H>,
     policy: &str,
     trace: &str,
     out: &mut W,
     err: &mut E,
 ) -> Status
-    ensures ends { EndsOnChecked (H.holds host.now policy.now) (H.holds host.now trace.now) result
-        (W.seen out.old) (W.seen out.new) }
+    ensures ends { EndsOnChecked (H.holds cx.now.host.now policy.now)
+        (H.holds cx.now.host.now trace.now) result (W.seen out.old) (W.seen out.new) }
     ensures quiet { result ≡ Status.Done → err.new ≡ err.old }
 {
-    match read_files(alloc, host, policy, trace) {
+    match read_files(cx, policy, trace) {
         Ok((policy, trace)) => {
-            run_check_trace(alloc, policy.as_slice(), trace.as_slice(), out, err)
+            let ended = run_check_trace(cx.alloc, &policy, &trace, out, err);
+            cx.explained(ended, &policy, err)
         }
-        Err(fault) => fails(fault, err),
+        Err(unread) => cx.fails(unread, err),
     }
 }
 
 /// Replays the trace of a file under the policy of another. Both are read before any fault of
 /// either is told.
 pub(crate) fn replay_files<H: Host, W: Sink, E: Write>(
-    alloc: Global,
-    host: &H,
+    cx: &Context<'_, H>,
     policy: &str,
     trace: &str,
     out: &mut W,
     err: &mut E,
 ) -> Status
-    ensures ends { EndsOnFiles (H.holds host.now policy.now) (H.holds host.now trace.now) result
-        (W.seen out.old) (W.seen out.new) }
+    ensures ends { EndsOnFiles (H.holds cx.now.host.now policy.now)
+        (H.holds cx.now.host.now trace.now) result (W.seen out.old) (W.seen out.new) }
     ensures quiet { result ≡ Status.Done → err.new ≡ err.old }
 {
-    match read_files(alloc, host, policy, trace) {
-        Ok((policy, trace)) => run_texts(alloc, policy.as_slice(), trace.as_slice(), out, err),
-        Err(fault) => fails(fault, err),
+    match read_files(cx, policy, trace) {
+        Ok((policy, trace)) => run_texts(cx.alloc, &policy, &trace, out, err),
+        Err(unread) => cx.fails(unread, err),
     }
 }
 
 /// The same, with the reason for each answer.
 pub(crate) fn explain_files<H: Host, W: Sink, E: Write>(
-    alloc: Global,
-    host: &H,
+    cx: &Context<'_, H>,
     policy: &str,
     trace: &str,
     out: &mut W,
     err: &mut E,
 ) -> Status
-    ensures ends { EndsOnExplained (H.holds host.now policy.now) (H.holds host.now trace.now)
-        result (W.seen out.old) (W.seen out.new) }
+    ensures ends { EndsOnExplained (H.holds cx.now.host.now policy.now)
+        (H.holds cx.now.host.now trace.now) result (W.seen out.old) (W.seen out.new) }
     ensures quiet { result ≡ Status.Done → err.new ≡ err.old }
 {
-    match read_files(alloc, host, policy, trace) {
+    match read_files(cx, policy, trace) {
         Ok((policy, trace)) => {
-            run_explained(alloc, policy.as_slice(), trace.as_slice(), out, err)
+            let ended = run_explained(cx.alloc, &policy, &trace, out, err);
+            cx.explained(ended, &policy, err)
         }
-        Err(fault) => fails(fault, err),
+        Err(unread) => cx.fails(unread, err),
     }
 }
 
 /// Tests of the traces of files, in their order, each read and given back before the next is read.
 fn test_each<'a, H: Host, E: Write>(
-    alloc: Global,
-    host: &H,
+    cx: &Context<'_, H>,
     policy: &[u8],
     names: &[&'a str],
     err: &mut E,
-) -> Result<Tests<'a>, ReadFault>
-    ensures { IfOk result (λ tests. StandOf (H.holds host.now) policy.now
+) -> Result<Tests<'a>, Unread<'a>>
+    ensures { IfOk result (λ tests. StandOf (H.holds cx.now.host.now) policy.now
         (map (λ name. name.now) names.now) tests (err.new ≡ err.old)) }
 {
-    let mut tests = Tests::new(alloc);
+    let mut tests = Tests::new(cx.alloc);
     for name in names {
-        let bytes = host.read_file(alloc, name)?;
+        let bytes = cx.read(*name)?;
         let source = Source { name: *name, bytes };
-        tests.add(alloc, policy, &source, err);
+        tests.add(cx.alloc, policy, &source, err);
     }
     Ok(tests)
 }
 
-/// The same under the policy of another file, which is read first.
+/// The same under the policy of another file, which is read first; and what is wanted in place of a
+/// fault of it.
 fn test_all<'a, H: Host, E: Write>(
-    alloc: Global,
-    host: &H,
-    policy: &str,
+    cx: &Context<'_, H>,
+    policy: &'a str,
     names: &[&'a str],
+    hint: &mut Vec<u8>,
     err: &mut E,
-) -> Result<Tests<'a>, ReadFault>
-    ensures { IfOk result (λ tests. (bytes : List ℕ) × IsOf (H.holds host.now policy.now) bytes
-        × StandOf (H.holds host.now) bytes (map (λ name. name.now) names.now) tests
+) -> Result<Tests<'a>, Unread<'a>>
+    ensures { IfOk result (λ tests. (bytes : List ℕ)
+        × IsOf (H.holds cx.now.host.now policy.now) bytes
+        × StandOf (H.holds cx.now.host.now) bytes (map (λ name. name.now) names.now) tests
         (err.new ≡ err.old)) }
 {
-    let policy = host.read_file(alloc, policy)?;
-    test_each(alloc, host, policy.as_slice(), names, err)
+    let policy = cx.read(policy)?;
+    *hint = cx.hint(policy.as_slice());
+    test_each(cx, policy.as_slice(), names, err)
 }
 
 /// Tests the traces of files under the policy of another. All are read before any fault of one is
 /// told.
 pub(crate) fn test_files<H: Host, W: Sink, E: Write>(
-    alloc: Global,
-    host: &H,
+    cx: &Context<'_, H>,
     policy: &str,
     names: &[&str],
     out: &mut W,
     err: &mut E,
 ) -> Status
-    ensures ends { EndsOnTests (H.holds host.now) policy.now (map (λ name. name.now) names.now)
+    ensures ends { EndsOnTests (H.holds cx.now.host.now) policy.now (map (λ name. name.now) names.now)
         result (W.seen out.old) (W.seen out.new) }
-    ensures quiet { result ≡ Status.Done → IsQuietTest (H.holds host.now) policy.now
+    ensures quiet { result ≡ Status.Done → IsQuietTest (H.holds cx.now.host.now) policy.now
         (map (λ name. name.now) names.now) (err.new ≡ err.old) }
 {
-    match test_all(alloc, host, policy, names, err) {
-        Ok(tests) => tests.end(names.len() > 1, out, err),
-        Err(fault) => fails(fault, err),
+    let mut hint = Vec::new(cx.alloc);
+    match test_all(cx, policy, names, &mut hint, err) {
+        Ok(tests) => {
+            let ended = tests.end(names.len() > 1, out, err);
+            told(ended, &hint, err)
+        }
+        Err(unread) => cx.fails(unread, err),
     }
 }
 
 /// Races two workers under the policy of a file.
 pub(crate) fn race_file<T: Threads + Wait, H: Host, W: Sink, E: Write>(
     rt: &T,
-    alloc: Global,
-    host: &H,
+    cx: &Context<'_, H>,
     policy: &str,
     rounds: u32,
     out: &mut W,
     err: &mut E,
 ) -> Status
-    ensures ends { EndsOnRace (H.holds host.now policy.now) rounds result
+    ensures ends { EndsOnRace (H.holds cx.now.host.now policy.now) rounds result
         (W.seen out.old) (W.seen out.new) }
     ensures quiet { result ≡ Status.Done → err.new ≡ err.old }
 {
-    match host.read_file(alloc, policy) {
-        Ok(policy) => run_race(rt, alloc, policy.as_slice(), rounds, out, err),
-        Err(fault) => fails(fault, err),
+    match cx.read(policy) {
+        Ok(policy) => {
+            let ended = run_race(rt, cx.alloc, &policy, rounds, out, err);
+            cx.explained_race(ended, &policy, err)
+        }
+        Err(unread) => cx.fails(unread, err),
     }
 }

@@ -3,6 +3,7 @@
 ghost use Rattle.std.specs.Prelude.{◌≡◌, ◌≤◌, List, ℕ, Option, Bool, true, IfOk, IfSome, vec_len};
 ghost use Rattle.hg_replay.specs.declared.run.input.TheConstants.{LIMIT};
 
+use crate::why::Why;
 use hg_replay::ReadFault;
 use std::alloc::Global;
 
@@ -20,6 +21,9 @@ pub trait Host {
         ensures whole { IfOk result
             (λ read. IfSome (holds self.now path.now) (λ bytes. read.items ≡ bytes)) }
         ensures fits { IfOk result (λ read. vec_len read ≤ LIMIT) };
+
+    /// Why a file wasn't read, where it failed or was too long.
+    fn why_unread(&self, path: &str) -> Why;
 
     /// Whether the program's input is a terminal.
     fn is_at_terminal(&self) -> bool

@@ -4,12 +4,12 @@ ghost use Rattle.std.specs.Prelude.{◌≡◌, false};
 ghost use Rattle.hg_replay.specs.Statuses.{EndsJoined};
 ghost use Rattle.hg_program.specs.Ends.{EndsExplainedJoined};
 
+use crate::context::Context;
 use crate::host::Host;
 use crate::refusal::fails;
 use hg_reasons::run_explained;
 use hg_replay::{Sink, Status, read_limited, run_joined};
 use hg_trace::split_joined;
-use std::alloc::Global;
 use std::io::{Read, Write};
 
 /// What a job on standard input waits for, told where that is a terminal.
@@ -26,22 +26,21 @@ fn tell_what_is_read<H: Host, E: Write>(host: &H, err: &mut E)
 
 /// Replays what stands on the input.
 pub(crate) fn replay_input<H: Host, R: Read, W: Sink, E: Write>(
-    alloc: Global,
-    host: &H,
+    cx: &Context<'_, H>,
     input: &mut R,
     out: &mut W,
     err: &mut E,
 ) -> Status
     ensures ends { EndsJoined result (R.remaining input.old) (W.seen out.old) (W.seen out.new) }
-    ensures quiet { H.may_be_terminal host.now ≡ false → result ≡ Status.Done → err.new ≡ err.old }
+    ensures quiet { H.may_be_terminal cx.now.host.now ≡ false → result ≡ Status.Done → err.new ≡ err.old }
 {
-    tell_what_is_read(host, err);
-    run_joined(alloc, input, out, err)
+    tell_what_is_read(cx.host, err);
+    run_joined(cx.alloc, input, out, err)
 }
 
 /// Replays what stands on the input, with the reason for each answer.
-fn explain_joined<R: Read, W: Sink, E: Write>(
-    alloc: Global,
+fn explain_joined<H: Host, R: Read, W: Sink, E: Write>(
+    cx: &Context<'_, H>,
     input: &mut R,
     out: &mut W,
     err: &mut E,
@@ -50,10 +49,11 @@ fn explain_joined<R: Read, W: Sink, E: Write>(
         (W.seen out.old) (W.seen out.new) }
     ensures quiet { result ≡ Status.Done → err.new ≡ err.old }
 {
-    match read_limited(alloc, input) {
+    match read_limited(cx.alloc, input) {
         Ok(bytes) => {
             let (policy, trace) = split_joined(&bytes);
-            run_explained(alloc, policy, trace, out, err)
+            let ended = run_explained(cx.alloc, policy, trace, out, err);
+            cx.explained(ended, policy, err)
         }
         Err(fault) => fails(fault, err),
     }
@@ -61,16 +61,15 @@ fn explain_joined<R: Read, W: Sink, E: Write>(
 
 /// The same. Where the input is a terminal, it is told what is read.
 pub(crate) fn explain_input<H: Host, R: Read, W: Sink, E: Write>(
-    alloc: Global,
-    host: &H,
+    cx: &Context<'_, H>,
     input: &mut R,
     out: &mut W,
     err: &mut E,
 ) -> Status
     ensures ends { EndsExplainedJoined (R.remaining input.old) result
         (W.seen out.old) (W.seen out.new) }
-    ensures quiet { H.may_be_terminal host.now ≡ false → result ≡ Status.Done → err.new ≡ err.old }
+    ensures quiet { H.may_be_terminal cx.now.host.now ≡ false → result ≡ Status.Done → err.new ≡ err.old }
 {
-    tell_what_is_read(host, err);
-    explain_joined(alloc, input, out, err)
+    tell_what_is_read(cx.host, err);
+    explain_joined(cx, input, out, err)
 }

@@ -5,8 +5,8 @@ ghost use Rattle.hg_replay.specs.RunFaults.{status_after};
 ghost use Rattle.hg_program.specs.Ends.{EndsOnShow, EndsOnShowJson};
 ghost use Rattle.hg_program.specs.ShowEnds.{EndsShow, EndsShowJson};
 
+use crate::context::Context;
 use crate::host::Host;
-use crate::refusal::fails;
 use hg_replay::{ReplayFault, RunFault, Sink, Status, put};
 use hg_show::{show, show_json};
 use std::alloc::Global;
@@ -48,36 +48,40 @@ fn told<E: Write>(ended: Result<(), RunFault>, err: &mut E) -> Status
 
 /// Shows the policy of a file.
 pub(crate) fn show_file<H: Host, W: Sink, E: Write>(
-    alloc: Global,
-    host: &H,
+    cx: &Context<'_, H>,
     policy: &str,
     out: &mut W,
     err: &mut E,
 ) -> Status
-    ensures ends { EndsOnShow (H.holds host.now policy.now) result
+    ensures ends { EndsOnShow (H.holds cx.now.host.now policy.now) result
         (W.seen out.old) (W.seen out.new) }
     ensures quiet { result ≡ Status.Done → err.new ≡ err.old }
 {
-    match host.read_file(alloc, policy) {
-        Ok(policy) => told(write_shown(alloc, policy.as_slice(), out), err),
-        Err(fault) => fails(fault, err),
+    match cx.read(policy) {
+        Ok(policy) => {
+            let ended = told(write_shown(cx.alloc, &policy, out), err);
+            cx.explained(ended, &policy, err)
+        }
+        Err(unread) => cx.fails(unread, err),
     }
 }
 
 /// The same, as JSON.
 pub(crate) fn show_file_json<H: Host, W: Sink, E: Write>(
-    alloc: Global,
-    host: &H,
+    cx: &Context<'_, H>,
     policy: &str,
     out: &mut W,
     err: &mut E,
 ) -> Status
-    ensures ends { EndsOnShowJson (H.holds host.now policy.now) result
+    ensures ends { EndsOnShowJson (H.holds cx.now.host.now policy.now) result
         (W.seen out.old) (W.seen out.new) }
     ensures quiet { result ≡ Status.Done → err.new ≡ err.old }
 {
-    match host.read_file(alloc, policy) {
-        Ok(policy) => told(write_json(alloc, policy.as_slice(), out), err),
-        Err(fault) => fails(fault, err),
+    match cx.read(policy) {
+        Ok(policy) => {
+            let ended = told(write_json(cx.alloc, &policy, out), err);
+            cx.explained(ended, &policy, err)
+        }
+        Err(unread) => cx.fails(unread, err),
     }
 }

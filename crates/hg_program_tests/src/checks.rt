@@ -2,9 +2,9 @@
 
 ghost use Rattle.std.specs.Prelude.{None, false};
 
-use crate::files::{ended, ends};
 use crate::narrow::Narrow;
-use hg_program::Host;
+use crate::shelf::{Row, Shelf, end_each, ended};
+use hg_program::{Host, Why};
 use hg_replay::{ReadFault, Status, read_limited};
 use std::alloc::{AllocError, Global};
 use std::process::Abort;
@@ -48,72 +48,59 @@ warning: line 7: the policy has no arena host (such lines: 1)
 warning: line 9: the policy has no tenant zzzz (such lines: 1)
 ";
 
-/// Files in memory, by their names.
-#[derive(Drop)]
-struct Files;
-
-impl Host for Files {
-    ghost holds = { λ _ _. None };
-
-    ghost may_be_terminal = { λ _. false };
-
-    fn read_file(&self, alloc: Global, path: &str) -> Result<Vec<u8>, ReadFault> {
-        let text = match path {
-            "policy" => POLICY,
-            "known" => KNOWN,
-            "lacked" => LACKED,
-            "empty" => "",
-            "bad" => "w0 list hots\nw0 jump\n",
-            "far" => "w1 list host\n",
-            "torn" => "version = ",
-            _ => return Err(ReadFault::Failed),
-        };
-        read_limited(alloc, &mut text.as_bytes())
-    }
-
-    fn is_at_terminal(&self) -> bool {
-        false
-    }
-}
-
-/// The words of a command line, and how the program ends: its status, output and standard error.
-type Row = (
-    &'static [&'static str],
-    (Status, &'static str, &'static str),
-);
+const FILES: Shelf = Shelf {
+    files: &[
+        ("policy", POLICY),
+        ("known", KNOWN),
+        ("lacked", LACKED),
+        ("empty", ""),
+        ("bad", "w0 list hots\nw0 jump\n"),
+        ("far", "w1 list host\n"),
+        ("torn", "version = "),
+    ],
+    is_terminal: false,
+};
 
 static ENDINGS: [Row; 9] = [
-    (&["check", "policy", "known"], (Status::Done, OK, "")),
-    (&["check", "policy", "empty"], (Status::Done, OK, "")),
-    (&["check", "policy", "lacked"], (Status::Done, TOLD, "")),
-    (&["check", "policy"], (Status::Done, OK, "")),
+    (&["check", "policy", "known"], Status::Done, OK, ""),
+    (&["check", "policy", "empty"], Status::Done, OK, ""),
+    (&["check", "policy", "lacked"], Status::Done, TOLD, ""),
+    (&["check", "policy"], Status::Done, OK, ""),
     (
         &["check", "policy", "bad"],
-        (Status::BadTrace, "", "trace fault 2 at line 2: command\n"),
+        Status::BadTrace,
+        "",
+        "trace fault 2 at line 2: command\n",
     ),
     (
         &["check", "policy", "far"],
-        (Status::BadTrace, "", "trace fault 6 at line 1: worker\n"),
+        Status::BadTrace,
+        "",
+        "trace fault 6 at line 1: worker\n",
     ),
     (
         &["check", "torn", "bad"],
-        (Status::BadPolicy, "", "policy fault 1: not toml\n"),
+        Status::BadPolicy,
+        "",
+        "policy fault 1: not toml\n",
     ),
     (
         &["check", "policy", "nowhere"],
-        (Status::Failed, "", "read fault\n"),
+        Status::Failed,
+        "",
+        "read fault\n",
     ),
     (
         &["check", "torn", "nowhere"],
-        (Status::Failed, "", "read fault\n"),
+        Status::Failed,
+        "",
+        "read fault\n",
     ),
 ];
 
 #[test]
 fn traces_are_checked(rt: HostRuntime) {
-    for (words, want) in ENDINGS {
-        ends(&rt, rt.alloc(), words, &Files, "", want);
-    }
+    end_each(&rt, rt.alloc(), &FILES, &ENDINGS);
 }
 
 /// A trace that says so many tenants, none of which the policy has, each twice.
@@ -143,6 +130,10 @@ impl Host for Strangers {
             Ok(text) => read_limited(alloc, &mut text.as_bytes()),
             Err(_) => Err(ReadFault::Memory),
         }
+    }
+
+    fn why_unread(&self, _path: &str) -> Why {
+        Why::Missing
     }
 
     fn is_at_terminal(&self) -> bool {
@@ -182,7 +173,7 @@ fn stopped_writes_are_told(rt: HostRuntime) {
         let mut err = Vec::new(rt.alloc());
         let words = ["check", "policy", "lacked"];
         let mut out = Narrow { left };
-        let status = ended(&rt, rt.alloc(), &words, &Files, "", &mut out, &mut err);
+        let status = ended(&rt, rt.alloc(), &words, &FILES, "", &mut out, &mut err);
         assert!(&rt; status == Status::Failed);
         assert!(&rt; err.as_slice() == b"write fault\n".as_slice());
     }
@@ -197,7 +188,7 @@ fn checks_refused_in_turn(rt: HostRuntime) {
     let mut out = Held::new();
     let mut err = Held::new();
     let words = ["check", "policy", "lacked"];
-    let status = ended(&rt, rt.alloc(), &words, &Files, "", &mut out, &mut err);
+    let status = ended(&rt, rt.alloc(), &words, &FILES, "", &mut out, &mut err);
     if status == Status::Done {
         assert!(&rt; out.as_slice() == TOLD.as_bytes());
         assert!(&rt; err.is_empty());

@@ -1,15 +1,8 @@
 //! Tests of traces whose lines state answers, on files in memory.
 
-ghost use Rattle.std.specs.Prelude.{None, false};
-
 use crate::narrow::Narrow;
-use hg_program::{Host, program};
-use hg_replay::{ReadFault, Status, read_limited};
-use std::alloc::Global;
-use std::io::Write;
-use std::process::Abort;
-use std::sync::Wait;
-use std::thread::Threads;
+use crate::shelf::{Row, Shelf, end_each, ended};
+use hg_replay::Status;
 
 /// Alice's blocks may be read and freed by bob.
 const POLICY: &str = "version = 1
@@ -88,62 +81,24 @@ ev\\nil\\u001B[31m\\u202E.t: expected 1 differ 1
 traces 1 differ 1
 ";
 
-/// Files in memory, by their names.
-#[derive(Drop)]
-struct Files;
-
-impl Host for Files {
-    ghost holds = { λ _ _. None };
-
-    ghost may_be_terminal = { λ _. false };
-
-    fn read_file(&self, alloc: Global, path: &str) -> Result<Vec<u8>, ReadFault> {
-        let text = match path {
-            "policy" => POLICY,
-            "right" => RIGHT,
-            "wrong" => WRONG,
-            "silent" => "w0 refill main\n# w0 collect # => pages 3\n",
-            "empty" => "",
-            "slips" => SLIPS,
-            NAMED => "w0 refill main # => segment 1\n",
-            "fau\rlty" => "w0 refil main # => ok\n",
-            "faulty" => "w0 refill main # => segment 0\nw0 refil main # => ok\n",
-            "stranger" => "w2 refill main # => segment 0\n",
-            _ => return Err(ReadFault::Failed),
-        };
-        read_limited(alloc, &mut text.as_bytes())
-    }
-
-    fn is_at_terminal(&self) -> bool {
-        false
-    }
-}
-
-/// How the program ends, with nothing on its input.
-fn ended<T: Threads + Wait, W: Write, E: Write>(
-    rt: &T,
-    alloc: Global,
-    words: &[&str],
-    out: &mut W,
-    err: &mut E,
-) -> Status {
-    program(rt, alloc, words, &Files, &mut b"".as_slice(), out, err)
-}
-
-/// The words of a command line, and how the program ends: its status, output and standard error.
-type Row = (&'static [&'static str], Status, &'static str, &'static str);
-
-/// The program ends as each row says.
-fn end_each<T: Abort + Threads + Wait>(rt: &T, alloc: Global, rows: &[Row]) {
-    for (words, status, out, err) in rows {
-        let mut written = Vec::new(alloc);
-        let mut told = Vec::new(alloc);
-        let ends = ended(rt, alloc, words, &mut written, &mut told);
-        assert!(rt; told.as_slice() == err.as_bytes(), "{words:?}");
-        assert!(rt; written.as_slice() == out.as_bytes(), "{words:?}");
-        assert!(rt; ends == *status, "{words:?}");
-    }
-}
+const FILES: Shelf = Shelf {
+    files: &[
+        ("policy", POLICY),
+        ("right", RIGHT),
+        ("wrong", WRONG),
+        ("silent", "w0 refill main\n# w0 collect # => pages 3\n"),
+        ("empty", ""),
+        ("slips", SLIPS),
+        (NAMED, "w0 refill main # => segment 1\n"),
+        ("fau\rlty", "w0 refil main # => ok\n"),
+        (
+            "faulty",
+            "w0 refill main # => segment 0\nw0 refil main # => ok\n",
+        ),
+        ("stranger", "w2 refill main # => segment 0\n"),
+    ],
+    is_terminal: false,
+};
 
 static ENDINGS: [Row; 7] = [
     (
@@ -189,7 +144,7 @@ static ENDINGS: [Row; 7] = [
 
 #[test]
 fn lines_state_their_answers(rt: HostRuntime) {
-    end_each(&rt, rt.alloc(), &ENDINGS);
+    end_each(&rt, rt.alloc(), &FILES, &ENDINGS);
 }
 
 static FAULTS: [Row; 10] = [
@@ -260,7 +215,7 @@ static FAULTS: [Row; 10] = [
 
 #[test]
 fn faults_are_told_as_of_a_replay(rt: HostRuntime) {
-    end_each(&rt, rt.alloc(), &FAULTS);
+    end_each(&rt, rt.alloc(), &FILES, &FAULTS);
 }
 
 /// A command line without a trace is refused on standard error.
@@ -268,7 +223,15 @@ fn faults_are_told_as_of_a_replay(rt: HostRuntime) {
 fn a_test_has_a_trace(rt: HostRuntime) {
     let mut out = Vec::new(rt.alloc());
     let mut err = Vec::new(rt.alloc());
-    let status = ended(&rt, rt.alloc(), &["test", "policy"], &mut out, &mut err);
+    let status = ended(
+        &rt,
+        rt.alloc(),
+        &["test", "policy"],
+        &FILES,
+        "",
+        &mut out,
+        &mut err,
+    );
     assert!(&rt; status == Status::BadLine);
     assert!(&rt; out.len() == 0);
     assert!(&rt; err.as_slice().starts_with(b"error: "));
@@ -280,7 +243,15 @@ fn stopped_writes_are_told(rt: HostRuntime) {
     for (name, left) in [("right", 0), ("right", 40), ("wrong", 20)] {
         let mut err = Vec::new(rt.alloc());
         let words = ["test", "policy", name];
-        let status = ended(&rt, rt.alloc(), &words, &mut Narrow { left }, &mut err);
+        let status = ended(
+            &rt,
+            rt.alloc(),
+            &words,
+            &FILES,
+            "",
+            &mut Narrow { left },
+            &mut err,
+        );
         assert!(&rt; status == Status::Failed);
         assert!(&rt; err.as_slice() == b"write fault\n".as_slice());
     }
@@ -295,7 +266,7 @@ fn tests_refused_in_turn(rt: HostRuntime) {
     let mut out = Held::new();
     let mut err = Held::new();
     let words = ["test", "policy", "wrong"];
-    let status = ended(&rt, rt.alloc(), &words, &mut out, &mut err);
+    let status = ended(&rt, rt.alloc(), &words, &FILES, "", &mut out, &mut err);
     if status == Status::Differs {
         assert!(&rt; out.as_slice() == DIFFERENCES.as_bytes());
         assert!(&rt; err.len() == 0);
@@ -315,6 +286,8 @@ fn warnings_refused_in_turn(rt: HostRuntime) {
         &rt,
         rt.alloc(),
         &["test", "policy", "slips"],
+        &FILES,
+        "",
         &mut out,
         &mut err,
     );

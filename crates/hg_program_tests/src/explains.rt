@@ -1,11 +1,8 @@
 //! Tests of answers with their reasons, on files in memory and on joined input.
 
-ghost use Rattle.std.specs.Prelude.{None, true, false};
-
-use crate::files::{ended, ends};
 use crate::narrow::Narrow;
-use hg_program::Host;
-use hg_replay::{ReadFault, Status, read_limited};
+use crate::shelf::{Shelf, ended, ends};
+use hg_replay::Status;
 use std::alloc::Global;
 use std::process::Abort;
 use std::sync::Wait;
@@ -76,34 +73,18 @@ denied limit
 unbound
 ";
 
-/// Files in memory, by their names, and an input that is a terminal or not.
-#[derive(Drop)]
-struct Files {
-    is_terminal: bool,
-}
+/// The files of each test.
+const FILES: &[(&str, &str)] = &[
+    ("policy", POLICY),
+    ("trace", TRACE),
+    ("empty", ""),
+    ("other", "w1 refill main\n"),
+];
 
-impl Host for Files {
-    ghost holds = { λ _ _. None };
-
-    ghost may_be_terminal = { λ _. true };
-
-    fn read_file(&self, alloc: Global, path: &str) -> Result<Vec<u8>, ReadFault> {
-        let text = match path {
-            "policy" => POLICY,
-            "trace" => TRACE,
-            "empty" => "",
-            "other" => "w1 refill main\n",
-            _ => return Err(ReadFault::Failed),
-        };
-        read_limited(alloc, &mut text.as_bytes())
-    }
-
-    fn is_at_terminal(&self) -> bool {
-        self.is_terminal
-    }
-}
-
-const PIPED: Files = Files { is_terminal: false };
+const PIPED: Shelf = Shelf {
+    files: FILES,
+    is_terminal: false,
+};
 
 /// The words of a command line, its input, and how the program ends: its status, output and
 /// standard error.
@@ -114,6 +95,14 @@ type Row = (
     &'static str,
     &'static str,
 );
+
+/// What is told of a trace as a policy, and of a policy without a version.
+const TORN: &str =
+    "policy fault 1: not toml\n  line 1, column 4: key with no value, expected `=`\n";
+
+const VERSIONLESS: &str = "policy fault 2: missing version
+  wanted: version, the whole number 1, or 2 for groups and denies, above the first header such as \
+[[tenant]]\n";
 
 static ENDINGS: [Row; 11] = [
     (
@@ -151,7 +140,7 @@ static ENDINGS: [Row; 11] = [
         "",
         Status::BadPolicy,
         "",
-        "policy fault 1: not toml\n",
+        TORN,
     ),
     (
         &["replay", "--explain", "policy", "other"],
@@ -165,21 +154,21 @@ static ENDINGS: [Row; 11] = [
         "",
         Status::Failed,
         "",
-        "read fault\n",
+        "read fault\n  nowhere: no such file\n",
     ),
     (
         &["replay", "--explain", "policy", "nowhere"],
         "",
         Status::Failed,
         "",
-        "read fault\n",
+        "read fault\n  nowhere: no such file\n",
     ),
     (
         &["--explain"],
         "workers = 1\n---\n",
         Status::BadPolicy,
         "",
-        "policy fault 2: missing version\n",
+        VERSIONLESS,
     ),
 ];
 
@@ -195,7 +184,10 @@ const READS: &str = "heapguard reads a policy, a line ---, and a trace; see heap
 /// At a terminal it is said what is read, where the input is read.
 #[test]
 fn a_terminal_is_told_what_is_explained(rt: HostRuntime) {
-    let host = Files { is_terminal: true };
+    let host = Shelf {
+        files: FILES,
+        is_terminal: true,
+    };
     let want = (Status::Done, STORY, READS);
     ends(&rt, rt.alloc(), &["--explain"], &host, JOINED, want);
     let words = ["replay", "--explain", "policy", "trace"];

@@ -1,9 +1,8 @@
 //! The program on two files in memory, and on outputs that fail.
 
-ghost use Rattle.std.specs.Prelude.{None, true, false};
-
-use hg_program::{Host, program, start};
-use hg_replay::{ReadFault, Status, read_limited};
+use crate::shelf::{Row, Shelf, end_each, ended, ends};
+use hg_program::start;
+use hg_replay::Status;
 use std::alloc::{AllocError, Global};
 use std::io;
 use std::io::Write;
@@ -38,47 +37,11 @@ w0 alloc alice main 24
 
 const ANSWERS: &str = "segment 0\nok @0.0.0.1\n";
 
-/// The files `p`, `t` and `two`, and an input that is no terminal.
-#[derive(Drop)]
-struct Shelf;
-
-impl Host for Shelf {
-    ghost holds = { λ _ _. None };
-
-    ghost may_be_terminal = { λ _. false };
-
-    fn read_file(&self, alloc: Global, path: &str) -> Result<Vec<u8>, ReadFault> {
-        let text = match path {
-            "p" => POLICY,
-            "t" => TRACE,
-            "two" => TWO,
-            _ => return Err(ReadFault::Failed),
-        };
-        read_limited(alloc, &mut text.as_bytes())
-    }
-
-    fn is_at_terminal(&self) -> bool {
-        false
-    }
-}
-
-/// No files, and a terminal.
-#[derive(Drop)]
-struct Terminal;
-
-impl Host for Terminal {
-    ghost holds = { λ _ _. None };
-
-    ghost may_be_terminal = { λ _. true };
-
-    fn read_file(&self, _alloc: Global, _path: &str) -> Result<Vec<u8>, ReadFault> {
-        Err(ReadFault::Failed)
-    }
-
-    fn is_at_terminal(&self) -> bool {
-        true
-    }
-}
+/// The files of most tests.
+const FILES: Shelf = Shelf {
+    files: &[("p", POLICY), ("t", TRACE), ("two", TWO)],
+    is_terminal: false,
+};
 
 /// A writer that takes nothing.
 #[derive(Drop)]
@@ -91,46 +54,6 @@ impl Write for Full {
 
     fn flush(&mut self) -> io::Result<()> {
         Ok(())
-    }
-}
-
-/// How the program ends on a host and an input.
-pub fn ended<T: Threads + Wait, H: Host, W: Write, E: Write>(
-    rt: &T,
-    alloc: Global,
-    words: &[&str],
-    host: &H,
-    input: &str,
-    out: &mut W,
-    err: &mut E,
-) -> Status {
-    program(rt, alloc, words, host, &mut input.as_bytes(), out, err)
-}
-
-/// The program ends with this status, output and standard error.
-pub fn ends<T: Abort + Threads + Wait, H: Host>(
-    rt: &T,
-    alloc: Global,
-    words: &[&str],
-    host: &H,
-    input: &str,
-    want: (Status, &str, &str),
-) {
-    let mut out = Vec::new(alloc);
-    let mut err = Vec::new(alloc);
-    let status = ended(rt, alloc, words, host, input, &mut out, &mut err);
-    assert!(rt; err.as_slice() == want.2.as_bytes(), "{words:?}");
-    assert!(rt; out.as_slice() == want.1.as_bytes(), "{words:?}");
-    assert!(rt; status == want.0, "{words:?}");
-}
-
-/// The words of a command line, and how the program ends: its status, output and standard error.
-type Row = (&'static [&'static str], Status, &'static str, &'static str);
-
-/// With nothing on the input the program ends as each row says.
-fn end_each<T: Abort + Threads + Wait>(rt: &T, alloc: Global, rows: &[Row]) {
-    for (words, status, out, err) in rows {
-        ends(rt, alloc, words, &Shelf, "", (*status, out, err));
     }
 }
 
@@ -153,8 +76,8 @@ static ON_FILES: [Row; 3] = [
 #[test]
 fn jobs_are_done(rt: HostRuntime) {
     let want = (Status::Done, ANSWERS, "");
-    ends(&rt, rt.alloc(), &[], &Shelf, JOINED, want);
-    end_each(&rt, rt.alloc(), &ON_FILES);
+    ends(&rt, rt.alloc(), &[], &FILES, JOINED, want);
+    end_each(&rt, rt.alloc(), &FILES, &ON_FILES);
 }
 
 static PLACES: [Row; 8] = [
@@ -185,13 +108,13 @@ static PLACES: [Row; 8] = [
 
 #[test]
 fn files_keep_their_places(rt: HostRuntime) {
-    end_each(&rt, rt.alloc(), &PLACES);
+    end_each(&rt, rt.alloc(), &FILES, &PLACES);
 }
 
 /// A write that stops in what was asked for is a fault.
 fn stops<T: Abort + Threads + Wait>(rt: &T, alloc: Global, words: &[&str]) {
     let mut err = Vec::new(alloc);
-    let status = ended(rt, alloc, words, &Shelf, "", &mut Full, &mut err);
+    let status = ended(rt, alloc, words, &FILES, "", &mut Full, &mut err);
     assert!(rt; status == Status::Failed);
     assert!(rt; err.as_slice() == b"write fault\n".as_slice());
 }
@@ -201,7 +124,7 @@ static REQUESTS: [Row; 1] = [(&["--version"], Status::Done, "heapguard 0.1.0\n",
 /// What was asked for is printed, and a write that stops in it is a fault.
 #[test]
 fn requests_are_printed(rt: HostRuntime) {
-    end_each(&rt, rt.alloc(), &REQUESTS);
+    end_each(&rt, rt.alloc(), &FILES, &REQUESTS);
     for word in ["--help", "--version"] {
         stops(&rt, rt.alloc(), &[word]);
     }
@@ -216,7 +139,7 @@ const NINE: [&str; 9] = ["replay", "p", "t", "d", "e", "f", "g", "h", "i"];
 fn is_refused<T: Abort + Threads + Wait>(rt: &T, alloc: Global, words: &[&str]) {
     let mut out = Vec::new(alloc);
     let mut err = Vec::new(alloc);
-    let status = ended(rt, alloc, words, &Shelf, "", &mut out, &mut err);
+    let status = ended(rt, alloc, words, &FILES, "", &mut out, &mut err);
     assert!(rt; status == Status::BadLine, "{words:?}");
     assert!(rt; out.len() == 0, "{words:?}");
     assert!(rt; err.as_slice().starts_with(b"error: "), "{words:?}");
@@ -228,7 +151,7 @@ fn bad_lines_are_told(rt: HostRuntime) {
         is_refused(&rt, rt.alloc(), words);
     }
     // Standard error that takes nothing changes no status.
-    let status = ended(&rt, rt.alloc(), &NINE, &Shelf, "", &mut Full, &mut Full);
+    let status = ended(&rt, rt.alloc(), &NINE, &FILES, "", &mut Full, &mut Full);
     assert!(&rt; status == Status::BadLine);
 }
 
@@ -242,7 +165,7 @@ fn starts<T: Abort + Threads + Wait>(
     let mut out = Vec::new(alloc);
     let mut err = Vec::new(alloc);
     let mut input = b"".as_slice();
-    let code = start(rt, alloc, words, &Shelf, &mut input, &mut out, &mut err);
+    let code = start(rt, alloc, words, &FILES, &mut input, &mut out, &mut err);
     assert!(rt; code == ExitCode::from(want.0));
     assert!(rt; out.as_slice() == want.1.as_bytes());
     assert!(rt; err.as_slice() == want.2.as_bytes());
@@ -282,8 +205,12 @@ const READS: &str = "heapguard reads a policy, a line ---, and a trace; see heap
 /// At a terminal it is said what is read.
 #[test]
 fn a_terminal_is_told_what_is_read(rt: HostRuntime) {
+    let host = Shelf {
+        files: &[],
+        is_terminal: true,
+    };
     let want = (Status::Done, ANSWERS, READS);
-    ends(&rt, rt.alloc(), &[], &Terminal, JOINED, want);
+    ends(&rt, rt.alloc(), &[], &host, JOINED, want);
 }
 
 /// A place for the few bytes of a test that asks for no memory.
@@ -295,7 +222,7 @@ fn program_refused_in_turn(rt: HostRuntime) {
     let mut out = Held::new();
     let mut err = Held::new();
     let words = ["replay", "p", "t"];
-    let status = ended(&rt, rt.alloc(), &words, &Shelf, "", &mut out, &mut err);
+    let status = ended(&rt, rt.alloc(), &words, &FILES, "", &mut out, &mut err);
     if status == Status::Done {
         assert!(&rt; out.as_slice() == ANSWERS.as_bytes());
         assert!(&rt; err.len() == 0);

@@ -1,6 +1,6 @@
 //! Worked command lines: what each asks for, and what refuses it.
 
-use hg_job::{Job, JobFault, job_of};
+use hg_job::{Job, JobFault, Task, task_of};
 use std::alloc::{AllocError, Global};
 use std::process::Abort;
 
@@ -46,8 +46,8 @@ fn is_job(rt: &impl Abort, job: Job<'_>, want: Told<'_>) {
 
 /// A command line must come to this job with these operands, or to the refusal of this name.
 fn comes_to(rt: &impl Abort, alloc: Global, words: &[&str], want: Told<'_>) {
-    match job_of(alloc, words) {
-        Ok(job) => is_job(rt, job, want),
+    match task_of(alloc, words) {
+        Ok(Task { job, .. }) => is_job(rt, job, want),
         Err(fault) => assert_eq!(rt; fault_told(&fault), want.0),
     }
 }
@@ -62,7 +62,7 @@ fn is_refused(rt: &impl Abort, alloc: Global, line: &str, name: &str) {
 
 /// The text of a refusal, behind the stream that it is for.
 fn text(alloc: Global, words: &[&str]) -> Result<String, AllocError> {
-    match job_of(alloc, words) {
+    match task_of(alloc, words) {
         Err(JobFault::Print(text)) => format!(in alloc; "out\n{text}"),
         Err(JobFault::Line(text)) => format!(in alloc; "err\n{text}"),
         _ => Ok(String::new(alloc)),
@@ -107,8 +107,8 @@ static NO_JOBS: [&str; 38] = [
     "--explain p t",
     "replay --explain p",
     "replay --explain p t --explain",
-    "check --explain p",
-    "show p --explain",
+    "check --explain p --explain",
+    "show p --explain=yes",
     "jump",
     "Check p",
     "--jump",
@@ -195,18 +195,18 @@ static NO_FLAGS: [(&[&str], &str); 4] = [
     (
         &["race", "--a\nb"],
         "err\nerror: unexpected argument '--a\nb' found\n\n\
-         Usage: heapguard race <POLICY> <ROUNDS>\n\n\
+         Usage: heapguard race [OPTIONS] <POLICY> <ROUNDS>\n\n\
          For more information, try '--help'.\n",
     ),
     (
         &["race", "--json"],
         "err\nerror: unexpected argument '--json' found\n\n\
-         Usage: heapguard race <POLICY> <ROUNDS>\n\n\
+         Usage: heapguard race [OPTIONS] <POLICY> <ROUNDS>\n\n\
          For more information, try '--help'.\n",
     ),
     (
         &["test", "p", "t", "-u"],
-        "err\nerror: unexpected argument '-u' found\n\nUsage: heapguard test <POLICY> <TRACE>...\n\n\
+        "err\nerror: unexpected argument '-u' found\n\nUsage: heapguard test [OPTIONS] <POLICY> <TRACE>...\n\n\
          For more information, try '--help'.\n",
     ),
     (
@@ -262,7 +262,7 @@ fn help_of_the_program(rt: HostRuntime) {
 /// Parts of the help of each command.
 static HELP_OF_CHECK: [&str; 11] = [
     "out\nReads a policy",
-    "\nUsage: heapguard check <POLICY> [TRACE]\n",
+    "\nUsage: heapguard check [OPTIONS] <POLICY> [TRACE]\n",
     "\n  <POLICY>  ",
     "\n  [TRACE]   ",
     "\n  2  ",
@@ -290,7 +290,7 @@ static HELP_OF_REPLAY: [&str; 11] = [
 
 static HELP_OF_RACE: [&str; 10] = [
     "out\nFrees blocks twice",
-    "\nUsage: heapguard race <POLICY> <ROUNDS>\n",
+    "\nUsage: heapguard race [OPTIONS] <POLICY> <ROUNDS>\n",
     "\n  <POLICY>  ",
     "\n  <ROUNDS>  How many rounds, 1 to 1000000\n",
     "`rounds R ended E freed F`",
@@ -303,7 +303,7 @@ static HELP_OF_RACE: [&str; 10] = [
 
 static HELP_OF_TEST: [&str; 12] = [
     "out\nCompares the answers",
-    "\nUsage: heapguard test <POLICY> <TRACE>...\n",
+    "\nUsage: heapguard test [OPTIONS] <POLICY> <TRACE>...\n",
     "\n  <POLICY>    ",
     "\n  <TRACE>...  ",
     "`# =>`",
@@ -405,10 +405,34 @@ fn lines_name_the_program(rt: HostRuntime) {
     tells(&rt, rt.alloc(), &["race", "p", "0"], &NO_ROUNDS);
 }
 
+/// Command lines, and whether faults are explained.
+static EXPLAINED: [(&[&str], bool); 10] = [
+    (&[], false),
+    (&["--explain"], true),
+    (&["check", "p"], false),
+    (&["check", "--explain", "p"], true),
+    (&["check", "p", "t", "--explain"], true),
+    (&["replay", "p", "t"], false),
+    (&["replay", "--explain", "p", "t"], true),
+    (&["race", "p", "9", "--explain"], true),
+    (&["test", "--explain", "p", "t", "u"], true),
+    (&["show", "p", "--json", "--explain"], true),
+];
+
+#[test]
+fn options_explain(rt: HostRuntime) {
+    for (words, want) in &EXPLAINED {
+        match task_of(rt.alloc(), words) {
+            Ok(task) => assert!(&rt; task.explain == *want, "{words:?}"),
+            Err(_) => assert!(&rt; false, "{words:?}"),
+        }
+    }
+}
+
 /// A command line must come to this job with these operands, or meet want of memory.
 fn may_come_to(rt: &impl Abort, alloc: Global, words: &[&str], want: Told<'_>) {
-    match job_of(alloc, words) {
-        Ok(job) => is_job(rt, job, want),
+    match task_of(alloc, words) {
+        Ok(Task { job, .. }) => is_job(rt, job, want),
         Err(fault) => assert_eq!(rt; fault_told(&fault), "memory"),
     }
 }
@@ -421,7 +445,7 @@ fn refused_with(
     words: &[&str],
     is_printed: bool,
 ) -> Option<String> {
-    match job_of(alloc, words) {
+    match task_of(alloc, words) {
         Err(JobFault::Print(text)) if is_printed => Some(text),
         Err(JobFault::Line(text)) if !is_printed => Some(text),
         Err(JobFault::Memory) => None,

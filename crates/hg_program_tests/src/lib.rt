@@ -11,10 +11,14 @@ mod explains;
 #[cfg(test)]
 mod files;
 #[cfg(test)]
+mod hints;
+#[cfg(test)]
 mod jobs;
 #[cfg(test)]
 mod narrow;
 #[cfg(test)]
 mod races;
+#[cfg(test)]
+mod shelf;
 #[cfg(test)]
 mod shows;

@@ -1,12 +1,13 @@
 //! Races of two workers: what they write, and how they end.
 
-use hg_race::run_race;
+use hg_race::{race_hint, run_race};
 use hg_replay::Status;
 use std::alloc::Global;
 use std::io;
 use std::io::Write;
 use std::process::Abort;
 use std::sync::Wait;
+use std::test::Fail;
 use std::thread::Threads;
 
 /// Two workers, two tenants that share the main arena, and a vault for one of them.
@@ -55,47 +56,79 @@ fn the_least_policy_is_fit(rt: HostRuntime) {
     ends(&rt, rt.alloc(), LEAST, 1, ONE);
 }
 
-/// Policies that no race can be run under, each for one cause.
-static UNFIT: [&str; 6] = [
-    r#"version = 1
+/// Policies that no race can be run under, each for one cause, and what a race takes.
+static UNFIT: [(&str, &str); 6] = [
+    (
+        r#"version = 1
 workers = 1
 tenant = [ {name = "alice", limit = 8192} ]
 arena = [ {name = "main", segments = 1} ]
 "#,
-    r#"version = 1
+        "two workers, and the policy has one",
+    ),
+    (
+        r#"version = 1
 workers = 2
 tenant = []
 arena = [ {name = "main", segments = 1} ]
 "#,
-    r#"version = 1
+        "a tenant, and the policy has none",
+    ),
+    (
+        r#"version = 1
 workers = 2
 tenant = [ {name = "alice", limit = 8192} ]
 arena = []
 "#,
-    r#"version = 1
+        "a segment of the first arena, and there is none",
+    ),
+    (
+        r#"version = 1
 workers = 2
 tenant = [ {name = "alice", limit = 8192} ]
 arena = [ {name = "main", segments = 0}, {name = "vault", segments = 1} ]
 "#,
-    r#"version = 1
+        "a segment of the first arena, and there is none",
+    ),
+    (
+        r#"version = 1
 workers = 2
 tenant = [ {name = "alice", limit = 8192}, {name = "bob", limit = 64} ]
 arena = [ {name = "main", segments = 1, exclusive = ["bob"]} ]
 "#,
-    r#"version = 1
+        "an arena for the first tenant, and the first one doesn't admit it",
+    ),
+    (
+        r#"version = 1
 workers = 2
 tenant = [ {name = "alice", limit = 7}, {name = "bob", limit = 64} ]
 arena = [ {name = "main", segments = 1} ]
 "#,
+        "8 bytes, and the first tenant's limit is below that",
+    ),
 ];
 
 const IS_UNFIT: Ending = (Status::BadPolicy, "", "race unfit\n");
 
 #[test]
 fn each_cause_is_unfit(rt: HostRuntime) {
-    for policy in UNFIT {
+    for (policy, _) in UNFIT {
         ends(&rt, rt.alloc(), policy, 3, IS_UNFIT);
     }
+}
+
+/// What is told of a policy under which no race can be run.
+#[test]
+fn each_cause_is_told(rt: HostRuntime) -> Result<(), Fail> {
+    for (policy, lack) in UNFIT {
+        let hint = race_hint(rt.alloc(), policy.as_bytes())?;
+        let want = format!(in rt.alloc(); "  a race takes {lack}\n")?;
+        assert!(&rt; hint.as_slice() == want.as_bytes(), "{policy}");
+    }
+    for policy in [POLICY, FAULTY] {
+        assert!(&rt; race_hint(rt.alloc(), policy.as_bytes())?.is_empty());
+    }
+    Ok(())
 }
 
 /// A policy with one worker, and with a fault.

@@ -1,17 +1,13 @@
 //! Tests of what is shown of a policy, on files in memory.
 
-ghost use Rattle.std.specs.Prelude.{None, false};
-
 use crate::narrow::Narrow;
-use hg_program::{Host, program};
-use hg_replay::{ReadFault, Status, read_limited};
+use crate::shelf::{Row, Shelf, end_each, ended};
+use hg_replay::Status;
 use hg_show::{show, show_json};
 use std::alloc::{AllocError, Global};
 use std::io::Write;
 use std::process::Abort;
-use std::sync::Wait;
 use std::test::Fail;
-use std::thread::Threads;
 
 /// Groups, an exclusive arena, and lines that deny.
 const POLICY: &str = "version = 2
@@ -180,58 +176,17 @@ warning: deny 3 (bob to aside): it is to the owner itself
 warning: deny 3 (bob to aside): it names no right
 ";
 
-/// Files in memory, by their names.
-#[derive(Drop)]
-struct Files;
-
-impl Host for Files {
-    ghost holds = { λ _ _. None };
-
-    ghost may_be_terminal = { λ _. false };
-
-    fn read_file(&self, alloc: Global, path: &str) -> Result<Vec<u8>, ReadFault> {
-        let text = match path {
-            "policy" => POLICY,
-            "useless" => USELESS,
-            "fruitless" => FRUITLESS,
-            "bare" => EMPTY,
-            "faulty" => "version = 1\nworkers = 1\ntenant = []\n",
-            "torn" => "version = ",
-            _ => return Err(ReadFault::Failed),
-        };
-        read_limited(alloc, &mut text.as_bytes())
-    }
-
-    fn is_at_terminal(&self) -> bool {
-        false
-    }
-}
-
-/// How the program ends, with nothing on its input.
-fn ended<T: Threads + Wait, W: Write, E: Write>(
-    rt: &T,
-    alloc: Global,
-    words: &[&str],
-    out: &mut W,
-    err: &mut E,
-) -> Status {
-    program(rt, alloc, words, &Files, &mut b"".as_slice(), out, err)
-}
-
-/// The words of a command line, and how the program ends: its status, output and standard error.
-type Row = (&'static [&'static str], Status, &'static str, &'static str);
-
-/// The program ends as each row says.
-fn end_each<T: Abort + Threads + Wait>(rt: &T, alloc: Global, rows: &[Row]) {
-    for (words, status, out, err) in rows {
-        let mut written = Vec::new(alloc);
-        let mut told = Vec::new(alloc);
-        let ends = ended(rt, alloc, words, &mut written, &mut told);
-        assert!(rt; told.as_slice() == err.as_bytes(), "{words:?}");
-        assert!(rt; written.as_slice() == out.as_bytes(), "{words:?}");
-        assert!(rt; ends == *status, "{words:?}");
-    }
-}
+const FILES: Shelf = Shelf {
+    files: &[
+        ("policy", POLICY),
+        ("useless", USELESS),
+        ("fruitless", FRUITLESS),
+        ("bare", EMPTY),
+        ("faulty", "version = 1\nworkers = 1\ntenant = []\n"),
+        ("torn", "version = "),
+    ],
+    is_terminal: false,
+};
 
 static ENDINGS: [Row; 7] = [
     (&["show", "policy"], Status::Done, SHOWN, ""),
@@ -255,7 +210,7 @@ static ENDINGS: [Row; 7] = [
 
 #[test]
 fn policies_are_shown(rt: HostRuntime) {
-    end_each(&rt, rt.alloc(), &ENDINGS);
+    end_each(&rt, rt.alloc(), &FILES, &ENDINGS);
 }
 
 /// A write that stops is a fault, wherever it stops.
@@ -264,7 +219,15 @@ fn stopped_writes_are_told(rt: HostRuntime) {
     for left in [0, 1, 200] {
         let mut err = Vec::new(rt.alloc());
         let words = ["show", "policy"];
-        let status = ended(&rt, rt.alloc(), &words, &mut Narrow { left }, &mut err);
+        let status = ended(
+            &rt,
+            rt.alloc(),
+            &words,
+            &FILES,
+            "",
+            &mut Narrow { left },
+            &mut err,
+        );
         assert!(&rt; status == Status::Failed);
         assert!(&rt; err.as_slice() == b"write fault\n".as_slice());
     }
@@ -279,7 +242,7 @@ fn shows_refused_in_turn(rt: HostRuntime) {
     let mut out = Held::new();
     let mut err = Held::new();
     let words = ["show", "policy"];
-    let status = ended(&rt, rt.alloc(), &words, &mut out, &mut err);
+    let status = ended(&rt, rt.alloc(), &words, &FILES, "", &mut out, &mut err);
     if status == Status::Done {
         assert!(&rt; out.as_slice() == SHOWN.as_bytes());
         assert!(&rt; err.is_empty());

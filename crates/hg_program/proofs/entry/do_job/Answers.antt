@@ -5,7 +5,7 @@ use Rattle.hg_program.proofs.entry.do_job.Goals as goal
 
 pub returns-in-Test-clause-ends : goal.returns-in-Test-clause-ends
 returns-in-Test-clause-ends g c =
-    let holds = g.H.Host.holds c.args.host.now in
+    let holds = g.H.Host.holds c.args.cx.now.host.now in
     let seen = g.W.Sink.seen in
     subst
     (λ (job : Job). EndsJob holds (g.R.Read.remaining c.args.input.now) job c.test_files.result
@@ -17,7 +17,7 @@ returns-in-Test-clause-ends g c =
 
 pub returns-in-Test-clause-quiet : goal.returns-in-Test-clause-quiet
 returns-in-Test-clause-quiet g c = λ plain done.
-    let holds = g.H.Host.holds c.args.host.now in
+    let holds = g.H.Host.holds c.args.cx.now.host.now in
     subst
     (λ (job : Job). IsQuietJob holds job (c.test_files.new.err ≡ c.args.err.now))
     (sym c.in-Test.is)

@@ -2,29 +2,29 @@ use Rattle.std.proofs.Common.{◌∙◌, ap, map}
 use Rattle.clap.specs.Words.{takes, fault_of}
 use Rattle.clap.specs.Kinds.{HasKind}
 use Rattle.hg_job.proofs.CommandLemmas.{at_free, refused_by}
-use Rattle.hg_job.proofs.OptionLemmas.{accepted_taken, opposed_not_accepted, opposed_refused, faultless, job_found, known_entered, refused_first}
-use Rattle.hg_job.proofs.job.job_of.Goals as goal
+use Rattle.hg_job.proofs.OptionLemmas.{accepted_taken, opposed_not_accepted, opposed_refused, faultless, task_found, known_entered, refused_first}
+use Rattle.hg_job.proofs.job.task_of.Goals as goal
 
-pub job_in-requires : goal.job_in-requires
-job_in-requires c = known_entered (map (λ w. w.now) c.args.words.now) _ _ _ c.in_ok-command.ensures c.in-Ok.ensures.matches
+pub task_in-requires : goal.task_in-requires
+task_in-requires c = known_entered (map (λ w. w.now) c.args.words.now) _ _ _ c.in_ok-command.ensures c.in-Ok.ensures.matches
 
-pub returns-in-Ok-clause-job : goal.returns-in-Ok-clause-job
-returns-in-Ok-clause-job c =
-    job_found (map (λ w. w.now) c.args.words.now) _ _ _ c.in_ok-command.ensures c.in-Ok.ensures.matches c.job_in.result c.job_in.ensures.job
+pub returns-in-Ok-clause-task : goal.returns-in-Ok-clause-task
+returns-in-Ok-clause-task c =
+    task_found (map (λ w. w.now) c.args.words.now) _ _ _ c.in_ok-command.ensures c.in-Ok.ensures.matches c.task_in.result c.task_in.ensures.task
 
 pub returns-in-Ok-clause-taken : goal.returns-in-Ok-clause-taken
 returns-in-Ok-clause-taken c =
-    opposed_not_accepted (map (λ w. w.now) c.args.words.now) _ _ _ c.in_ok-command.ensures c.in-Ok.ensures.matches c.job_in.result c.job_in.ensures.err
+    opposed_not_accepted (map (λ w. w.now) c.args.words.now) _ _ _ c.in_ok-command.ensures c.in-Ok.ensures.matches c.task_in.result c.task_in.ensures.err
 
 pub returns-in-Ok-clause-faultless : goal.returns-in-Ok-clause-faultless
 returns-in-Ok-clause-faultless c =
     faultless (map (λ w. w.now) c.args.words.now) _ _ _ c.in_ok-command.ensures c.in-Ok.ensures.matches c.in-Ok.ensures.kinds
-    c.job_in.result c.job_in.ensures.job
+    c.task_in.result c.task_in.ensures.task
 
 pub returns-in-Ok-clause-refused : goal.returns-in-Ok-clause-refused
 returns-in-Ok-clause-refused c =
     opposed_refused (map (λ w. w.now) c.args.words.now) _ _ _ c.in_ok-command.ensures c.in-Ok.ensures.matches c.in-Ok.ensures.kinds
-    c.job_in.result c.job_in.ensures.err
+    c.task_in.result c.task_in.ensures.err
 
 pub returns-in-Err-clause-taken : goal.returns-in-Err-clause-taken
 returns-in-Err-clause-taken c = λ taken.

@@ -1,0 +1,118 @@
+//! What each job is done with.
+
+ghost use Rattle.std.specs.Prelude.{◌≡◌, IfOk};
+ghost use Rattle.hg_program.specs.Ends.{IsOf};
+
+use crate::host::Host;
+use crate::why::Why;
+use hg_hints::policy_hint;
+use hg_policy::OneLine;
+use hg_race::race_hint;
+use hg_replay::{ReadFault, Status};
+use std::alloc::{AllocError, Global};
+use std::io::Write;
+
+/// What each job is done with besides its input and outputs.
+#[derive(Drop)]
+pub(crate) struct Context<'a, H: Host> {
+    pub(crate) alloc: Global,
+    pub(crate) host: &'a H,
+    /// Whether a fault is told with what is wanted in its place.
+    pub(crate) explain: bool,
+}
+
+/// A file that wasn't read, and why.
+#[derive(Drop)]
+pub(crate) struct Unread<'a> {
+    path: &'a str,
+    fault: ReadFault,
+}
+
+impl<H: Host> Context<'_, H> {
+    /// All bytes of a file.
+    pub(crate) fn read<'a>(&self, path: &'a str) -> Result<Vec<u8>, Unread<'a>>
+        ensures { IfOk result (λ bytes. IsOf (H.holds self.now.host.now path.now) bytes.items) }
+    {
+        match self.host.read_file(self.alloc, path) {
+            Ok(bytes) => Ok(bytes),
+            Err(fault) => Err(Unread { path, fault }),
+        }
+    }
+
+    /// Tells on `err` that a file wasn't read, and where it is asked for, which one and why. Faults of
+    /// `err` are ignored.
+    pub(crate) fn fails<E: Write>(&self, unread: Unread<'_>, err: &mut E) -> Status
+        ensures { result ≡ Status.Failed }
+    {
+        let Unread { path, fault } = unread;
+        let _ = writeln!(err, "{fault}");
+        if self.explain && fault != ReadFault::Memory {
+            let why = self.why(path, fault);
+            let _ = writeln!(err, "  {}: {why}", OneLine(path));
+        }
+        Status::Failed
+    }
+
+    /// Why a file wasn't read.
+    fn why(&self, path: &str, fault: ReadFault) -> Why {
+        match fault {
+            ReadFault::Long => Why::Long,
+            _ => self.host.why_unread(path),
+        }
+    }
+
+    /// What is wanted in place of a policy's fault, where that is asked for: nothing where it has none,
+    /// or where memory for it was refused.
+    pub(crate) fn hint(&self, policy: &[u8]) -> Vec<u8> {
+        self.asked(policy_hint(self.alloc, policy))
+    }
+
+    /// A hint where it is asked for, and memory wasn't refused.
+    fn asked(&self, hint: Result<Vec<u8>, AllocError>) -> Vec<u8> {
+        match hint {
+            Ok(hint) if self.explain => hint,
+            _ => Vec::new(self.alloc),
+        }
+    }
+
+    /// The status with which a job under a policy ended. Where it is asked for, and the policy has a
+    /// fault, it tells on `err` what is wanted in its place.
+    pub(crate) fn explained<E: Write>(&self, ended: Status, policy: &[u8], err: &mut E) -> Status
+        ensures status { result ≡ ended }
+        ensures quiet { ended ≡ Status.Done → err.new ≡ err.old }
+    {
+        if ended == Status::BadPolicy && self.explain {
+            return told(ended, &self.hint(policy), err);
+        }
+        ended
+    }
+
+    /// The same of a race, where a policy may have no fault and lack what a race takes.
+    pub(crate) fn explained_race<E: Write>(
+        &self,
+        ended: Status,
+        policy: &[u8],
+        err: &mut E,
+    ) -> Status
+        ensures status { result ≡ ended }
+        ensures quiet { ended ≡ Status.Done → err.new ≡ err.old }
+    {
+        if ended == Status::BadPolicy && self.explain {
+            let lack = self.asked(race_hint(self.alloc, policy));
+            return told(self.explained(ended, policy, err), &lack, err);
+        }
+        ended
+    }
+}
+
+/// The status with which a job ended. Where that is a policy's fault it tells a hint on `err`, whose own
+/// faults are ignored, if there is one.
+pub(crate) fn told<E: Write>(ended: Status, hint: &[u8], err: &mut E) -> Status
+    ensures status { result ≡ ended }
+    ensures quiet { ended ≡ Status.Done → err.new ≡ err.old }
+{
+    if ended == Status::BadPolicy && !hint.is_empty() {
+        let _ = err.write_all(hint);
+    }
+    ended
+}
