@@ -1,7 +1,7 @@
 //! A test from the bytes of a policy and traces to its text.
 
 ghost use Rattle.std.specs.Prelude.{◌≡◌, ◌+◌, ◌<◌, ◌≤◌, ◌^◌, ◌++◌, ◌∷◌, [], ℕ, List};
-ghost use Rattle.std.specs.Prelude.{None, Some, All, OnOk, IfOk, IfErr};
+ghost use Rattle.std.specs.Prelude.{None, Some, All, OnOk, IfOk, IfErr, is_some};
 ghost use Rattle.hg_trace.specs.Stored.{lines_in};
 ghost use Rattle.hg_core.specs.Opening.{opened};
 ghost use Rattle.hg_replay.specs.RunFaults.{status_of};
@@ -209,6 +209,13 @@ impl<'a> Tests<'a> {
             Ok(()) => Ok(()),
             Err(_) => Err(RunFault::Replay(ReplayFault::Memory)),
         }
+    }
+
+    /// Whether a trace that was added has a fault, or the policy has one.
+    pub fn is_stopped(&self) -> bool
+        ensures { result ≡ is_some self.now.fault }
+    {
+        self.faulty.is_some()
     }
 
     /// The trace of this name has a fault.

@@ -1,10 +1,13 @@
 -- What is told behind the line of a policy's fault.
-use Rattle.std.specs.Prelude.{◌≡◌, ◌≤◌, ◌++◌, ℕ, List, [], Option, Some, None, Ok, Err, codes, decimal}
+use Rattle.std.specs.Prelude.{◌≡◌, ◌≤◌, ◌+◌, ◌++◌, ℕ, List, [], Option, Some, None, Ok, Err, codes, decimal}
 use Rattle.std.specs.Prelude.{length, take}
 use Rattle.toml.specs.Data.{Members}
 use Rattle.hg_machine.specs.Policy.{Policy}
 use Rattle.hg_policy.specs.Document.{policy_at, tree_of}
 use Rattle.hg_policy.specs.Faults.{Read}
+use Rattle.hg_policy.specs.FaultyRow.{row_at}
+use Rattle.hg_policy.specs.Keys.{key_text}
+use Rattle.hg_policy.specs.declared.row.Row.{Row}
 use Rattle.hg_hints.specs.Reasons.{reason}
 use Rattle.hg_hints.specs.Spots.{spot_behind}
 use Rattle.hg_hints.specs.declared.spot.Spot.{Spot}
@@ -24,10 +27,21 @@ IsRefused bytes hint =
     (at : ℕ) × (why : List ℕ) × (at ≤ length bytes)
     × (hint ≡ hint_line (refused_text (spot_behind (take at bytes)) why))
 
--- of a document: nothing where it means a policy, and else what is told of its fault
+-- in which row of a table, counted from 1
+unfoldable pub row_text : Row → List ℕ
+row_text row =
+    codes "in " ++ key_text row.table ++ codes " " ++ decimal (row.number + 1)
+    ++ codes " of " ++ decimal row.rows ++ codes ": "
+
+abbrev pub place_text : Option Row → List ℕ
+place_text None = []
+place_text (Some row) = row_text row
+
+-- of a document: nothing where it means a policy, and else the row of its fault, if it is of one, and
+-- what is told of that
 abbrev pub told_of : Members → Read Policy → List ℕ
 told_of document (Ok policy) = []
-told_of document (Err fault) = hint_line (reason document fault)
+told_of document (Err fault) = hint_line (place_text (row_at document) ++ reason document fault)
 
 abbrev pub IsHintOf : List ℕ → Option Members → List ℕ → Type 0
 IsHintOf bytes None hint = IsRefused bytes hint

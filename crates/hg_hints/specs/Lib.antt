@@ -3,3 +3,5 @@ pub mod Near
 pub mod Reasons
 pub mod Spots
 pub mod Hints
+pub mod TraceWords
+pub mod TraceHints

@@ -1,5 +1,5 @@
-//! What is wanted where a policy has a fault: the line that stands behind the fault's own where it is
-//! asked for; and names that are like another.
+//! What is wanted where a policy or a trace has a fault: what stands behind the fault's own line where
+//! it is asked for; and names that are like another.
 #![tactic(auto)]
 
 mod alike;
@@ -8,6 +8,9 @@ mod policy;
 mod push;
 mod reason;
 mod spot;
+mod trace;
+mod word;
 
 pub use alike::near;
 pub use policy::policy_hint;
+pub use trace::trace_hint;

@@ -49,7 +49,7 @@ fn push_missing(out: &mut Vec<u8>, alloc: Global, key: Key) -> Result<(), AllocE
 }
 
 /// Appends a text that is like it, or that none is.
-fn push_like(
+pub(crate) fn push_like(
     out: &mut Vec<u8>,
     alloc: Global,
     otherwise: &str,

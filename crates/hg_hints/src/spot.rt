@@ -1,10 +1,10 @@
 //! Where in a text something stands.
 
-ghost use Rattle.std.specs.Prelude.{◌≡◌, ◌≤◌, ◌<◌, ◌+◌, ◌^◌, ◌++◌, OnOk, decimal, length};
+ghost use Rattle.std.specs.Prelude.{◌≡◌, ◌≤◌, ◌<◌, ◌+◌, ◌^◌, ◌++◌, OnOk};
 ghost use Rattle.hg_hints.specs.Hints.{refused_text};
 ghost use Rattle.hg_hints.specs.Spots.{begins, behind, spot_behind};
 
-use crate::push::push;
+use crate::push::{push, push_count};
 use std::alloc::AllocError;
 
 /// A place in a text, by its line and its column, both from 1. A column counts characters.
@@ -66,13 +66,4 @@ impl Spot {
         push(out, ": ")?;
         push(out, why)
     }
-}
-
-/// Appends a word and a number behind it.
-fn push_count(out: &mut Vec<u8>, word: &str, n: u64) -> Result<(), AllocError>
-    ensures { OnOk result (out.new.items ≡ out.old.items ++ word.now ++ decimal n) }
-{
-    let mut digits = itoa::Buffer::new();
-    push(out, word)?;
-    push(out, digits.format(n))
 }

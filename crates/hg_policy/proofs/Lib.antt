@@ -19,3 +19,7 @@ pub mod Sets
 pub mod OwnRows
 pub mod SaidWords
 pub mod Copies
+pub mod HeadsIn
+pub mod FirstRefused
+pub mod RowsTold
+pub mod AloneRefused

@@ -55,6 +55,13 @@ policy_at members = do
   heads ← heads_at members
   tables_of heads
 
+-- what of it is read before any entry
+unfoldable pub heads_in : Members → Read Heads
+heads_in members = do
+  top ← top_at members
+  known ← known_keys top members
+  heads_at members
+
 -- the tree of the bytes
 abbrev pub tree_of : List ℕ → Option Members
 tree_of text = if is_utf8 text then parse_document text else None

@@ -1,5 +1,5 @@
 -- The words of a document.
-use Rattle.std.specs.Prelude.{ℕ, List, codes}
+use Rattle.std.specs.Prelude.{ℕ, Bool, true, false, List, codes}
 use Rattle.hg_policy.specs.declared.key.Key.{Key}
 use Rattle.hg_policy.specs.declared.key.Key.TheVariants as key
 use Rattle.hg_policy.specs.declared.key.Counted.{Counted}
@@ -23,6 +23,15 @@ key_text key.Members = codes "members"
 key_text key.Owner = codes "owner"
 key_text key.To = codes "to"
 key_text key.Rights = codes "rights"
+
+-- the keys at which a document has tables
+abbrev pub has_rows : Key → Bool
+has_rows key.Tenant = true
+has_rows key.Arena = true
+has_rows key.Group = true
+has_rows key.Grant = true
+has_rows key.Deny = true
+has_rows _ = false
 
 -- the word for what is counted
 abbrev pub counted_text : Counted → List ℕ

@@ -17,6 +17,7 @@ pub mod Groups
 pub mod Lines
 pub mod Heads
 pub mod Document
+pub mod FaultyRow
 pub mod DocumentLaws
 pub mod VersionLaws
 pub mod SaidLaws

@@ -1,10 +1,12 @@
 //! The policy document.
 
+ghost use Rattle.std.specs.Prelude.{IfOk};
 ghost use Rattle.toml.specs.View.{table_view};
 ghost use Rattle.hg_policy.specs.Faults.{Gives, or_fault, not_toml};
 ghost use Rattle.hg_policy.specs.Kept.{heads_of};
 ghost use Rattle.hg_policy.specs.Heads.{AreHeads};
-ghost use Rattle.hg_policy.specs.Document.{top_at, tables_of, policy_at, tree_of, document_of};
+ghost use Rattle.hg_policy.specs.Document.{top_at, tables_of, policy_at, heads_in, tree_of};
+ghost use Rattle.hg_policy.specs.Document.{document_of};
 
 use crate::arenas::arenas;
 use crate::fault::PolicyFault;
@@ -27,7 +29,7 @@ pub fn read_policy(alloc: Global, text: &[u8]) -> Result<Policy, PolicyFault>
     policy(alloc, &table)
 }
 
-fn tree(alloc: Global, text: &[u8]) -> Result<Table, PolicyFault>
+pub(crate) fn tree(alloc: Global, text: &[u8]) -> Result<Table, PolicyFault>
     ensures { Gives (λ table. table_view table) result (or_fault not_toml (tree_of text.now)) }
 {
     match toml::table_from_slice(alloc, text) {
@@ -42,14 +44,22 @@ fn tree(alloc: Global, text: &[u8]) -> Result<Table, PolicyFault>
     }
 }
 
-#[tactic(auto, unfolding(crate::specs::Document::policy_at))]
 fn policy(alloc: Global, table: &Table) -> Result<Policy, PolicyFault>
     ensures { Gives (λ policy. policy) result (policy_at (table_view table.now)) }
 {
+    let heads = heads(alloc, table)?;
+    tables(alloc, &heads)
+}
+
+/// What is read before any entry.
+#[tactic(auto, unfolding(crate::specs::Document::heads_in))]
+pub(crate) fn heads<'a>(alloc: Global, table: &'a Table) -> Result<Heads<'a>, PolicyFault>
+    ensures heads { Gives heads_of result (heads_in (table_view table.now)) }
+    ensures ranges { IfOk result (λ heads. AreHeads (heads_of heads)) }
+{
     let top = top(table)?;
     known(alloc, top, table)?;
-    let heads = read_heads(alloc, table)?;
-    tables(alloc, &heads)
+    read_heads(alloc, table)
 }
 
 #[tactic(auto, unfolding(crate::specs::Document::tables_of))]

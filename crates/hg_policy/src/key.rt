@@ -1,7 +1,7 @@
 //! The words of a document.
 
 ghost use Rattle.std.specs.Prelude.{◌≡◌, Some};
-ghost use Rattle.hg_policy.specs.Keys.{key_text, counted_text};
+ghost use Rattle.hg_policy.specs.Keys.{key_text, has_rows, counted_text};
 ghost use Rattle.hg_policy.specs.Values.{knows};
 
 use std::fmt;
@@ -50,6 +50,16 @@ impl Key {
             Key::To => "to",
             Key::Rights => "rights",
         }
+    }
+
+    /// Whether a document has a table at the key.
+    pub(crate) fn has_rows(self) -> bool
+        ensures { result ≡ has_rows self }
+    {
+        matches!(
+            self,
+            Key::Tenant | Key::Arena | Key::Group | Key::Grant | Key::Deny
+        )
     }
 }
 

@@ -140,7 +140,7 @@ pub(crate) fn lines(
 }
 
 #[tactic(auto, unfolding(crate::specs::Lines::line_in))]
-fn read_line(
+pub(crate) fn read_line(
     alloc: Global,
     tenants: &IndexMap<String, u32>,
     groups: &IndexMap<String, TenantSet>,

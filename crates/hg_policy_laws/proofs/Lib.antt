@@ -6,3 +6,5 @@ mod SaidLaws
 mod WholeTables
 mod KnownNames
 mod SaidWhole
+pub mod FaultyRows
+mod StoppedRows

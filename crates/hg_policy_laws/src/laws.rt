@@ -3,6 +3,8 @@
 ghost use Rattle.hg_policy.specs.DocumentLaws.{NamesAreDistinct, TablesAreWhole};
 ghost use Rattle.hg_policy.specs.DocumentLaws.{DocumentsAreSound};
 ghost use Rattle.hg_policy_laws.specs.LineLaws.{FaultsAreOneLine};
+ghost use Rattle.hg_policy_laws.specs.RowLaws.{PoliciesHaveNoFaultyRow, FaultyRowsAreRows};
+ghost use Rattle.hg_policy_laws.specs.RowLaws.{FaultyRowsAreTold, ReadingStopsAtFaultyRows};
 ghost use Rattle.hg_policy.specs.SaidLaws.{LinesAreSaid, ArenasAreSaid, NothingIsPassedOver};
 ghost use Rattle.hg_policy.specs.VersionLaws.{VersionsAgree, VersionTwoIsVersionOne};
 ghost use Rattle.hg_policy.specs.VersionLaws.{VersionsAreTwo};
@@ -65,4 +67,27 @@ pub fn version_two_is_version_one()
 /// number has the fault `Version`.
 pub fn versions_are_two()
     ensures { VersionsAreTwo }
+{}
+
+/// No row of a document that means a policy is faulty.
+pub fn policies_have_no_faulty_row()
+    ensures { PoliciesHaveNoFaultyRow }
+{}
+
+/// A document with a faulty row has a fault, and the row's number is below that of its table's
+/// rows.
+pub fn faulty_rows_are_rows()
+    ensures { FaultyRowsAreRows }
+{}
+
+/// A document whose first fault is none of those that are told before any entry is read has a
+/// faulty row.
+pub fn faulty_rows_are_told()
+    ensures { FaultyRowsAreTold }
+{}
+
+/// The tables of a document, cut to the rows before its faulty row, are read, and with that row
+/// they are not.
+pub fn reading_stops_at_faulty_rows()
+    ensures { ReadingStopsAtFaultyRows }
 {}

@@ -3,6 +3,7 @@ mod copies;
 mod expanded;
 mod faults;
 mod reading;
+mod rows;
 mod second;
 mod second_faults;
 mod sizes;

@@ -5,7 +5,7 @@ ghost use Rattle.hg_program.specs.Ends.{IsOf};
 
 use crate::host::Host;
 use crate::why::Why;
-use hg_hints::policy_hint;
+use hg_hints::{policy_hint, trace_hint};
 use hg_policy::OneLine;
 use hg_race::race_hint;
 use hg_replay::{ReadFault, Status};
@@ -87,6 +87,29 @@ impl<H: Host> Context<'_, H> {
         ended
     }
 
+    /// What is told of a trace's fault under a policy, in the same way.
+    pub(crate) fn hint_on(&self, policy: &[u8], trace: &[u8]) -> Vec<u8> {
+        self.asked(trace_hint(self.alloc, policy, trace))
+    }
+
+    /// The same of a job on a trace, which may have a fault too: then it tells the line with the word
+    /// at fault, and what is wanted there.
+    pub(crate) fn explained_on<E: Write>(
+        &self,
+        ended: Status,
+        policy: &[u8],
+        trace: &[u8],
+        err: &mut E,
+    ) -> Status
+        ensures status { result ≡ ended }
+        ensures quiet { ended ≡ Status.Done → err.new ≡ err.old }
+    {
+        if ended == Status::BadTrace && self.explain {
+            return told(ended, &self.hint_on(policy, trace), err);
+        }
+        self.explained(ended, policy, err)
+    }
+
     /// The same of a race, where a policy may have no fault and lack what a race takes.
     pub(crate) fn explained_race<E: Write>(
         &self,
@@ -105,13 +128,13 @@ impl<H: Host> Context<'_, H> {
     }
 }
 
-/// The status with which a job ended. Where that is a policy's fault it tells a hint on `err`, whose own
-/// faults are ignored, if there is one.
+/// The status with which a job ended. Where that is a fault of a policy or a trace it tells a hint on
+/// `err`, whose own faults are ignored, if there is one.
 pub(crate) fn told<E: Write>(ended: Status, hint: &[u8], err: &mut E) -> Status
     ensures status { result ≡ ended }
     ensures quiet { ended ≡ Status.Done → err.new ≡ err.old }
 {
-    if ended == Status::BadPolicy && !hint.is_empty() {
+    if matches!(ended, Status::BadPolicy | Status::BadTrace) && !hint.is_empty() {
         let _ = err.write_all(hint);
     }
     ended

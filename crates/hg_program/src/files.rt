@@ -63,7 +63,7 @@ pub(crate) fn check_files<H: Host, W: Sink, E: Write>(
     match read_files(cx, policy, trace) {
         Ok((policy, trace)) => {
             let ended = run_check_trace(cx.alloc, &policy, &trace, out, err);
-            cx.explained(ended, &policy, err)
+            cx.explained_on(ended, &policy, &trace, err)
         }
         Err(unread) => cx.fails(unread, err),
     }
@@ -103,17 +103,19 @@ pub(crate) fn explain_files<H: Host, W: Sink, E: Write>(
     match read_files(cx, policy, trace) {
         Ok((policy, trace)) => {
             let ended = run_explained(cx.alloc, &policy, &trace, out, err);
-            cx.explained(ended, &policy, err)
+            cx.explained_on(ended, &policy, &trace, err)
         }
         Err(unread) => cx.fails(unread, err),
     }
 }
 
-/// Tests of the traces of files, in their order, each read and given back before the next is read.
+/// Tests of the traces of files, in their order, each read and given back before the next is read; and
+/// what is wanted in place of the fault of the first that has one, unless the policy has one.
 fn test_each<'a, H: Host, E: Write>(
     cx: &Context<'_, H>,
     policy: &[u8],
     names: &[&'a str],
+    hint: &mut Vec<u8>,
     err: &mut E,
 ) -> Result<Tests<'a>, Unread<'a>>
     ensures { IfOk result (λ tests. StandOf (H.holds cx.now.host.now) policy.now
@@ -123,7 +125,11 @@ fn test_each<'a, H: Host, E: Write>(
     for name in names {
         let bytes = cx.read(*name)?;
         let source = Source { name: *name, bytes };
+        let was_stopped = tests.is_stopped();
         tests.add(cx.alloc, policy, &source, err);
+        if tests.is_stopped() && !was_stopped && hint.is_empty() {
+            *hint = cx.hint_on(policy, source.bytes.as_slice());
+        }
     }
     Ok(tests)
 }
@@ -144,7 +150,7 @@ fn test_all<'a, H: Host, E: Write>(
 {
     let policy = cx.read(policy)?;
     *hint = cx.hint(policy.as_slice());
-    test_each(cx, policy.as_slice(), names, err)
+    test_each(cx, policy.as_slice(), names, hint, err)
 }
 
 /// Tests the traces of files under the policy of another. All are read before any fault of one is

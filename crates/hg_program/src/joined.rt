@@ -53,7 +53,7 @@ fn explain_joined<H: Host, R: Read, W: Sink, E: Write>(
         Ok(bytes) => {
             let (policy, trace) = split_joined(&bytes);
             let ended = run_explained(cx.alloc, policy, trace, out, err);
-            cx.explained(ended, policy, err)
+            cx.explained_on(ended, policy, trace, err)
         }
         Err(fault) => fails(fault, err),
     }

@@ -147,7 +147,7 @@ static ENDINGS: [Row; 11] = [
         "",
         Status::BadTrace,
         "",
-        "trace fault 6 at line 1: worker\n",
+        "trace fault 6 at line 1: worker\n  the policy has workers up to w0\n",
     ),
     (
         &["replay", "--explain", "nowhere", "trace"],

@@ -25,3 +25,9 @@ pub mod PlainTraces
 pub mod ReadLines
 pub mod StoredNumbers
 pub mod StoreSteps
+pub mod WordSpans
+pub mod LineNumbers
+pub mod WrongWords
+pub mod CommandCases
+pub mod WordFaults
+pub mod LabelFaults

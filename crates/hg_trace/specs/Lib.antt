@@ -11,6 +11,10 @@ pub mod Commands
 pub mod Workers
 pub mod Stored
 pub mod Trace
+pub mod Forms
+pub mod Spans
+pub mod FaultyWord
+pub mod FaultyWordLaws
 pub mod Reads
 pub mod Joined
 pub mod Printed

@@ -135,7 +135,8 @@ fn refill_of<'a>(words: &mut Words<'a>) -> Result<Command<'a>, LineFault>
     Ok(Command::Refill { arena })
 }
 
-fn is(word: &[u8], name: &str) -> bool
+/// Whether a word is the name of a command.
+pub(crate) fn is(word: &[u8], name: &str) -> bool
     ensures { result ≡ bytes_eq word.now name.now }
 {
     word == name.as_bytes()

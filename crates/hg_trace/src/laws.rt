@@ -1,5 +1,7 @@
 //! Laws of the definitions. Each function does nothing: what it promises is the law.
 
+ghost use Rattle.hg_trace.specs.FaultyWordLaws.{WrongWordsAreFaults, RightWordsAreRead};
+ghost use Rattle.hg_trace.specs.FaultyWordLaws.{FaultsAreTold};
 ghost use Rattle.hg_trace.specs.NumberLaws.{NumbersAreDecimals};
 ghost use Rattle.hg_trace.specs.PlainLaws.{PlacesAreTheirTexts, HandlesAreTheirTexts};
 ghost use Rattle.hg_trace.specs.PlainLaws.{LinesAreTheirWords, PlainTracesAreReadBack};
@@ -38,4 +40,21 @@ pub fn plain_traces_are_read_back()
 /// they give are names, each given once.
 pub fn read_lines_are_plain()
     ensures { ReadLinesArePlain }
+{}
+
+/// Where a word of a line isn't what is wanted there, the words of the line have the fault of the
+/// first such word: `Command` where that is the worker or the command, and else `Operand`.
+pub fn wrong_words_are_faults()
+    ensures { WrongWordsAreFaults }
+{}
+
+/// Where each word of a line is what is wanted there, the words of the line are read, or have the
+/// fault of a label.
+pub fn right_words_are_read()
+    ensures { RightWordsAreRead }
+{}
+
+/// Of each fault that the bytes of a trace have `faulty_word` tells something.
+pub fn faults_are_told()
+    ensures { FaultsAreTold }
 {}

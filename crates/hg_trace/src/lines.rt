@@ -74,6 +74,13 @@ impl<'a> Cut<'a> {
         }
         clean_text(self.line)
     }
+
+    /// The line without its comment and its end, whatever bytes it has.
+    pub(crate) fn before_comment(self) -> &'a [u8]
+        ensures { result.now ≡ before_comment self.entry }
+    {
+        self.text
+    }
 }
 
 impl<'a> Lines<'a> {
@@ -225,7 +232,7 @@ fn clean_text(line: &[u8]) -> Option<&[u8]>
     }
 }
 
-fn is_plain(b: u8) -> bool
+pub(crate) fn is_plain(b: u8) -> bool
     ensures { result ≡ is_plain b }
 {
     (b' ' <= b && b <= b'~') || is_blank(b) || ends_line(b)

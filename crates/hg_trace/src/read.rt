@@ -22,7 +22,7 @@ use std::alloc::Global;
 /// The most workers that there can be.
 const WORKERS: u64 = 16;
 
-fn worker_of(word: &[u8]) -> Result<u8, LineFault>
+pub(crate) fn worker_of(word: &[u8]) -> Result<u8, LineFault>
     ensures { result ≡ worker_of word.now }
 {
     match word {

@@ -168,14 +168,14 @@ impl<'a> Words<'a> {
 }
 
 /// Where the first word begins.
-fn word_start(text: &[u8]) -> Option<usize>
+pub(crate) fn word_start(text: &[u8]) -> Option<usize>
     ensures { result ≡ position (λ b. not (is_blank b)) text.now }
 {
     text.iter().position(|b| !is_blank(*b))
 }
 
 /// Where a word that stands at the front ends.
-fn word_end(text: &[u8]) -> Option<usize>
+pub(crate) fn word_end(text: &[u8]) -> Option<usize>
     ensures { result ≡ position is_blank text.now }
 {
     text.iter().position(|b| is_blank(*b))

@@ -1,3 +1,4 @@
+mod at_fault;
 mod faults;
 mod joined;
 mod kept_names;

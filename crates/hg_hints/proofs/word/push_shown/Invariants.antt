@@ -1,0 +1,7 @@
+use Rattle.std.proofs.Common.{◌≡◌, ◌++◌, map, take}
+use Rattle.hg_hints.specs.TraceWords.{shown}
+use Rattle.hg_hints.proofs.word.push_shown.Given as goal
+
+-- the bytes so far are shown
+abbrev pub invariant-loop-b : goal.invariant-loop-b
+invariant-loop-b l = l.out.items ≡ l.fn.out.items ++ map shown (take l.b-index l.text)

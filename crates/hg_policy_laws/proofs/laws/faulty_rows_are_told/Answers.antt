@@ -1,0 +1,5 @@
+use Rattle.hg_policy_laws.proofs.FaultyRows.{faulty_rows_are_told as law}
+use Rattle.hg_policy_laws.proofs.laws.faulty_rows_are_told.Goals as goal
+
+pub returns : goal.returns
+returns c = law
