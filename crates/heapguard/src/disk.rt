@@ -2,16 +2,19 @@
 
 ghost use Rattle.std.specs.Prelude.{None, true};
 
-use hg_program::{Host, Why};
+use hg_program::{Host, Unwritten, Why};
 use hg_replay::{ReadFault, read_limited};
 use std::alloc::Global;
+use std::cell::Cell;
 use std::io::{Error, ErrorKind, IsTerminal, Read};
 use std::{fs, io};
 
-/// The files and the terminal of the system. The file `-` is the input.
+/// The files and the terminal of the system, and why a write to its output failed, if one did. The file
+/// `-` is the input.
 #[derive(Drop)]
 pub(crate) struct Disk<'a> {
     pub(crate) rt: &'a HostRuntime,
+    pub(crate) failed: &'a Cell<Option<Unwritten>>,
 }
 
 impl Disk<'_> {
@@ -57,6 +60,10 @@ impl Host for Disk<'_> {
             Ok(_) => Why::Other,
             Err(error) => why(&error),
         }
+    }
+
+    fn why_unwritten(&self) -> Option<Unwritten> {
+        self.failed.get()
     }
 
     fn is_at_terminal(&self) -> bool {

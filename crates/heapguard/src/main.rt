@@ -2,10 +2,13 @@
 #![tactic(auto)]
 
 mod disk;
+mod output;
 
 use disk::Disk;
 use hg_program::start;
 use hg_replay::Sink;
+use output::Watched;
+use std::cell::Cell;
 use std::io::{LineWriter, Write};
 use std::process::ExitCode;
 use std::sync::Wait;
@@ -23,13 +26,20 @@ fn arguments(rt: &HostRuntime) -> io::Result<Vec<String>> {
 
 /// The whole program, which tells on `err` what goes wrong.
 fn run<T: Threads + Wait, E: Sink + Write>(threads: &T, rt: &HostRuntime, err: &mut E) -> ExitCode {
+    let failed = Cell::new(None);
     start(
         threads,
         rt.alloc(),
         arguments(rt),
-        &Disk { rt },
+        &Disk {
+            rt,
+            failed: &failed,
+        },
         &mut rt.reader(),
-        &mut io::writer(rt),
+        &mut Watched {
+            to: io::writer(rt),
+            failed: &failed,
+        },
         err,
     )
 }

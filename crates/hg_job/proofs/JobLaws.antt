@@ -8,6 +8,7 @@ use Rattle.hg_job.specs.Jobs.{IsDecimal, IsNumber, RefusedBy, faults_of}
 use Rattle.hg_job.specs.JobLaws.{OptionsAreJobs, OptionsExplain, WordsAreJobs, RequestsArePrinted, IsPrinted, IsTold}
 use Rattle.hg_job.specs.declared.job.Job.TheVariants.{Joined, Check, Replay, Race, Test, Show}
 use Rattle.hg_job.specs.declared.job.Job.TheVariants.{ExplainJoined, Explain, CheckTrace, ShowJson}
+use Rattle.hg_job.specs.declared.job.Job.TheVariants.{ExplainJoinedJson, ExplainJson}
 use Rattle.hg_job.specs.declared.job.JobFault.{JobFault}
 use Rattle.hg_job.specs.declared.job.JobFault.TheVariants.{Print, Line, Memory}
 
@@ -51,6 +52,15 @@ words_are_jobs ExplainJoined = (
   (λ h. job_of h),
   (λ h. job_of h),
 )
+words_are_jobs ExplainJoinedJson = (
+  (λ e. e),
+  (λ h. job_of h),
+  (λ h. job_of h),
+  (λ h. job_of h),
+  (λ h. job_of h),
+  (λ h. job_of h),
+  (λ h. job_of h),
+)
 words_are_jobs (Check policy) = (
   (λ e. e),
   (λ h. (job_of h).1),
@@ -79,6 +89,15 @@ words_are_jobs (Replay policy trace) = (
   (λ h. let e = (job_of h).0 in absurd (cc)),
 )
 words_are_jobs (Explain policy trace) = (
+  (λ e. e),
+  (λ h. let e = (job_of h).0 in absurd (cc)),
+  (λ h. let given = (job_of h).3 in absurd (cc)),
+  (λ h. let e = (job_of h).0 in absurd (cc)),
+  (λ h. let e = (job_of h).0 in absurd (cc)),
+  (λ h. let e = (job_of h).0 in absurd (cc)),
+  (λ h. let e = (job_of h).0 in absurd (cc)),
+)
+words_are_jobs (ExplainJson policy trace) = (
   (λ e. e),
   (λ h. let e = (job_of h).0 in absurd (cc)),
   (λ h. let given = (job_of h).3 in absurd (cc)),
@@ -126,12 +145,40 @@ words_are_jobs (ShowJson policy) = (
 
 pub options_are_jobs : OptionsAreJobs
 unfolding walked
-options_are_jobs Joined = ((λ e. e), (λ h. job_of h), (λ h. job_of h), (λ h. job_of h))
-options_are_jobs ExplainJoined = ((λ e. e), (λ h. job_of h), (λ h. job_of h), (λ h. job_of h))
+options_are_jobs Joined = (
+  (λ e. e),
+  (λ h. job_of h),
+  (λ h. job_of h),
+  (λ h. job_of h),
+  (λ e. e),
+  (λ e. e),
+  (λ h. job_of h),
+)
+options_are_jobs ExplainJoined = (
+  (λ e. e),
+  (λ h. job_of h),
+  (λ h. job_of h),
+  (λ h. job_of h),
+  (λ e. e),
+  (λ e. e),
+  (λ h. job_of h),
+)
+options_are_jobs ExplainJoinedJson = (
+  (λ e. e),
+  (λ h. job_of h),
+  (λ h. job_of h),
+  (λ h. job_of h),
+  (λ e. e),
+  (λ e. e),
+  (λ h. job_of h),
+)
 options_are_jobs (Check policy) = (
   (λ e. e),
   (λ h. let e = (job_of h).0 in absurd (cc)),
   (λ h. let e = (job_of h).0 in absurd (cc)),
+  (λ h. let e = (job_of h).0 in absurd (cc)),
+  (λ e. e),
+  (λ e. e),
   (λ h. let e = (job_of h).0 in absurd (cc)),
 )
 options_are_jobs (CheckTrace policy trace) = (
@@ -139,42 +186,72 @@ options_are_jobs (CheckTrace policy trace) = (
   (λ h. let e = (job_of h).0 in absurd (cc)),
   (λ h. let e = (job_of h).0 in absurd (cc)),
   (λ h. let e = (job_of h).0 in absurd (cc)),
+  (λ e. e),
+  (λ e. e),
+  (λ h. let e = (job_of h).0 in absurd (cc)),
 )
 options_are_jobs (Race policy rounds) = (
   (λ e. e),
   (λ h. let e = (job_of h).0 in absurd (cc)),
   (λ h. let e = (job_of h).0 in absurd (cc)),
   (λ h. absurd (race_is_no_show (sym (job_of h).0))),
+  (λ e. e),
+  (λ e. e),
+  (λ h. let e = (job_of h).0 in absurd (cc)),
 )
 options_are_jobs (Test policy traces) = (
   (λ e. e),
   (λ h. let e = (job_of h).0 in absurd (cc)),
   (λ h. let e = (job_of h).0 in absurd (cc)),
   (λ h. absurd (test_is_no_show (sym (job_of h).0))),
+  (λ e. e),
+  (λ e. e),
+  (λ h. let e = (job_of h).0 in absurd (cc)),
 )
 options_are_jobs (Show policy) = (
   (λ e. e),
   (λ h. let e = (job_of h).0 in absurd (cc)),
   (λ h. let e = (job_of h).0 in absurd (cc)),
   (λ h. let given = (job_of h).2 in absurd (cc)),
+  (λ e. e),
+  (λ e. e),
+  (λ h. let e = (job_of h).0 in absurd (cc)),
 )
 options_are_jobs (ShowJson policy) = (
   (λ e. e),
   (λ h. let e = (job_of h).0 in absurd (cc)),
   (λ h. let e = (job_of h).0 in absurd (cc)),
   (λ h. (job_of h).1),
+  (λ e. e),
+  (λ e. e),
+  (λ h. let e = (job_of h).0 in absurd (cc)),
 )
 options_are_jobs (Replay policy trace) = (
   (λ e. e),
   (λ h. let given = (job_of h).3 in absurd (cc)),
   (λ h. let given = (job_of h).3 in absurd (cc)),
   (λ h. let e = (job_of h).0 in absurd (cc)),
+  (λ e. e),
+  (λ e. e),
+  (λ h. let given = (job_of h).4 in absurd (cc)),
 )
 options_are_jobs (Explain policy trace) = (
   (λ e. e),
   (λ h. let job = job_of h in (job.1, job.2)),
   (λ h. let job = job_of h in (job.1, job.2)),
   (λ h. let e = (job_of h).0 in absurd (cc)),
+  (λ e. e),
+  (λ e. e),
+  (λ h. let given = (job_of h).3 in absurd (cc)),
+)
+options_are_jobs (ExplainJson policy trace) = (
+  (λ e. e),
+  (λ h. let given = (job_of h).3 in absurd (cc)),
+  (λ h. let given = (job_of h).3 in absurd (cc)),
+  (λ h. let e = (job_of h).0 in absurd (cc)),
+  (λ e. e),
+  (λ e. e),
+  (λ h. let job = job_of h in (job.1, job.2)),
 )
 
 pub options_explain : OptionsExplain
@@ -235,6 +312,10 @@ faults_of-before : faults_of (codes "--explain" ∷ codes "check" ∷ codes "p" 
 unfolding walk_fault walked defaults_fault
 faults_of-before = refl
 
+faults_of-json_before : faults_of (codes "--json" ∷ codes "show" ∷ codes "p" ∷ []) ≡ kind.ArgumentConflict ∷ []
+unfolding walk_fault walked defaults_fault
+faults_of-json_before = refl
+
 faults_of-help_word : faults_of (codes "help" ∷ []) ≡ kind.DisplayHelp ∷ []
 unfolding walk_fault walked defaults_fault
 faults_of-help_word = refl
@@ -259,6 +340,7 @@ requests_are_printed fault = (
   (λ h. only_one_told kind.ValueValidation (λ e. cc) (λ e. cc) fault (subst (λ ks. RefusedBy ks fault) faults_of-no_rounds h)),
   (λ h. only_one_told kind.ArgumentConflict (λ e. cc) (λ e. cc) fault (subst (λ ks. RefusedBy ks fault) faults_of-twice h)),
   (λ h. only_one_told kind.ArgumentConflict (λ e. cc) (λ e. cc) fault (subst (λ ks. RefusedBy ks fault) faults_of-before h)),
+  (λ h. only_one_told kind.ArgumentConflict (λ e. cc) (λ e. cc) fault (subst (λ ks. RefusedBy ks fault) faults_of-json_before h)),
   (λ h. only_printed kind.DisplayHelp (inl refl) fault (subst (λ ks. RefusedBy ks fault) faults_of-help_word h)),
   (λ h. only_printed kind.DisplayHelp (inl refl) fault (subst (λ ks. RefusedBy ks fault) faults_of-help_check h)),
   (λ h. only_told kind.UnknownArgument kind.InvalidSubcommand (λ e. cc) (λ e. cc) (λ e. cc) (λ e. cc) fault (subst (λ ks. RefusedBy ks fault) faults_of-help_jump h)),

@@ -9,7 +9,7 @@ use Rattle.clap.specs.declared.error.kind.ErrorKind.{ErrorKind}
 use Rattle.clap.specs.declared.error.kind.ErrorKind.TheVariants.{ArgumentConflict}
 use Rattle.hg_job.specs.CommandLine.{heapguard}
 use Rattle.hg_job.specs.Jobs.{IsJobAt, IsJobOf, IsKnown, IsTaskAt, RefusedBy, TellsOf, accepts, against, against_words, faults_of}
-use Rattle.hg_job.specs.Jobs.{help_faults, is_given, is_none, reads_twice, twice_faults}
+use Rattle.hg_job.specs.Jobs.{help_faults, has_option, is_none, reads_twice, twice_faults}
 use Rattle.hg_job.specs.declared.job.Job.{Job}
 use Rattle.hg_job.specs.declared.job.Task.{Task}
 use Rattle.hg_job.specs.declared.job.JobFault.{JobFault}
@@ -72,36 +72,36 @@ module _ (options : List Row) (p : Text × List Row) where
   abbrev behind : Kinds
   behind = if bytes_eq p.0 (codes "help") then help_faults p.1 else twice_faults p.1
 
-  against_before : is_given (codes "explain") options ≡ true → against options (Some p) ≡ ArgumentConflict ∷ []
+  against_before : has_option options ≡ true → against options (Some p) ≡ ArgumentConflict ∷ []
   against_before given = ap (λ b. if b then ArgumentConflict ∷ [] else behind) given
 
-  against_behind : is_given (codes "explain") options ≡ false → against options (Some p) ≡ behind
+  against_behind : has_option options ≡ false → against options (Some p) ≡ behind
   against_behind given = ap (λ b. if b then ArgumentConflict ∷ [] else behind) given
 
-  against_help : is_given (codes "explain") options ≡ false → bytes_eq p.0 (codes "help") ≡ true → against options (Some p) ≡ help_faults p.1
+  against_help : has_option options ≡ false → bytes_eq p.0 (codes "help") ≡ true → against options (Some p) ≡ help_faults p.1
   against_help given help = against_behind given ∙ ap (λ b. if b then help_faults p.1 else twice_faults p.1) help
 
-  pub against_other : is_given (codes "explain") options ≡ false → bytes_eq p.0 (codes "help") ≡ false → against options (Some p) ≡ twice_faults p.1
+  pub against_other : has_option options ≡ false → bytes_eq p.0 (codes "help") ≡ false → against options (Some p) ≡ twice_faults p.1
   against_other given help = against_behind given ∙ ap (λ b. if b then help_faults p.1 else twice_faults p.1) help
 
   -- what is told of an option before a command
-  pub before_told : (fault : JobFault) → is_given (codes "explain") options ≡ true
+  pub before_told : (fault : JobFault) → has_option options ≡ true
       → (fault ≡ Memory) ⊎ TellsOf ArgumentConflict fault → RefusedBy (against options (Some p)) fault
   before_told fault given told =
       subst (λ kinds. RefusedBy kinds fault) (sym (against_before given)) (told_alone [] ArgumentConflict fault refl told)
 
   -- what `help` is answered
-  pub help_told : (fault : JobFault) → is_given (codes "explain") options ≡ false → bytes_eq p.0 (codes "help") ≡ true
+  pub help_told : (fault : JobFault) → has_option options ≡ false → bytes_eq p.0 (codes "help") ≡ true
       → RefusedBy (help_faults p.1) fault → RefusedBy (against options (Some p)) fault
   help_told fault given help = subst (λ kinds. RefusedBy kinds fault) (sym (against_help given help))
 
   -- what another command is answered
-  pub job_other : (answer : Result Job JobFault) → is_given (codes "explain") options ≡ false → bytes_eq p.0 (codes "help") ≡ false
+  pub job_other : (answer : Result Job JobFault) → has_option options ≡ false → bytes_eq p.0 (codes "help") ≡ false
       → IfOk answer (IsJobOf p.0 p.1) → IfOk answer (λ _. twice_faults p.1 ≡ []) → IfOk answer (IsJobAt options (Some p))
   job_other (Ok job) given help is once = (against_other given help ∙ once, is)
   job_other (Err fault) given help is once = is
 
-  pub refused_other : (answer : Result Job JobFault) → is_given (codes "explain") options ≡ false → bytes_eq p.0 (codes "help") ≡ false
+  pub refused_other : (answer : Result Job JobFault) → has_option options ≡ false → bytes_eq p.0 (codes "help") ≡ false
       → IfErr answer (RefusedBy (twice_faults p.1)) → IfErr answer (RefusedBy (against options (Some p)))
   refused_other answer given help refused =
       subst (λ kinds. IfErr answer (RefusedBy kinds)) (sym (against_other given help)) refused

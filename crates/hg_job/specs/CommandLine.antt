@@ -34,12 +34,14 @@ check =
     (optional (codes "TRACE")))
     (flag (codes "explain"))
 
+-- a replay by its operands, and by its options too
+abbrev pub replaying : App
+replaying =
+    with_rule (with_rule (new_app (codes "replay")) (required (codes "POLICY")))
+    (required (codes "TRACE"))
+
 abbrev pub replay : App
-replay =
-    with_rule
-    (with_rule (with_rule (new_app (codes "replay")) (required (codes "POLICY")))
-    (required (codes "TRACE")))
-    (flag (codes "explain"))
+replay = with_rule (with_rule replaying (flag (codes "explain"))) (flag (codes "json"))
 
 abbrev pub race : App
 race =
@@ -73,9 +75,9 @@ named = record (new_app (codes "heapguard")) {
   };
 }
 
--- the same, with its option
+-- the same, with its options
 abbrev pub alone : App
-alone = with_rule named (flag (codes "explain"))
+alone = with_rule (with_rule named (flag (codes "explain"))) (flag (codes "json"))
 
 -- a command of its own asks for help, of the program or of a command
 abbrev pub help : App

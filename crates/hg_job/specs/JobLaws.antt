@@ -6,6 +6,7 @@ use Rattle.hg_job.specs.Jobs.{IsJobAt, RefusedBy, explains, faults_of}
 use Rattle.hg_job.specs.declared.job.Job.{Job}
 use Rattle.hg_job.specs.declared.job.Job.TheVariants.{Joined, Check, Replay, Race, Test, Show}
 use Rattle.hg_job.specs.declared.job.Job.TheVariants.{ExplainJoined, Explain, CheckTrace, ShowJson}
+use Rattle.hg_job.specs.declared.job.Job.TheVariants.{ExplainJoinedJson, ExplainJson}
 use Rattle.hg_job.specs.declared.job.JobFault.{JobFault}
 use Rattle.hg_job.specs.declared.job.JobFault.TheVariants.{Print, Line}
 
@@ -40,6 +41,12 @@ abbrev pub IsTestOf : Text → List Text → Job → Type 0
 IsTestOf file files (Test policy traces) =
     (policy.now ≡ file) × (map (λ trace. trace.now) traces.items ≡ files)
 IsTestOf file files _ = ⊥
+
+-- the same, as JSON
+abbrev pub IsExplainJsonOf : Text → Text → Job → Type 0
+IsExplainJsonOf first second (ExplainJson policy trace) =
+    (policy.now ≡ first) × (trace.now ≡ second)
+IsExplainJsonOf first second _ = ⊥
 
 -- the policy of this file is to be shown
 abbrev pub IsShowOf : Text → Job → Type 0
@@ -80,6 +87,10 @@ OptionsAreJobs =
     × (AskFor (codes "replay" ∷ codes "p" ∷ codes "t" ∷ codes "--explain" ∷ []) job
     → IsExplainOf (codes "p") (codes "t") job)
     × (AskFor (codes "show" ∷ codes "p" ∷ codes "--json" ∷ []) job → IsShowJsonOf (codes "p") job)
+    × (AskFor (codes "--json" ∷ []) job → job ≡ ExplainJoinedJson)
+    × (AskFor (codes "--explain" ∷ codes "--json" ∷ []) job → job ≡ ExplainJoinedJson)
+    × (AskFor (codes "replay" ∷ codes "--json" ∷ codes "p" ∷ codes "t" ∷ []) job
+    → IsExplainJsonOf (codes "p") (codes "t") job)
 
 -- the words ask for faults to be explained
 abbrev pub are_explained : List Text → Bool
@@ -117,6 +128,8 @@ RequestsArePrinted =
     × (RefusedBy (faults_of (codes "race" ∷ codes "p" ∷ codes "0" ∷ [])) fault → IsTold fault)
     × (RefusedBy (faults_of (codes "--explain" ∷ codes "--explain" ∷ [])) fault → IsTold fault)
     × (RefusedBy (faults_of (codes "--explain" ∷ codes "check" ∷ codes "p" ∷ [])) fault
+    → IsTold fault)
+    × (RefusedBy (faults_of (codes "--json" ∷ codes "show" ∷ codes "p" ∷ [])) fault
     → IsTold fault)
     × (RefusedBy (faults_of (codes "help" ∷ [])) fault → IsPrinted fault)
     × (RefusedBy (faults_of (codes "help" ∷ codes "check" ∷ [])) fault → IsPrinted fault)

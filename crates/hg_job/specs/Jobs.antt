@@ -13,6 +13,7 @@ use Rattle.hg_job.specs.CommandLine.{heapguard, command_names}
 use Rattle.hg_job.specs.declared.job.Job.{Job}
 use Rattle.hg_job.specs.declared.job.Job.TheVariants.{Joined, Check, Replay, Race, Test, Show}
 use Rattle.hg_job.specs.declared.job.Job.TheVariants.{ExplainJoined, Explain, CheckTrace, ShowJson}
+use Rattle.hg_job.specs.declared.job.Job.TheVariants.{ExplainJoinedJson, ExplainJson}
 use Rattle.hg_job.specs.declared.job.Task.{Task}
 use Rattle.hg_job.specs.declared.job.JobFault.{JobFault}
 use Rattle.hg_job.specs.declared.job.JobFault.TheVariants.{Print, Line, Memory}
@@ -46,6 +47,7 @@ IsNumber (Some text) number =
 abbrev pub IsJobOf : Text → List Row → Job → Type 0
 IsJobOf name rows Joined = ⊥
 IsJobOf name rows ExplainJoined = ⊥
+IsJobOf name rows ExplainJoinedJson = ⊥
 IsJobOf name rows (Check policy) =
     (name ≡ codes "check") × (policy.now ≡ operand (codes "POLICY") rows)
     × (first_of (codes "TRACE") rows ≡ None)
@@ -55,9 +57,14 @@ IsJobOf name rows (CheckTrace policy trace) =
 IsJobOf name rows (Replay policy trace) =
     (name ≡ codes "replay") × (policy.now ≡ operand (codes "POLICY") rows)
     × (trace.now ≡ operand (codes "TRACE") rows) × (is_given (codes "explain") rows ≡ false)
+    × (is_given (codes "json") rows ≡ false)
 IsJobOf name rows (Explain policy trace) =
     (name ≡ codes "replay") × (policy.now ≡ operand (codes "POLICY") rows)
     × (trace.now ≡ operand (codes "TRACE") rows) × (is_given (codes "explain") rows ≡ true)
+    × (is_given (codes "json") rows ≡ false)
+IsJobOf name rows (ExplainJson policy trace) =
+    (name ≡ codes "replay") × (policy.now ≡ operand (codes "POLICY") rows)
+    × (trace.now ≡ operand (codes "TRACE") rows) × (is_given (codes "json") rows ≡ true)
 IsJobOf name rows (Race policy rounds) =
     (name ≡ codes "race") × (policy.now ≡ operand (codes "POLICY") rows)
     × IsNumber (one_of (codes "ROUNDS") rows) rounds
@@ -96,18 +103,23 @@ help_faults rows =
     or_else (fault_of heapguard (help_words (first_of (codes "COMMAND") rows)))
     (kind.InvalidSubcommand ∷ [])
 
+-- whether an option of the program alone was given
+abbrev pub has_option : List Row → Bool
+has_option options = is_given (codes "explain") options || is_given (codes "json") options
+
 -- what is against a command where the parser has nothing: an option of the program alone before it;
 -- that it is `help`; or that two files are the standard input
 abbrev pub against : List Row → Option (Text × List Row) → Kinds
 against options None = []
 against options (Some p) =
-    if is_given (codes "explain") options then kind.ArgumentConflict ∷ []
+    if has_option options then kind.ArgumentConflict ∷ []
     else (if bytes_eq p.0 (codes "help") then help_faults p.1 else twice_faults p.1)
 
 -- the job of the command that was entered, if any was, behind these options
 abbrev pub IsJobAt : List Row → Option (Text × List Row) → Job → Type 0
 IsJobAt options None job =
-    job ≡ (if is_given (codes "explain") options then ExplainJoined else Joined)
+    job ≡ (if is_given (codes "json") options then ExplainJoinedJson
+    else (if is_given (codes "explain") options then ExplainJoined else Joined))
 IsJobAt options (Some p) job = (against options (Some p) ≡ []) × IsJobOf p.0 p.1 job
 
 -- whether faults are explained: `--explain` was given to the command that was entered, or to the program

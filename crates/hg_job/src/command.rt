@@ -3,24 +3,23 @@ ghost use Rattle.std.specs.Prelude.{◌≡◌, codes, false, IfOk};
 ghost use Rattle.clap.specs.Words.{app_of, rule_of};
 ghost use Rattle.clap.specs.declared.builder.command.Command.TheViews.{out-Command};
 ghost use Rattle.hg_job.specs.CommandLine.{alone, check, counted, flag, heapguard, help, named};
-ghost use Rattle.hg_job.specs.CommandLine.{optional, race, reader, replay, required, runner, several};
-ghost use Rattle.hg_job.specs.CommandLine.{show, test};
+ghost use Rattle.hg_job.specs.CommandLine.{optional, race, reader, replay, replaying, required};
+ghost use Rattle.hg_job.specs.CommandLine.{runner, several, show, test};
 
 use clap::{Arg, ArgAction, Command, value_parser};
 use std::alloc::{AllocError, Global};
 
 const VERSION: &str = "0.1.0";
 
-const ABOUT: &str = "\
-Replays traces of a memory service that several tenants share under a written policy.
-Alone it replays standard input: a policy, a line `---`, a trace. No file above 16777216 bytes.";
+const ABOUT: &str = "Replays traces of a multi-tenant memory service; \
+    alone it reads standard input: policy, `---`, trace";
 
 const MORE: &str = "\
 Exit status:
   0  done
   1  the policy has a fault
   2  the trace has a fault
-  3  reading or writing failed, or memory was refused
+  3  reading (16777216 bytes at most) or writing failed, or memory was refused
   4  the command line is wrong
   5  an answer isn't the one that a line states (`test` alone)";
 
@@ -43,9 +42,9 @@ const REPLAY_ABOUT: &str = "Runs a trace under a policy and prints each answer";
 const REPLAY_MORE: &str = "\
 Prints the answer to each line of the trace in turn; a `list` prints its rows and then
 their number. Both files are read whole, the policy first, before anything is printed.
-With --explain each line is printed with its number, then its answer, and behind an answer
-that serves nothing the reason, in the policy's words; all of it at the end. A fault of the
-policy, or a file that can't be read, is told with what is wanted there, or why.
+With --explain or --json all is printed at the end: each line with its number, its answer,
+and where that serves nothing the reason, in the policy's words; then counts. And --explain
+tells of a fault what is wanted there, and of a file that can't be read why.
 
 Exit status:
   0  the trace was run to its end
@@ -171,6 +170,9 @@ const WITH_REASONS: &str = "Print each line with its answer and the reason";
 
 const WITH_WANTED: &str = "Tell of a fault what is wanted there";
 
+/// What `--json` does where answers are printed.
+const AS_JSON: &str = "Print the same as JSON, an object a line";
+
 fn explain<'a>(alloc: Global, help: &'a str) -> Arg<'a>
     ensures rule { rule_of result ≡ flag (codes "explain") }
     ensures local { result.global ≡ false }
@@ -190,16 +192,25 @@ fn check_command<'a>(alloc: Global) -> Result<Command<'a>, AllocError>
         .arg(explain(alloc, WITH_WANTED))
 }
 
-fn replay_command<'a>(alloc: Global) -> Result<Command<'a>, AllocError>
-    ensures app { IfOk result (λ c. app_of c ≡ replay) }
+/// A replay with no option yet.
+fn replaying<'a>(alloc: Global) -> Result<Command<'a>, AllocError>
+    ensures app { IfOk result (λ c. app_of c ≡ replaying) }
     ensures local { IfOk result (λ c. (out-Command c).has_globals ≡ false) }
 {
     Command::new(alloc, "replay")
         .about(REPLAY_ABOUT)
         .after_help(REPLAY_MORE)
         .arg(policy(alloc))?
-        .arg(trace(alloc))?
-        .arg(explain(alloc, WITH_REASONS))
+        .arg(trace(alloc))
+}
+
+fn replay_command<'a>(alloc: Global) -> Result<Command<'a>, AllocError>
+    ensures app { IfOk result (λ c. app_of c ≡ replay) }
+    ensures local { IfOk result (λ c. (out-Command c).has_globals ≡ false) }
+{
+    replaying(alloc)?
+        .arg(explain(alloc, WITH_REASONS))?
+        .arg(option(alloc, "json", AS_JSON))
 }
 
 fn race_command<'a>(alloc: Global) -> Result<Command<'a>, AllocError>
@@ -265,7 +276,9 @@ fn named<'a>(alloc: Global) -> Result<Command<'a>, AllocError>
 fn program<'a>(alloc: Global) -> Result<Command<'a>, AllocError>
     ensures { IfOk result (λ c. app_of c ≡ alone) }
 {
-    named(alloc)?.arg(explain(alloc, WITH_REASONS))
+    named(alloc)?
+        .arg(explain(alloc, WITH_REASONS))?
+        .arg(option(alloc, "json", AS_JSON))
 }
 
 /// The program with the commands that read a policy or a trace once.

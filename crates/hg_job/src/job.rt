@@ -20,6 +20,8 @@ pub enum Job<'a> {
     Joined,
     /// The same, with the reason for each answer.
     ExplainJoined,
+    /// The same, as JSON.
+    ExplainJoinedJson,
     /// Read the policy of this file, and count what it names.
     Check(&'a str),
     /// The same, and then read the trace of the second file, and tell which of its names the policy
@@ -29,6 +31,8 @@ pub enum Job<'a> {
     Replay(&'a str, &'a str),
     /// The same, with the reason for each answer.
     Explain(&'a str, &'a str),
+    /// The same, as JSON.
+    ExplainJson(&'a str, &'a str),
     /// Race so many rounds, 1 to 1,000,000, under the policy of this file.
     Race(&'a str, u32),
     /// Compare the answers to the traces of these files under the policy of the first file with

@@ -10,8 +10,8 @@ pub fn words_are_jobs()
 {}
 
 /// `--explain` asks for a replay of standard input with reasons, and `replay --explain p t` and
-/// `replay p t --explain` for one of the second file under the first; and `show p --json` for what
-/// the policy says as JSON.
+/// `replay p t --explain` for one of the second file under the first; `--json`, with `--explain` or
+/// without it, for the same as JSON; and `show p --json` for what the policy says as JSON.
 pub fn options_are_jobs()
     ensures { OptionsAreJobs }
 {}

@@ -5,8 +5,8 @@ ghost use Rattle.clap.specs.Kinds.{or_else};
 ghost use Rattle.clap.specs.Words.{fault_of, first_of, found_of, one_of, rows_of};
 ghost use Rattle.clap.specs.Words.{subcommand_rows_of};
 ghost use Rattle.hg_job.specs.CommandLine.{command_names, heapguard};
-ghost use Rattle.hg_job.specs.Jobs.{against, explains, help_faults, is_given, is_input};
-ghost use Rattle.hg_job.specs.Jobs.{is_read_twice, IsTaskAt};
+ghost use Rattle.hg_job.specs.Jobs.{against, explains, has_option, help_faults, is_given};
+ghost use Rattle.hg_job.specs.Jobs.{is_input, is_read_twice, IsTaskAt};
 ghost use Rattle.hg_job.specs.Jobs.{operand, operands, reads_twice, twice_faults, IsJobAt};
 ghost use Rattle.hg_job.specs.Jobs.{IsJobOf, IsKnown, IsNumber, RefusedBy, TellsOf};
 
@@ -18,8 +18,8 @@ use clap::error::ErrorKind;
 use std::alloc::{AllocError, Global};
 
 /// What is told of an option that stands before a command.
-const MISPLACED: &str =
-    "'--explain' can't stand before a command: see `heapguard replay --explain POLICY TRACE`";
+const MISPLACED: &str = "'--explain' and '--json' can't stand before a command: see \
+    `heapguard replay --explain POLICY TRACE`";
 
 /// What is told where two files are the standard input.
 const TWICE: &str = "the file '-' is standard input, which can't be read twice";
@@ -47,6 +47,13 @@ fn is_given(matches: &ArgMatches<'_>, name: &str) -> bool
     ensures { result ≡ is_given name.now (rows_of (found_of matches.now)) }
 {
     operand_in(matches, name) == "true"
+}
+
+/// Whether an option of the program alone was given.
+fn has_option(options: &ArgMatches<'_>) -> bool
+    ensures { result ≡ has_option (rows_of (found_of options.now)) }
+{
+    is_given(options, "explain") || is_given(options, "json")
 }
 
 /// A copy of some words.
@@ -122,6 +129,9 @@ fn job_named<'a>(alloc: Global, name: &str, matches: &ArgMatches<'a>) -> Result<
             Some(trace) => Ok(Job::CheckTrace(policy, trace)),
             None => Ok(Job::Check(policy)),
         },
+        "replay" if is_given(matches, "json") => {
+            Ok(Job::ExplainJson(policy, operand_in(matches, "TRACE")))
+        }
         "replay" if is_given(matches, "explain") => {
             Ok(Job::Explain(policy, operand_in(matches, "TRACE")))
         }
@@ -200,7 +210,7 @@ fn job_within<'a>(
     ensures err { IfErr result (RefusedBy (against (rows_of (found_of options.now))
         (Some (name.now, rows_of (found_of matches.now))))) }
 {
-    if is_given(options, "explain") {
+    if has_option(options) {
         return Err(told(alloc, ErrorKind::ArgumentConflict, MISPLACED));
     }
     if name == "help" {
@@ -219,6 +229,7 @@ fn job_in<'a>(alloc: Global, matches: &ArgMatches<'a>) -> Result<Job<'a>, JobFau
 {
     match matches.subcommand() {
         Some((name, inner)) => job_within(alloc, matches, name, inner),
+        None if is_given(matches, "json") => Ok(Job::ExplainJoinedJson),
         None if is_given(matches, "explain") => Ok(Job::ExplainJoined),
         None => Ok(Job::Joined),
     }

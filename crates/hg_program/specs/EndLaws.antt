@@ -3,6 +3,7 @@ use Rattle.std.specs.Prelude.{◌<◌, ℕ, List, Option, Some, length}
 use Rattle.hg_replay.specs.Sinks.{Seen}
 use Rattle.hg_replay.specs.declared.run.input.TheConstants.{LIMIT}
 use Rattle.hg_replay.specs.declared.run.status.Status.{Status}
+use Rattle.hg_reasons.specs.declared.form.Form.{Form}
 use Rattle.hg_program.specs.Ends.{ReadsNone, EndsOnChecked, EndsOnFile, EndsOnFiles}
 use Rattle.hg_program.specs.Ends.{EndsOnExplained, EndsOnRace}
 
@@ -10,13 +11,14 @@ use Rattle.hg_program.specs.Ends.{EndsOnExplained, EndsOnRace}
 -- whether or not answers are explained, or a trace is checked
 abbrev pub LongFilesFail : Type 0
 LongFilesFail =
-    (bytes : List ℕ) (other : Option (List ℕ)) (rounds : ℕ) (ended : Status) (old new : Seen)
+    (bytes : List ℕ) (other : Option (List ℕ)) (rounds : ℕ) (form : Form) (ended : Status)
+    (old new : Seen)
     → LIMIT < length bytes
     → (EndsOnFile (Some bytes) ended old new → ReadsNone ended old new)
     × (EndsOnRace (Some bytes) rounds ended old new → ReadsNone ended old new)
     × (EndsOnFiles (Some bytes) other ended old new → ReadsNone ended old new)
     × (EndsOnFiles other (Some bytes) ended old new → ReadsNone ended old new)
-    × (EndsOnExplained (Some bytes) other ended old new → ReadsNone ended old new)
-    × (EndsOnExplained other (Some bytes) ended old new → ReadsNone ended old new)
+    × (EndsOnExplained form (Some bytes) other ended old new → ReadsNone ended old new)
+    × (EndsOnExplained form other (Some bytes) ended old new → ReadsNone ended old new)
     × (EndsOnChecked (Some bytes) other ended old new → ReadsNone ended old new)
     × (EndsOnChecked other (Some bytes) ended old new → ReadsNone ended old new)

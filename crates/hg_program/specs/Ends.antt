@@ -13,6 +13,8 @@ use Rattle.hg_replay.specs.declared.run.status.Status.TheVariants as status
 use Rattle.hg_race.specs.Races.{EndsRace}
 use Rattle.hg_trace.specs.Joined.{policy_in, trace_in}
 use Rattle.hg_reasons.specs.Endings.{EndsExplained}
+use Rattle.hg_reasons.specs.declared.form.Form.{Form}
+use Rattle.hg_reasons.specs.declared.form.Form.TheVariants as form
 use Rattle.hg_expect.specs.Tests.{EndsTests, IsUnwarned, Progress, Stands}
 use Rattle.hg_expect.specs.declared.source.Source.{Source}
 use Rattle.hg_strangers.specs.Endings.{EndsChecked}
@@ -123,14 +125,19 @@ EndsOnShowJson held ended old new =
 abbrev pub EndsJob
     : (List ℕ → Option (List ℕ)) → Option (List ℕ) → Job → Status → Seen → Seen → Type 0
 EndsJob holds input job.Joined ended old new = EndsJoined ended input old new
-EndsJob holds input job.ExplainJoined ended old new = EndsExplainedJoined input ended old new
+EndsJob holds input job.ExplainJoined ended old new =
+    EndsExplainedJoined form.Text input ended old new
+EndsJob holds input job.ExplainJoinedJson ended old new =
+    EndsExplainedJoined form.Json input ended old new
 EndsJob holds input (job.Check policy) ended old new = EndsOnFile (holds policy.now) ended old new
 EndsJob holds input (job.CheckTrace policy trace) ended old new =
     EndsOnChecked (holds policy.now) (holds trace.now) ended old new
 EndsJob holds input (job.Replay policy trace) ended old new =
     EndsOnFiles (holds policy.now) (holds trace.now) ended old new
 EndsJob holds input (job.Explain policy trace) ended old new =
-    EndsOnExplained (holds policy.now) (holds trace.now) ended old new
+    EndsOnExplained form.Text (holds policy.now) (holds trace.now) ended old new
+EndsJob holds input (job.ExplainJson policy trace) ended old new =
+    EndsOnExplained form.Json (holds policy.now) (holds trace.now) ended old new
 EndsJob holds input (job.Race policy rounds) ended old new =
     EndsOnRace (holds policy.now) rounds ended old new
 EndsJob holds input (job.Test policy traces) ended old new =

@@ -75,8 +75,22 @@ impl<H: Host> Context<'_, H> {
         }
     }
 
+    /// The status with which a job ended. Where it is asked for, and a write failed, it tells on `err`
+    /// why.
+    pub(crate) fn unwritten<E: Write>(&self, ended: Status, err: &mut E) -> Status
+        ensures status { result ≡ ended }
+        ensures quiet { ended ≡ Status.Done → err.new ≡ err.old }
+    {
+        if ended == Status::Failed && self.explain {
+            if let Some(why) = self.host.why_unwritten() {
+                let _ = writeln!(err, "  standard output: {why}");
+            }
+        }
+        ended
+    }
+
     /// The status with which a job under a policy ended. Where it is asked for, and the policy has a
-    /// fault, it tells on `err` what is wanted in its place.
+    /// fault, it tells on `err` what is wanted in its place; and where a write failed, why.
     pub(crate) fn explained<E: Write>(&self, ended: Status, policy: &[u8], err: &mut E) -> Status
         ensures status { result ≡ ended }
         ensures quiet { ended ≡ Status.Done → err.new ≡ err.old }
@@ -84,7 +98,7 @@ impl<H: Host> Context<'_, H> {
         if ended == Status::BadPolicy && self.explain {
             return told(ended, &self.hint(policy), err);
         }
-        ended
+        self.unwritten(ended, err)
     }
 
     /// What is told of a trace's fault under a policy, in the same way.
@@ -124,7 +138,7 @@ impl<H: Host> Context<'_, H> {
             let lack = self.asked(race_hint(self.alloc, policy));
             return told(self.explained(ended, policy, err), &lack, err);
         }
-        ended
+        self.unwritten(ended, err)
     }
 }
 

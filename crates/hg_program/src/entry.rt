@@ -15,6 +15,7 @@ use crate::joined::{explain_input, replay_input};
 use crate::refusal::{fails, refuse};
 use crate::showing::{show_file, show_file_json};
 use hg_job::{Job, Task, task_of};
+use hg_reasons::Form;
 use hg_replay::{ReadFault, Sink, Status};
 use std::alloc::{AllocError, Global};
 use std::io;
@@ -39,11 +40,13 @@ fn do_job<T: Threads + Wait, H: Host, R: Read, W: Sink, E: Write>(
 {
     match job {
         Job::Joined => replay_input(cx, input, out, err),
-        Job::ExplainJoined => explain_input(cx, input, out, err),
+        Job::ExplainJoined => explain_input(cx, Form::Text, input, out, err),
+        Job::ExplainJoinedJson => explain_input(cx, Form::Json, input, out, err),
         Job::Check(policy) => check_file(cx, policy, out, err),
         Job::CheckTrace(policy, trace) => check_files(cx, policy, trace, out, err),
         Job::Replay(policy, trace) => replay_files(cx, policy, trace, out, err),
-        Job::Explain(policy, trace) => explain_files(cx, policy, trace, out, err),
+        Job::Explain(policy, trace) => explain_files(cx, Form::Text, policy, trace, out, err),
+        Job::ExplainJson(policy, trace) => explain_files(cx, Form::Json, policy, trace, out, err),
         Job::Race(policy, rounds) => race_file(rt, cx, policy, *rounds, out, err),
         Job::Test(policy, traces) => test_files(cx, policy, traces.as_slice(), out, err),
         Job::Show(policy) => show_file(cx, policy, out, err),

@@ -9,7 +9,7 @@ use crate::context::{Context, Unread, told};
 use crate::host::Host;
 use hg_expect::{Source, Tests};
 use hg_race::run_race;
-use hg_reasons::run_explained;
+use hg_reasons::{Form, run_explained};
 use hg_replay::{Sink, Status, run_check, run_texts};
 use hg_strangers::run_check_trace;
 use std::io::Write;
@@ -88,21 +88,22 @@ pub(crate) fn replay_files<H: Host, W: Sink, E: Write>(
     }
 }
 
-/// The same, with the reason for each answer.
+/// The same, with the reason for each answer, in this form.
 pub(crate) fn explain_files<H: Host, W: Sink, E: Write>(
     cx: &Context<'_, H>,
+    form: Form,
     policy: &str,
     trace: &str,
     out: &mut W,
     err: &mut E,
 ) -> Status
-    ensures ends { EndsOnExplained (H.holds cx.now.host.now policy.now)
+    ensures ends { EndsOnExplained form (H.holds cx.now.host.now policy.now)
         (H.holds cx.now.host.now trace.now) result (W.seen out.old) (W.seen out.new) }
     ensures quiet { result ≡ Status.Done → err.new ≡ err.old }
 {
     match read_files(cx, policy, trace) {
         Ok((policy, trace)) => {
-            let ended = run_explained(cx.alloc, &policy, &trace, out, err);
+            let ended = run_explained(cx.alloc, form, &policy, &trace, out, err);
             cx.explained_on(ended, &policy, &trace, err)
         }
         Err(unread) => cx.fails(unread, err),
@@ -171,7 +172,7 @@ pub(crate) fn test_files<H: Host, W: Sink, E: Write>(
     match test_all(cx, policy, names, &mut hint, err) {
         Ok(tests) => {
             let ended = tests.end(names.len() > 1, out, err);
-            told(ended, &hint, err)
+            cx.unwritten(told(ended, &hint, err), err)
         }
         Err(unread) => cx.fails(unread, err),
     }

@@ -3,7 +3,7 @@
 ghost use Rattle.std.specs.Prelude.{◌≡◌, ◌≤◌, List, ℕ, Option, Bool, true, IfOk, IfSome, vec_len};
 ghost use Rattle.hg_replay.specs.declared.run.input.TheConstants.{LIMIT};
 
-use crate::why::Why;
+use crate::why::{Unwritten, Why};
 use hg_replay::ReadFault;
 use std::alloc::Global;
 
@@ -24,6 +24,9 @@ pub trait Host {
 
     /// Why a file wasn't read, where it failed or was too long.
     fn why_unread(&self, path: &str) -> Why;
+
+    /// Why the output took no more, where a write to it failed.
+    fn why_unwritten(&self) -> Option<Unwritten>;
 
     /// Whether the program's input is a terminal.
     fn is_at_terminal(&self) -> bool

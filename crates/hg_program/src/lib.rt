@@ -13,4 +13,4 @@ mod why;
 
 pub use entry::{program, start};
 pub use host::Host;
-pub use why::Why;
+pub use why::{Unwritten, Why};

@@ -4,7 +4,7 @@ ghost use Rattle.std.specs.Prelude.{None, false};
 
 use crate::narrow::Narrow;
 use crate::shelf::{Row, Shelf, end_each, ended};
-use hg_program::{Host, Why};
+use hg_program::{Host, Unwritten, Why};
 use hg_replay::{ReadFault, Status, read_limited};
 use std::alloc::{AllocError, Global};
 use std::process::Abort;
@@ -59,6 +59,7 @@ const FILES: Shelf = Shelf {
         ("torn", "version = "),
     ],
     is_terminal: false,
+    unwritten: None,
 };
 
 static ENDINGS: [Row; 9] = [
@@ -134,6 +135,10 @@ impl Host for Strangers {
 
     fn why_unread(&self, _path: &str) -> Why {
         Why::Missing
+    }
+
+    fn why_unwritten(&self) -> Option<Unwritten> {
+        None
     }
 
     fn is_at_terminal(&self) -> bool {

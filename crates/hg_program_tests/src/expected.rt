@@ -98,6 +98,7 @@ const FILES: Shelf = Shelf {
         ("stranger", "w2 refill main # => segment 0\n"),
     ],
     is_terminal: false,
+    unwritten: None,
 };
 
 static ENDINGS: [Row; 7] = [

@@ -2,6 +2,7 @@
 
 use crate::narrow::Narrow;
 use crate::shelf::{Shelf, ended, ends};
+use hg_program::Unwritten;
 use hg_replay::Status;
 use std::alloc::Global;
 use std::process::Abort;
@@ -60,6 +61,26 @@ denials 2
   bob 1
 ";
 
+/// The same as JSON.
+const OBJECTS: &str = "\
+{\"line\":1,\"text\":\"w0 refill main\",\"kind\":\"served\",\"answer\":\"segment 0\",\
+\"reason\":null}
+{\"line\":2,\"text\":\"w0 alloc alice main 60 as x\",\"kind\":\"served\",\
+\"answer\":\"ok @0.0.0.1\",\"reason\":null}
+{\"line\":4,\"text\":\"w0 write bob x 0 1\",\"kind\":\"denied grant\",\
+\"answer\":\"denied grant\",\"reason\":\"alice lets bob read, not write\"}
+{\"line\":5,\"text\":\"w0 alloc alice main 8 as y\",\"kind\":\"denied limit\",\
+\"answer\":\"denied limit\",\
+\"reason\":\"alice has 64 of 64 bytes with worker 0, and asks for 8, a block of 8\"}
+{\"line\":6,\"text\":\"w0 read alice y 0\",\"kind\":\"unbound\",\"answer\":\"unbound\",\
+\"reason\":\"line 5 was denied limit\"}
+{\"answers\":{\"(all)\":5,\"served\":2,\"denied stranger\":0,\"denied stale\":0,\
+\"denied freed\":0,\"denied arena\":0,\"denied forbidden\":0,\"denied grant\":1,\
+\"denied limit\":1,\"large\":0,\"noroom\":0,\"elsewhere\":0,\"range\":0,\"busy\":0,\
+\"empty\":0,\"notheld\":0,\"nosegment\":0,\"unbound\":1},\"denials\":{\"(all)\":2,\
+\"alice\":1,\"bob\":1,\"(no tenant)\":0}}
+";
+
 /// Of no line.
 const NOTHING: &str = "
 answers 0
@@ -84,6 +105,7 @@ const FILES: &[(&str, &str)] = &[
 const PIPED: Shelf = Shelf {
     files: FILES,
     is_terminal: false,
+    unwritten: None,
 };
 
 /// The words of a command line, its input, and how the program ends: its status, output and
@@ -104,7 +126,7 @@ const VERSIONLESS: &str = "policy fault 2: missing version
   wanted: version, the whole number 1, or 2 for groups and denies, above the first header such as \
 [[tenant]]\n";
 
-static ENDINGS: [Row; 11] = [
+static ENDINGS: [Row; 15] = [
     (
         &["replay", "--explain", "policy", "trace"],
         "",
@@ -127,6 +149,22 @@ static ENDINGS: [Row; 11] = [
         "",
     ),
     (&["--explain"], JOINED, Status::Done, STORY, ""),
+    (
+        &["replay", "--json", "policy", "trace"],
+        "",
+        Status::Done,
+        OBJECTS,
+        "",
+    ),
+    (&["--explain", "--json"], JOINED, Status::Done, OBJECTS, ""),
+    (&["--json"], JOINED, Status::Done, OBJECTS, ""),
+    (
+        &["--json"],
+        "workers = 1\n---\n",
+        Status::BadPolicy,
+        "",
+        "policy fault 2: missing version\n",
+    ),
     (&[], JOINED, Status::Done, ANSWERS, ""),
     (
         &["replay", "--explain", "policy", "empty"],
@@ -187,6 +225,7 @@ fn a_terminal_is_told_what_is_explained(rt: HostRuntime) {
     let host = Shelf {
         files: FILES,
         is_terminal: true,
+        unwritten: None,
     };
     let want = (Status::Done, STORY, READS);
     ends(&rt, rt.alloc(), &["--explain"], &host, JOINED, want);
@@ -214,16 +253,39 @@ fn stopped_writes_are_told(rt: HostRuntime) {
     }
 }
 
+/// Where the host knows why, that is told.
+#[test]
+fn causes_of_stopped_writes_are_told(rt: HostRuntime) {
+    let host = Shelf {
+        files: FILES,
+        is_terminal: false,
+        unwritten: Some(Unwritten::Full),
+    };
+    for (words, want) in [
+        (
+            &["--explain"].as_slice(),
+            "write fault\n  standard output: no space left\n",
+        ),
+        (&["--json"].as_slice(), "write fault\n"),
+    ] {
+        let mut err = Vec::new(rt.alloc());
+        let mut out = Narrow { left: 9 };
+        let status = ended(&rt, rt.alloc(), words, &host, JOINED, &mut out, &mut err);
+        assert!(&rt; status == Status::Failed);
+        assert!(&rt; err.as_slice() == want.as_bytes());
+    }
+}
+
 /// A place for the bytes of a test that asks for no memory.
-type Held = arrayvec::ArrayVec<u8, 1024>;
+type Held = arrayvec::ArrayVec<u8, 2048>;
 
 /// The answers with their reasons, or want of memory and nothing written.
-fn explains_or_fails<T: Abort + Threads + Wait>(rt: &T, alloc: Global, words: &[&str]) {
+fn explains_or_fails<T: Abort + Threads + Wait>(rt: &T, alloc: Global, words: &[&str], want: &str) {
     let mut out = Held::new();
     let mut err = Held::new();
     let status = ended(rt, alloc, words, &PIPED, JOINED, &mut out, &mut err);
     if status == Status::Done {
-        assert!(rt; out.as_slice() == STORY.as_bytes());
+        assert!(rt; out.as_slice() == want.as_bytes());
         assert!(rt; err.is_empty());
     } else {
         assert!(rt; status == Status::Failed);
@@ -235,10 +297,15 @@ fn explains_or_fails<T: Abort + Threads + Wait>(rt: &T, alloc: Global, words: &[
 #[test]
 fn files_explained_refused_in_turn(rt: HostRuntime) {
     let words = ["replay", "--explain", "policy", "trace"];
-    explains_or_fails(&rt, rt.alloc(), &words);
+    explains_or_fails(&rt, rt.alloc(), &words, STORY);
 }
 
 #[test]
 fn input_explained_refused_in_turn(rt: HostRuntime) {
-    explains_or_fails(&rt, rt.alloc(), &["--explain"]);
+    explains_or_fails(&rt, rt.alloc(), &["--explain"], STORY);
+}
+
+#[test]
+fn input_as_json_refused_in_turn(rt: HostRuntime) {
+    explains_or_fails(&rt, rt.alloc(), &["--json"], OBJECTS);
 }

@@ -41,6 +41,7 @@ const ANSWERS: &str = "segment 0\nok @0.0.0.1\n";
 const FILES: Shelf = Shelf {
     files: &[("p", POLICY), ("t", TRACE), ("two", TWO)],
     is_terminal: false,
+    unwritten: None,
 };
 
 /// A writer that takes nothing.
@@ -208,6 +209,7 @@ fn a_terminal_is_told_what_is_read(rt: HostRuntime) {
     let host = Shelf {
         files: &[],
         is_terminal: true,
+        unwritten: None,
     };
     let want = (Status::Done, ANSWERS, READS);
     ends(&rt, rt.alloc(), &[], &host, JOINED, want);

@@ -198,6 +198,7 @@ const FILES: Shelf = Shelf {
         ("bad", "w0 colect\n"),
     ],
     is_terminal: false,
+    unwritten: None,
 };
 
 const TOLD: &str = "policy fault 1: not toml

@@ -12,10 +12,12 @@ fn job_told<'a>(job: &Job<'a>) -> Told<'a> {
     match job {
         Job::Joined => ("joined", "", "", 0),
         Job::ExplainJoined => ("explain joined", "", "", 0),
+        Job::ExplainJoinedJson => ("json joined", "", "", 0),
         Job::Check(policy) => ("check", policy, "", 0),
         Job::CheckTrace(policy, trace) => ("check trace", policy, trace, 0),
         Job::Replay(policy, trace) => ("replay", policy, trace, 0),
         Job::Explain(policy, trace) => ("explain", policy, trace, 0),
+        Job::ExplainJson(policy, trace) => ("json", policy, trace, 0),
         Job::Race(policy, rounds) => ("race", policy, "", *rounds),
         Job::Test(policy, traces) => {
             let first = traces.first().map_or("", |trace| *trace);
@@ -84,7 +86,7 @@ fn tells(rt: &impl Abort, alloc: Global, words: &[&str], parts: &[&str]) {
 }
 
 /// Command lines that are refused by a line.
-static NO_JOBS: [&str; 38] = [
+static NO_JOBS: [&str; 42] = [
     "check",
     "check p q r",
     "check -p",
@@ -103,6 +105,10 @@ static NO_JOBS: [&str; 38] = [
     "--explain --explain",
     "--explain=true",
     "--explain check p",
+    "--json show p",
+    "--json --json",
+    "--explain --json replay p t",
+    "test p t --json",
     "--explain replay p t",
     "--explain p t",
     "replay --explain p",
@@ -142,9 +148,14 @@ static HELPS: [&str; 12] = [
 ];
 
 /// Command lines that come to a job.
-static JOBS: [(&[&str], Told<'static>); 25] = [
+static JOBS: [(&[&str], Told<'static>); 30] = [
     (&[], ("joined", "", "", 0)),
     (&["--explain"], ("explain joined", "", "", 0)),
+    (&["--json"], ("json joined", "", "", 0)),
+    (&["--json", "--explain"], ("json joined", "", "", 0)),
+    (&["replay", "--json", "p", "t"], ("json", "p", "t", 0)),
+    (&["replay", "p", "t", "--json", "--explain"], ("json", "p", "t", 0)),
+    (&["replay", "p", "--", "--json"], ("replay", "p", "--json", 0)),
     (&["replay", "--explain", "p", "t"], ("explain", "p", "t", 0)),
     (&["replay", "p", "--explain", "t"], ("explain", "p", "t", 0)),
     (&["replay", "p", "t", "--explain"], ("explain", "p", "t", 0)),
@@ -228,10 +239,11 @@ fn no_tip_where_nothing_follows(rt: HostRuntime) {
 }
 
 /// Parts of the program's help.
-static HELP: [&str; 19] = [
+static HELP: [&str; 20] = [
     "out\nReplays traces",
     "\nUsage: heapguard [OPTIONS] [COMMAND]\n",
     "\n      --explain  ",
+    "\n      --json     ",
     "\n  check   ",
     "\n  replay  ",
     "\n  race    ",
@@ -245,7 +257,7 @@ static HELP: [&str; 19] = [
     "\n  0  done\n",
     "\n  1  the policy ",
     "\n  2  the trace ",
-    "\n  3  reading or writing ",
+    "\n  3  reading (16777216 bytes at most) or writing ",
     "\n  4  the command line ",
     "\n  5  an answer ",
 ];
@@ -274,10 +286,11 @@ static HELP_OF_CHECK: [&str; 11] = [
     "\n  4  ",
 ];
 
-static HELP_OF_REPLAY: [&str; 11] = [
+static HELP_OF_REPLAY: [&str; 12] = [
     "out\nRuns a trace",
     "\nUsage: heapguard replay [OPTIONS] <POLICY> <TRACE>\n",
     "\n      --explain  ",
+    "\n      --json     ",
     "\n  <POLICY>  ",
     "\n  <TRACE>   ",
     "\nExit status:\n",
@@ -390,7 +403,7 @@ static NO_OPERAND: [&str; 4] = [
 
 static BEFORE: [&str; 4] = [
     "err\n",
-    "'--explain' can't stand before a command",
+    "'--explain' and '--json' can't stand before a command",
     "\nUsage: heapguard [OPTIONS] [COMMAND]\n",
     "'--help'",
 ];

@@ -2,7 +2,7 @@
 
 ghost use Rattle.std.specs.Prelude.{None, true};
 
-use hg_program::{Host, Why, program};
+use hg_program::{Host, Unwritten, Why, program};
 use hg_replay::{ReadFault, Status, read_limited};
 use std::alloc::Global;
 use std::io::Write;
@@ -10,11 +10,12 @@ use std::process::Abort;
 use std::sync::Wait;
 use std::thread::Threads;
 
-/// Files by their names, and an input that is a terminal or not.
+/// Files by their names, an input that is a terminal or not, and why a write fails, if it does.
 #[derive(Drop)]
 pub struct Shelf {
     pub files: &'static [(&'static str, &'static str)],
     pub is_terminal: bool,
+    pub unwritten: Option<Unwritten>,
 }
 
 impl Host for Shelf {
@@ -36,6 +37,10 @@ impl Host for Shelf {
             "-" => Why::Other,
             _ => Why::Missing,
         }
+    }
+
+    fn why_unwritten(&self) -> Option<Unwritten> {
+        self.unwritten
     }
 
     fn is_at_terminal(&self) -> bool {

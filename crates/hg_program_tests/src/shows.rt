@@ -186,6 +186,7 @@ const FILES: Shelf = Shelf {
         ("torn", "version = "),
     ],
     is_terminal: false,
+    unwritten: None,
 };
 
 static ENDINGS: [Row; 7] = [

@@ -16,6 +16,8 @@ use Rattle.hg_replay.specs.declared.replaying.told.Told.TheVariants as told
 use Rattle.hg_reasons.specs.declared.counts.Outcome.{Outcome}
 use Rattle.hg_reasons.specs.declared.counts.Kind.{Kind}
 use Rattle.hg_reasons.specs.declared.counts.Kind.TheVariants as kind
+use Rattle.hg_reasons.specs.declared.form.Form.{Form}
+use Rattle.hg_reasons.specs.declared.form.Form.TheVariants as form
 
 abbrev pub rule_kind : Rule → Kind
 rule_kind rule.Stranger = kind.Stranger
@@ -105,32 +107,52 @@ is_denied_to tenant one = is_denial one.kind && one.actor == tenant
 abbrev pub is_denied_to_none : Policy → Outcome → Bool
 is_denied_to_none policy one = is_denial one.kind && nat_le (length policy.tenants) one.actor
 
--- a word with its count, where there are some
-unfoldable pub count_row : List ℕ → ℕ → List ℕ
-count_row word count =
+-- a word with its count: as text where there are some, as a member in any case
+unfoldable pub count_row : Form → List ℕ → ℕ → List ℕ
+count_row form.Text word count =
     if count == 0 then [] else codes "  " ++ word ++ codes " " ++ decimal count ++ codes "\n"
+count_row form.Json word count = codes ",\"" ++ word ++ codes "\":" ++ decimal count
 
-abbrev pub kind_row : List Outcome → Kind → List ℕ
-kind_row lines what = count_row (word_of what) (count_by (is_of what) lines)
+abbrev pub kind_row : Form → List Outcome → Kind → List ℕ
+kind_row form lines what = count_row form (word_of what) (count_by (is_of what) lines)
 
 abbrev pub tenants_in : Policy → List ℕ
 tenants_in policy = range_with_len 0 (length policy.tenants)
 
-abbrev pub tenant_row : Policy → List Outcome → ℕ → List ℕ
-tenant_row policy lines tenant =
-    count_row (unwrap_or (tenant_name policy tenant) []) (count_by (is_denied_to tenant) lines)
+abbrev pub tenant_row : Form → Policy → List Outcome → ℕ → List ℕ
+tenant_row form policy lines tenant =
+    count_row form (unwrap_or (tenant_name policy tenant) []) (count_by (is_denied_to tenant) lines)
+
+-- what stands before each number of all, behind it, and behind the last count
+abbrev pub before_answers : Form → List ℕ
+before_answers form.Text = codes "\nanswers "
+before_answers form.Json = codes "{\"answers\":{\"(all)\":"
+
+abbrev pub before_denials : Form → List ℕ
+before_denials form.Text = codes "denials "
+before_denials form.Json = codes "},\"denials\":{\"(all)\":"
+
+abbrev pub behind_number : Form → List ℕ
+behind_number form.Text = codes "\n"
+behind_number form.Json = []
+
+abbrev pub behind_counts : Form → List ℕ
+behind_counts form.Text = []
+behind_counts form.Json = codes "}}\n"
 
 -- how many lines there are, and how many came to each kind
-unfoldable pub answers_text : List Outcome → List ℕ
-answers_text lines =
-    codes "\nanswers " ++ decimal (length lines) ++ codes "\n" ++ flat_map (kind_row lines) kinds
+unfoldable pub answers_text : Form → List Outcome → List ℕ
+answers_text form lines =
+    before_answers form ++ decimal (length lines) ++ behind_number form
+    ++ flat_map (kind_row form lines) kinds
 
 -- how much was denied, and how much of it to each tenant, and to others
-unfoldable pub denials_text : Policy → List Outcome → List ℕ
-denials_text policy lines =
-    codes "denials " ++ decimal (count_by is_denied lines) ++ codes "\n"
-    ++ flat_map (tenant_row policy lines) (tenants_in policy)
-    ++ count_row (codes "(no tenant)") (count_by (is_denied_to_none policy) lines)
+unfoldable pub denials_text : Form → Policy → List Outcome → List ℕ
+denials_text form policy lines =
+    before_denials form ++ decimal (count_by is_denied lines) ++ behind_number form
+    ++ flat_map (tenant_row form policy lines) (tenants_in policy)
+    ++ count_row form (codes "(no tenant)") (count_by (is_denied_to_none policy) lines)
 
-abbrev pub counts_text : Policy → List Outcome → List ℕ
-counts_text policy lines = answers_text lines ++ denials_text policy lines
+abbrev pub counts_text : Form → Policy → List Outcome → List ℕ
+counts_text form policy lines =
+    answers_text form lines ++ denials_text form policy lines ++ behind_counts form

@@ -1,7 +1,7 @@
 -- The lines of a trace, each with its answer and the reason for that.
 use Rattle.std.specs.Prelude.{◌≡◌, ⊤, ℕ, ◌-◌, List, [], ◌∷◌, ◌++◌}
 use Rattle.std.specs.Prelude.{Option, Some, None, Result, Ok, Err}
-use Rattle.std.specs.Prelude.{codes, decimal, length, map, option_map, slice_get, take, unwrap_or}
+use Rattle.std.specs.Prelude.{option_map, slice_get, unwrap_or}
 use Rattle.std.specs.List.{slice_split}
 use Rattle.hg_machine.specs.Policy.{Policy}
 use Rattle.hg_machine.specs.State.{State}
@@ -17,10 +17,11 @@ use Rattle.hg_replay.specs.Replays.{Progress, Answered, starting}
 use Rattle.hg_replay.specs.Tellings.{IsTold}
 use Rattle.hg_replay.specs.Statuses.{Means}
 use Rattle.hg_reasons.specs.Counts.{counts_text}
+use Rattle.hg_reasons.specs.Forms.{line_told}
 use Rattle.hg_reasons.specs.Past.{Past, no_past, past_after}
 use Rattle.hg_reasons.specs.Reasons.{reason_of}
-use Rattle.hg_reasons.specs.Shown.{shown}
 use Rattle.hg_reasons.specs.Wording.{reason_text, said_by}
+use Rattle.hg_reasons.specs.declared.form.Form.{Form}
 
 -- the lines of a trace's bytes, without their ends, and the one with this number, from 1
 abbrev pub texts_of : List ℕ → List (List ℕ)
@@ -29,23 +30,14 @@ texts_of bytes = slice_split ends_line bytes
 abbrev pub text_of : List (List ℕ) → ℕ → List ℕ
 text_of texts number = unwrap_or (slice_get texts (number - 1)) []
 
--- a line with its number
-unfoldable pub line_text : ℕ → List ℕ → List ℕ
-line_text number text = decimal number ++ codes ": " ++ map shown text ++ codes "\n"
-
--- an answer with its reason, if it has one
-unfoldable pub reply_text : List ℕ → Option (List ℕ) → List ℕ
-reply_text reply None = reply
-reply_text reply (Some reason) =
-    take (length reply - 1) reply ++ codes ": " ++ reason ++ codes "\n"
-
--- what was told of the lines so far, and what they have done
+-- what was told of the lines so far, in which form, and what they have done
 pub record Story : Type 0 where
+  pub form : Form
   pub past : Past
   pub text : List ℕ
 
-abbrev pub beginning : Policy → Story
-beginning policy = record { past = no_past policy; text = [] }
+abbrev pub beginning : Form → Policy → Story
+beginning form policy = record { form = form; past = no_past policy; text = [] }
 
 -- the reason for what a line came to, in words, if it has one
 abbrev pub words_of : List (List ℕ) → State → Past → Line → Told → Option (List ℕ)
@@ -57,10 +49,11 @@ words_of names s past line told =
 abbrev pub story_after
     : List (List ℕ) → Story → State → Line → Told → List ℕ → List ℕ → Story
 story_after names from s line told text reply = record {
+  form = from.form;
   past = past_after from.past line.number line.command told;
   text =
-      from.text ++ line_text line.number text
-      ++ reply_text reply (words_of names s from.past line told);
+      from.text
+      ++ line_told from.form line.number text told reply (words_of names s from.past line told);
 }
 
 -- a line is answered as in a replay, which leaves this, and told with its answer and the reason
@@ -83,35 +76,38 @@ Explains names texts from story (line ∷ lines) end last =
 
 -- the same, from what a core opens with under the policy, where the lines are kept so: the names in
 -- the trace are those that their numbers stand for
-pub record ExplainsAll (trace_bytes : List ℕ) (policy : Policy) (lines : List Line)
-    (last : Story) : Type 0 where
+pub record ExplainsAll (form : Form) (trace_bytes : List ℕ) (policy : Policy)
+    (lines : List Line) (last : Story) : Type 0 where
   pub store : Store
   pub kept : lines ≡ lines_in store
   pub numbered : AreNumbered store
   pub end : Progress
   pub explained :
-      Explains store.names (texts_of trace_bytes) (starting (opened policy)) (beginning policy)
-      lines end last
+      Explains store.names (texts_of trace_bytes) (starting (opened policy))
+      (beginning form policy) lines end last
 
 -- a text is what was told of the lines, and how many came to what behind it
 abbrev pub told_text : Policy → Story → List ℕ
-told_text policy last = last.text ++ counts_text policy last.past.lines
+told_text policy last = last.text ++ counts_text last.form policy last.past.lines
 
-abbrev pub IsToldOf : List ℕ → Policy → List Line → List ℕ → Type 0
-IsToldOf trace_bytes policy lines text =
-    (last : Story) × ExplainsAll trace_bytes policy lines last × (text ≡ told_text policy last)
+abbrev pub IsToldOf : Form → List ℕ → Policy → List Line → List ℕ → Type 0
+IsToldOf form trace_bytes policy lines text =
+    (last : Story) × ExplainsAll form trace_bytes policy lines last
+    × (text ≡ told_text policy last)
 
 -- the same, where no line's worker is unknown; or the first such line, or want of memory
-abbrev pub ExplainedAs : List ℕ → Policy → List Line → Result Story ReplayFault → Type 0
-ExplainedAs trace_bytes policy lines (Ok story) =
-    (unknown_worker policy.workers lines ≡ None) × IsToldOf trace_bytes policy lines story.text
-ExplainedAs trace_bytes policy lines (Err (fault.Worker line)) =
+abbrev pub ExplainedAs
+    : Form → List ℕ → Policy → List Line → Result Story ReplayFault → Type 0
+ExplainedAs form trace_bytes policy lines (Ok story) =
+    (unknown_worker policy.workers lines ≡ None)
+    × IsToldOf form trace_bytes policy lines story.text
+ExplainedAs form trace_bytes policy lines (Err (fault.Worker line)) =
     unknown_worker policy.workers lines ≡ Some line
-ExplainedAs trace_bytes policy lines (Err fault.Memory) = ⊤
-ExplainedAs trace_bytes policy lines (Err fault.Write) = ⊥
+ExplainedAs form trace_bytes policy lines (Err fault.Memory) = ⊤
+ExplainedAs form trace_bytes policy lines (Err fault.Write) = ⊥
 
 -- the bytes mean a policy and a trace for it, and this is told of its lines
-abbrev pub IsExplained : List ℕ → List ℕ → List ℕ → Type 0
-IsExplained policy_bytes trace_bytes text =
+abbrev pub IsExplained : Form → List ℕ → List ℕ → List ℕ → Type 0
+IsExplained form policy_bytes trace_bytes text =
     (policy : Policy) × (lines : List Line) × Means policy_bytes trace_bytes policy lines
-    × IsToldOf trace_bytes policy lines text
+    × IsToldOf form trace_bytes policy lines text

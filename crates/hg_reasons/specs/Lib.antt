@@ -1,5 +1,8 @@
 pub mod Shown
+pub mod AsText
 pub mod Counts
+pub mod AsJson
+pub mod Forms
 pub mod Past
 pub mod Reasons
 pub mod Wording

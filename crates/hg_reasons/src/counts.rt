@@ -2,12 +2,14 @@
 
 ghost use Rattle.std.specs.Prelude.{◌≡◌, ◌++◌, OnOk, count_by, length};
 ghost use Rattle.std.specs.List.{flat_map};
-ghost use Rattle.hg_reasons.specs.Counts.{actor_of, answer_kind, answers_text, count_row, counted};
-ghost use Rattle.hg_reasons.specs.Counts.{counts_text, denials_text};
+ghost use Rattle.hg_reasons.specs.Counts.{actor_of, answer_kind, answers_text, before_answers};
+ghost use Rattle.hg_reasons.specs.Counts.{before_denials, behind_counts, behind_number, count_row};
+ghost use Rattle.hg_reasons.specs.Counts.{counted, counts_text, denials_text};
 ghost use Rattle.hg_reasons.specs.Counts.{is_denial, is_denied, is_denied_to, is_denied_to_none};
 ghost use Rattle.hg_reasons.specs.Counts.{is_of, kind_row, rule_kind, tenant_row};
 ghost use Rattle.hg_reasons.specs.Counts.{tenants_in, word_of};
 
+use crate::form::Form;
 use crate::wording::{push, push_count};
 use hg_machine::{Answer, Event, Rule};
 use hg_policy::Policy;
@@ -170,7 +172,8 @@ fn is_denied_to_none(policy: &Policy, one: &Outcome) -> bool
     is_denial(one.kind) && one.actor >= policy.tenants()
 }
 
-fn word_of(kind: Kind) -> &'static str
+/// The word of a kind.
+pub(crate) fn word_of(kind: Kind) -> &'static str
     ensures { result.now ≡ word_of kind }
 {
     match kind {
@@ -194,35 +197,47 @@ fn word_of(kind: Kind) -> &'static str
     }
 }
 
-/// Appends a word and how many there are of it, unless there is none.
+/// Appends a word and how many there are of it: as text unless there is none.
 #[tactic(auto, unfolding(crate::specs::Counts::count_row))]
-fn push_row(out: &mut Vec<u8>, word: &str, count: usize) -> Result<(), AllocError>
-    ensures { OnOk result (out.new.items ≡ out.old.items ++ count_row word.now count) }
+fn push_row(out: &mut Vec<u8>, form: Form, word: &str, count: usize) -> Result<(), AllocError>
+    ensures { OnOk result (out.new.items ≡ out.old.items ++ count_row form word.now count) }
 {
-    if count == 0 {
-        return Ok(());
+    match form {
+        Form::Text if count == 0 => Ok(()),
+        Form::Text => {
+            push(out, "  ")?;
+            push(out, word)?;
+            push_count(out, " ", count as u64)?;
+            push(out, "\n")
+        }
+        Form::Json => {
+            push(out, ",\"")?;
+            push(out, word)?;
+            push_count(out, "\":", count as u64)
+        }
     }
-    push(out, "  ")?;
-    push(out, word)?;
-    push_count(out, " ", count as u64)?;
-    push(out, "\n")
 }
 
 /// Appends how many lines came to a kind.
-fn push_kind(out: &mut Vec<u8>, lines: &[Outcome], kind: Kind) -> Result<(), AllocError>
-    ensures { OnOk result (out.new.items ≡ out.old.items ++ kind_row lines.now kind) }
+fn push_kind(out: &mut Vec<u8>, form: Form, lines: &[Outcome], kind: Kind) -> Result<(), AllocError>
+    ensures { OnOk result (out.new.items ≡ out.old.items ++ kind_row form lines.now kind) }
 {
     let count = lines.iter().filter(|one| is_of(kind, one)).count();
-    push_row(out, word_of(kind), count)
+    push_row(out, form, word_of(kind), count)
 }
 
 /// Appends how many lines came to each of these kinds.
-fn push_kinds(out: &mut Vec<u8>, lines: &[Outcome], kinds: &[Kind]) -> Result<(), AllocError>
+fn push_kinds(
+    out: &mut Vec<u8>,
+    form: Form,
+    lines: &[Outcome],
+    kinds: &[Kind],
+) -> Result<(), AllocError>
     ensures { OnOk result (out.new.items
-        ≡ out.old.items ++ flat_map (kind_row lines.now) kinds.now) }
+        ≡ out.old.items ++ flat_map (kind_row form lines.now) kinds.now) }
 {
     for kind in kinds {
-        push_kind(out, lines, *kind)?;
+        push_kind(out, form, lines, *kind)?;
     }
     Ok(())
 }
@@ -230,35 +245,78 @@ fn push_kinds(out: &mut Vec<u8>, lines: &[Outcome], kinds: &[Kind]) -> Result<()
 /// Appends how much was denied to a tenant.
 fn push_tenant(
     out: &mut Vec<u8>,
+    form: Form,
     policy: &Policy,
     lines: &[Outcome],
     tenant: u8,
 ) -> Result<(), AllocError>
-    ensures { OnOk result (out.new.items ≡ out.old.items ++ tenant_row policy.now lines.now tenant) }
+    ensures { OnOk result (out.new.items
+        ≡ out.old.items ++ tenant_row form policy.now lines.now tenant) }
 {
     let count = lines.iter().filter(|one| is_denied_to(tenant, one)).count();
-    push_row(out, policy.tenant_name(tenant).unwrap_or(""), count)
+    push_row(out, form, policy.tenant_name(tenant).unwrap_or(""), count)
 }
 
 /// Appends how much was denied to each tenant.
-fn push_tenants(out: &mut Vec<u8>, policy: &Policy, lines: &[Outcome]) -> Result<(), AllocError>
+fn push_tenants(
+    out: &mut Vec<u8>,
+    form: Form,
+    policy: &Policy,
+    lines: &[Outcome],
+) -> Result<(), AllocError>
     ensures { OnOk result (out.new.items ≡ out.old.items
-        ++ flat_map (tenant_row policy.now lines.now) (tenants_in policy.now)) }
+        ++ flat_map (tenant_row form policy.now lines.now) (tenants_in policy.now)) }
 {
     for tenant in 0..policy.tenants() {
-        push_tenant(out, policy, lines, tenant)?;
+        push_tenant(out, form, policy, lines, tenant)?;
     }
     Ok(())
 }
 
+fn before_answers(form: Form) -> &'static str
+    ensures { result.now ≡ before_answers form }
+{
+    match form {
+        Form::Text => "\nanswers ",
+        Form::Json => "{\"answers\":{\"(all)\":",
+    }
+}
+
+fn before_denials(form: Form) -> &'static str
+    ensures { result.now ≡ before_denials form }
+{
+    match form {
+        Form::Text => "denials ",
+        Form::Json => "},\"denials\":{\"(all)\":",
+    }
+}
+
+fn behind_number(form: Form) -> &'static str
+    ensures { result.now ≡ behind_number form }
+{
+    match form {
+        Form::Text => "\n",
+        Form::Json => "",
+    }
+}
+
+fn behind_counts(form: Form) -> &'static str
+    ensures { result.now ≡ behind_counts form }
+{
+    match form {
+        Form::Text => "",
+        Form::Json => "}}\n",
+    }
+}
+
 /// Appends how many lines there are, and how many came to each kind.
 #[tactic(auto, unfolding(crate::specs::Counts::answers_text))]
-fn push_answers(out: &mut Vec<u8>, lines: &[Outcome]) -> Result<(), AllocError>
-    ensures { OnOk result (out.new.items ≡ out.old.items ++ answers_text lines.now) }
+fn push_answers(out: &mut Vec<u8>, form: Form, lines: &[Outcome]) -> Result<(), AllocError>
+    ensures { OnOk result (out.new.items ≡ out.old.items ++ answers_text form lines.now) }
 {
-    push_count(out, "\nanswers ", lines.len() as u64)?;
-    push(out, "\n")?;
-    push_kinds(out, lines, &KINDS)
+    push_count(out, before_answers(form), lines.len() as u64)?;
+    push(out, behind_number(form))?;
+    push_kinds(out, form, lines, &KINDS)
 }
 
 /// How many lines were denied.
@@ -280,24 +338,32 @@ fn denials_to_none(policy: &Policy, lines: &[Outcome]) -> usize
 
 /// Appends how many lines were denied, and how many of them to each tenant.
 #[tactic(auto, unfolding(crate::specs::Counts::denials_text))]
-fn push_denials(out: &mut Vec<u8>, policy: &Policy, lines: &[Outcome]) -> Result<(), AllocError>
-    ensures { OnOk result (out.new.items ≡ out.old.items ++ denials_text policy.now lines.now) }
+fn push_denials(
+    out: &mut Vec<u8>,
+    form: Form,
+    policy: &Policy,
+    lines: &[Outcome],
+) -> Result<(), AllocError>
+    ensures { OnOk result (out.new.items
+        ≡ out.old.items ++ denials_text form policy.now lines.now) }
 {
-    push_count(out, "denials ", denials(lines) as u64)?;
-    push(out, "\n")?;
-    push_tenants(out, policy, lines)?;
-    push_row(out, "(no tenant)", denials_to_none(policy, lines))
+    push_count(out, before_denials(form), denials(lines) as u64)?;
+    push(out, behind_number(form))?;
+    push_tenants(out, form, policy, lines)?;
+    push_row(out, form, "(no tenant)", denials_to_none(policy, lines))
 }
 
 /// Appends how many lines there are, how many came to each kind, and how much was denied to each
 /// tenant.
 pub(crate) fn push_counts(
     out: &mut Vec<u8>,
+    form: Form,
     policy: &Policy,
     lines: &[Outcome],
 ) -> Result<(), AllocError>
-    ensures { OnOk result (out.new.items ≡ out.old.items ++ counts_text policy.now lines.now) }
+    ensures { OnOk result (out.new.items ≡ out.old.items ++ counts_text form policy.now lines.now) }
 {
-    push_answers(out, lines)?;
-    push_denials(out, policy, lines)
+    push_answers(out, form, lines)?;
+    push_denials(out, form, policy, lines)?;
+    push(out, behind_counts(form))
 }

@@ -1,6 +1,6 @@
 //! The lines of a trace, each with its answer and the reason for that.
 
-ghost use Rattle.std.specs.Prelude.{◌≡◌, ◌+◌, ◌≤◌, ◌<◌, ◌++◌, ℕ, List, [], All, true, map, IfOk};
+ghost use Rattle.std.specs.Prelude.{◌≡◌, ◌+◌, ◌≤◌, ◌<◌, ℕ, List, [], All, true, map, IfOk};
 ghost use Rattle.std.specs.Prelude.{OnOk, option_map, vec_len, vec_capacity, if◌then◌else◌};
 ghost use Rattle.hg_labels.specs.Indexes.{texts};
 ghost use Rattle.hg_machine.specs.Policy.{Policy};
@@ -10,15 +10,15 @@ ghost use Rattle.hg_replay.specs.KnownNames.{meanings};
 ghost use Rattle.hg_replay.specs.Replays.{Answered, Progress, starting};
 ghost use Rattle.hg_replay.specs.StoredLabels.{binds};
 ghost use Rattle.hg_replay.specs.Tellings.{IsTold};
-ghost use Rattle.hg_reasons.specs.Explaining.{beginning, line_text, reply_text, story_after};
-ghost use Rattle.hg_reasons.specs.Explaining.{text_of, texts_of, told_text, words_of, Explains};
-ghost use Rattle.hg_reasons.specs.Shown.{shown};
+ghost use Rattle.hg_reasons.specs.Explaining.{beginning, story_after, text_of, texts_of};
+ghost use Rattle.hg_reasons.specs.Explaining.{told_text, words_of, Explains};
 ghost use Rattle.hg_reasons.specs.Wording.{reason_text, said_by};
 
 use crate::counts::push_counts;
+use crate::form::{Form, push_told};
 use crate::past::Past;
 use crate::reason::{Reason, reason_of};
-use crate::wording::{Said, push, push_count};
+use crate::wording::Said;
 use hg_core::Core;
 use hg_policy::Policy;
 use hg_replay::{Ready, Told};
@@ -29,6 +29,7 @@ use std::marker::Model;
 /// What was told of the lines so far, and what they have done.
 #[derive(Drop)]
 pub(crate) struct Story {
+    form: Form,
     past: Past,
     text: Vec<u8>,
 }
@@ -38,7 +39,11 @@ impl Model for Story {
 
     ghost Value = { explaining.Story };
 
-    ghost view = { λ story. record { past = story.past; text = story.text.items } };
+    ghost view = { λ story. record {
+      form = story.form;
+      past = story.past;
+      text = story.text.items;
+    } };
 }
 
 /// The lines of a trace's bytes, without their ends.
@@ -56,69 +61,6 @@ fn text_of<'a>(texts: &[&'a [u8]], number: u32) -> &'a [u8]
         Some(text) => *text,
         None => &[],
     }
-}
-
-/// A byte as it is shown: no control byte but a tab is.
-fn shown(b: u8) -> u8
-    ensures { result ≡ shown b }
-{
-    if (b < b' ' && b != b'\t') || b == 127 {
-        return b'?';
-    }
-    b
-}
-
-/// Appends a text as it is shown.
-fn push_shown(out: &mut Vec<u8>, text: &[u8]) -> Result<(), AllocError>
-    ensures { OnOk result (out.new.items ≡ out.old.items ++ map shown text.now) }
-{
-    for b in text {
-        out.push(shown(*b))?;
-    }
-    Ok(())
-}
-
-/// Appends a line with its number.
-#[tactic(auto, unfolding(crate::specs::Explaining::line_text))]
-fn push_line(out: &mut Vec<u8>, number: u32, text: &[u8]) -> Result<(), AllocError>
-    ensures { OnOk result (out.new.items ≡ out.old.items ++ line_text number text.now) }
-{
-    push_count(out, "", u64::from(number))?;
-    push(out, ": ")?;
-    push_shown(out, text)?;
-    push(out, "\n")
-}
-
-/// Appends an answer with its reason, if it has one.
-#[tactic(auto, unfolding(crate::specs::Explaining::reply_text))]
-fn push_reply(out: &mut Vec<u8>, reply: &[u8], reason: Option<Vec<u8>>) -> Result<(), AllocError>
-    ensures { OnOk result (out.new.items ≡ out.old.items
-        ++ reply_text reply.now (option_map (λ words. words.items) reason)) }
-{
-    match reason {
-        None => out.extend_from_slice(reply),
-        Some(words) => {
-            out.extend_from_slice(&reply[..reply.len().saturating_sub(1)])?;
-            push(out, ": ")?;
-            out.extend_from_slice(&words)?;
-            push(out, "\n")
-        }
-    }
-}
-
-/// Appends a line with its number, and its answer with its reason, if it has one.
-fn push_told(
-    out: &mut Vec<u8>,
-    number: u32,
-    text: &[u8],
-    reply: &[u8],
-    reason: Option<Vec<u8>>,
-) -> Result<(), AllocError>
-    ensures { OnOk result (out.new.items ≡ out.old.items ++ line_text number text.now
-        ++ reply_text reply.now (option_map (λ words. words.items) reason)) }
-{
-    push_line(out, number, text)?;
-    push_reply(out, reply, reason)
 }
 
 /// A reason for what a line came to, in words.
@@ -159,11 +101,12 @@ fn words_of(
 
 impl Story {
     /// No line was told yet.
-    pub(crate) fn new(alloc: Global, policy: &Policy) -> Result<Story, AllocError>
-        ensures { IfOk result (λ story. story ≡ beginning policy.now) }
+    pub(crate) fn new(alloc: Global, form: Form, policy: &Policy) -> Result<Story, AllocError>
+        ensures { IfOk result (λ story. story ≡ beginning form policy.now) }
     {
         let past = Past::new(alloc, policy)?;
         Ok(Story {
+            form,
             past,
             text: Vec::new(alloc),
         })
@@ -180,7 +123,7 @@ impl Story {
     pub(crate) fn end(&mut self, policy: &Policy) -> Result<(), AllocError>
         ensures { OnOk result (self.new.text ≡ told_text policy.now self.old) }
     {
-        push_counts(&mut self.text, policy, self.past.lines())
+        push_counts(&mut self.text, self.form, policy, self.past.lines())
     }
 
     /// Tells a line of this text, which left this core and printed this reply.
@@ -199,7 +142,15 @@ impl Story {
             (line_in (texts names.now) labels line.now) told text.now reply.now) }
     {
         let words = words_of(alloc, core, &self.past, names, line, told)?;
-        push_told(&mut self.text, line.number, text, reply, words)?;
+        push_told(
+            &mut self.text,
+            self.form,
+            line.number,
+            text,
+            told,
+            reply,
+            words,
+        )?;
         self.past.note(line, told)
     }
 }

@@ -1,7 +1,7 @@
 //! Lines told with their answers and the reasons, in the policy's words.
 
 use crate::tests::fakes::Limited;
-use hg_reasons::run_explained;
+use hg_reasons::{Form, run_explained};
 use hg_replay::Status;
 use std::alloc::Global;
 use std::process::Abort;
@@ -164,10 +164,22 @@ denials 14
 
 /// The explanation of a trace ends so.
 fn ends(rt: &impl Abort, alloc: Global, policy: &str, trace: &str, want: (Status, &str, &str)) {
+    ends_in(rt, alloc, Form::Text, policy, trace, want);
+}
+
+/// The same in this form.
+fn ends_in(
+    rt: &impl Abort,
+    alloc: Global,
+    form: Form,
+    policy: &str,
+    trace: &str,
+    want: (Status, &str, &str),
+) {
     let mut out = Vec::new(alloc);
     let mut err = Vec::new(alloc);
     let (policy, trace) = (policy.as_bytes(), trace.as_bytes());
-    let status = run_explained(alloc, policy, trace, &mut out, &mut err);
+    let status = run_explained(alloc, form, policy, trace, &mut out, &mut err);
     assert!(rt; err.as_slice() == want.2.as_bytes());
     assert!(rt; out.as_slice() == want.1.as_bytes());
     assert!(rt; status == want.0);
@@ -176,6 +188,32 @@ fn ends(rt: &impl Abort, alloc: Global, policy: &str, trace: &str, want: (Status
 #[test]
 fn reasons_are_told(rt: HostRuntime) {
     ends(&rt, rt.alloc(), POLICY, TRACE, (Status::Done, STORY, ""));
+}
+
+/// A comment with a quote, blanks around a line and a tab within, and a listing.
+const QUIRKS: &str = "  w0 refill main # \"first\"
+w0\talloc alice main 24 as x \r
+w0 list alice
+";
+
+const QUIRKS_OBJECTS: &str = "\
+{\"line\":1,\"text\":\"w0 refill main\",\"kind\":\"served\",\"answer\":\"segment 0\",\
+\"reason\":null}
+{\"line\":2,\"text\":\"w0\\talloc alice main 24 as x\",\"kind\":\"served\",\
+\"answer\":\"ok @0.0.0.1\",\"reason\":null}
+{\"line\":3,\"text\":\"w0 list alice\",\"kind\":\"served\",\
+\"answer\":\"@0.0.0.1              alice               24\\nrows 1\",\"reason\":null}
+{\"answers\":{\"(all)\":3,\"served\":3,\"denied stranger\":0,\"denied stale\":0,\
+\"denied freed\":0,\"denied arena\":0,\"denied forbidden\":0,\"denied grant\":0,\
+\"denied limit\":0,\"large\":0,\"noroom\":0,\"elsewhere\":0,\"range\":0,\"busy\":0,\
+\"empty\":0,\"notheld\":0,\"nosegment\":0,\"unbound\":0},\"denials\":{\"(all)\":0,\
+\"alice\":0,\"bob\":0,\"carol\":0,\"(no tenant)\":0}}
+";
+
+#[test]
+fn objects_are_told(rt: HostRuntime) {
+    let want = (Status::Done, QUIRKS_OBJECTS, "");
+    ends_in(&rt, rt.alloc(), Form::Json, POLICY, QUIRKS, want);
 }
 
 #[test]
@@ -208,7 +246,7 @@ fn stopped_story_is_told(rt: HostRuntime) {
     let mut err = Vec::new(rt.alloc());
     let mut out = Limited::new(rt.alloc(), 40, 7, true);
     let (policy, trace) = (POLICY.as_bytes(), TRACE.as_bytes());
-    let status = run_explained(rt.alloc(), policy, trace, &mut out, &mut err);
+    let status = run_explained(rt.alloc(), Form::Text, policy, trace, &mut out, &mut err);
     assert!(&rt; status == Status::Failed);
     assert!(&rt; err.as_slice() == b"write fault\n".as_slice());
 }
@@ -250,7 +288,7 @@ fn story_refused_in_turn(rt: HostRuntime) {
     let mut out = Held::new();
     let mut err = Held::new();
     let (policy, trace) = (POLICY.as_bytes(), SHORT.as_bytes());
-    let status = run_explained(rt.alloc(), policy, trace, &mut out, &mut err);
+    let status = run_explained(rt.alloc(), Form::Text, policy, trace, &mut out, &mut err);
     if status == Status::Done {
         assert!(&rt; out.as_slice() == SHORT_STORY.as_bytes());
         assert!(&rt; err.len() == 0);

@@ -5,4 +5,4 @@ use Rattle.hg_reasons.proofs.counts.push_tenants.Given as goal
 
 -- the tenants so far are told
 abbrev pub invariant-loop-tenant : goal.invariant-loop-tenant
-invariant-loop-tenant l = l.out.items ≡ l.fn.out.items ++ flat_map (tenant_row l.policy l.lines) (range_with_len 0 l.tenant)
+invariant-loop-tenant l = l.out.items ≡ l.fn.out.items ++ flat_map (tenant_row l.form l.policy l.lines) (range_with_len 0 l.tenant)

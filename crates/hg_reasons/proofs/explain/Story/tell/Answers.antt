@@ -3,7 +3,8 @@ use Rattle.std.proofs.lemmas.Result.{on_ok_weaker}
 use Rattle.hg_labels.specs.Indexes.{texts}
 use Rattle.hg_trace.specs.Stored.{line_in}
 use Rattle.hg_reasons.specs.Past.{Past, past_after}
-use Rattle.hg_reasons.specs.Explaining.{Story, line_text, reply_text, story_after}
+use Rattle.hg_reasons.specs.Explaining.{Story, story_after}
+use Rattle.hg_reasons.specs.Forms.{line_told}
 use Rattle.hg_reasons.proofs.explain.Story.tell.Goals as goal
 
 -- what is noted, what is appended, and the words of that
@@ -19,10 +20,11 @@ returns c =
     let reply = c.args.reply.now in
     let past = c.self.inside.past in
     let front = c.self.inside.text.items in
-    let story : Past → List ℕ → Story = λ p t. record { past = p; text = t } in
+    let form = c.self.inside.form in
+    let story : Past → List ℕ → Story = λ p t. record { form = form; past = p; text = t } in
     let after = past_after past says.number says.command told in
     ap (λ p. story p c.push_told.new.out.items) (noted names labels)
     ∙ ap (λ t. story after t) c.in_ok-push_told.ensures
-    ∙ ap (λ w. story after (front ++ line_text says.number text ++ reply_text reply w)) (c.in_ok-words.ensures labels)
+    ∙ ap (λ w. story after (front ++ line_told form says.number text told reply w)) (c.in_ok-words.ensures labels)
     ∙ ap (λ here. story_after names here s says told text reply) c.self.view_is)
     c.note.ensures
