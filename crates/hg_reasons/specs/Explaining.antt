@@ -1,7 +1,7 @@
 -- The lines of a trace, each with its answer and the reason for that.
 use Rattle.std.specs.Prelude.{◌≡◌, ⊤, ℕ, ◌-◌, List, [], ◌∷◌, ◌++◌}
 use Rattle.std.specs.Prelude.{Option, Some, None, Result, Ok, Err}
-use Rattle.std.specs.Prelude.{option_map, slice_get, unwrap_or}
+use Rattle.std.specs.Prelude.{Bool, nat_lt, option_map, slice_get, unwrap_or}
 use Rattle.std.specs.List.{slice_split}
 use Rattle.hg_machine.specs.Policy.{Policy}
 use Rattle.hg_machine.specs.State.{State}
@@ -20,7 +20,8 @@ use Rattle.hg_reasons.specs.Counts.{counts_text}
 use Rattle.hg_reasons.specs.Forms.{line_told}
 use Rattle.hg_reasons.specs.Past.{Past, no_past, past_after}
 use Rattle.hg_reasons.specs.Reasons.{reason_of}
-use Rattle.hg_reasons.specs.Wording.{reason_text, said_by}
+use Rattle.hg_reasons.specs.Wording.{left_after, said_by, words_text}
+use Rattle.hg_reasons.specs.declared.reason.Reason.{Reason}
 use Rattle.hg_reasons.specs.declared.form.Form.{Form}
 
 -- the lines of a trace's bytes, without their ends, and the one with this number, from 1
@@ -30,31 +31,37 @@ texts_of bytes = slice_split ends_line bytes
 abbrev pub text_of : List (List ℕ) → ℕ → List ℕ
 text_of texts number = unwrap_or (slice_get texts (number - 1)) []
 
--- what was told of the lines so far, in which form, and what they have done
+-- what was told of the lines so far, in which form, how many names of the policy may still be told that
+-- are like one that it lacks, and what the lines have done
 pub record Story : Type 0 where
   pub form : Form
+  pub left : ℕ
   pub past : Past
   pub text : List ℕ
 
 abbrev pub beginning : Form → Policy → Story
-beginning form policy = record { form = form; past = no_past policy; text = [] }
+beginning form policy = record { form = form; left = 64; past = no_past policy; text = [] }
 
--- the reason for what a line came to, in words, if it has one
-abbrev pub words_of : List (List ℕ) → State → Past → Line → Told → Option (List ℕ)
-words_of names s past line told =
-    option_map (reason_text (said_by s.policy names line.worker line.command))
-    (reason_of s past line.worker line.command told)
+-- the reason for what a line came to, in words, if it has one, with a name that is like one that the
+-- policy lacks where that is told
+abbrev pub words_of : Policy → List (List ℕ) → Line → Bool → Option Reason → Option (List ℕ)
+words_of policy names line tells why =
+    option_map (words_text (said_by policy names line.worker line.command) tells) why
 
 -- what is told with a line of this text, which leaves this state and printed this reply
 abbrev pub story_after
     : List (List ℕ) → Story → State → Line → Told → List ℕ → List ℕ → Story
-story_after names from s line told text reply = record {
-  form = from.form;
-  past = past_after from.past line.number line.command told;
-  text =
-      from.text
-      ++ line_told from.form line.number text told reply (words_of names s from.past line told);
-}
+story_after names from s line told text reply =
+    let why = reason_of s from.past line.worker line.command told in
+    record {
+      form = from.form;
+      left = left_after from.left why;
+      past = past_after from.past line.number line.command told;
+      text =
+          from.text
+          ++ line_told from.form line.number text told reply
+          (words_of s.policy names line (nat_lt 0 from.left) why);
+    }
 
 -- a line is answered as in a replay, which leaves this, and told with its answer and the reason
 pub record Explained (names : List (List ℕ)) (text : List ℕ) (from : Progress) (story : Story)

@@ -14,6 +14,8 @@ use Rattle.hg_policy.specs.Names.{tenant_name, arena_number}
 use Rattle.hg_trace.specs.declared.line.Command.{Command}
 use Rattle.hg_trace.specs.declared.line.Command.TheVariants as command
 use Rattle.hg_replay.specs.Text.{rule_text}
+use Rattle.hg_strangers.specs.Texts.{near_text, near_to}
+use Rattle.hg_strangers.specs.declared.mention.Kind.TheVariants as named
 use Rattle.hg_reasons.specs.declared.past.Bound.{Bound}
 use Rattle.hg_reasons.specs.declared.reason.Between.{Between}
 use Rattle.hg_reasons.specs.declared.reason.Charged.{Charged}
@@ -191,6 +193,12 @@ unfoldable pub unserved_text : Bound → List ℕ
 unserved_text bound =
     codes "line " ++ decimal bound.line ++ was_text bound.answer ++ by_text bound.answer
 
+-- a name of the policy that is like the one that it lacks, where that is the reason
+abbrev pub like_text : Said → Reason → List ℕ
+like_text said reason.NoTenant = near_text (near_to said.policy named.Tenant said.actor)
+like_text said reason.NoArena = near_text (near_to said.policy named.Arena said.arena)
+like_text said _ = []
+
 -- the words of a reason
 abbrev pub reason_text : Said → Reason → List ℕ
 reason_text said reason.NoTenant = codes "the policy has no tenant " ++ said.actor
@@ -211,3 +219,13 @@ reason_text said reason.InHand =
 reason_text said reason.EmptyHand = hand_text said.worker (codes "nothing in hand")
 reason_text said (reason.NoneLeft arena) = left_text said arena
 reason_text said (reason.Unserved bound) = unserved_text bound
+
+-- the same, with such a name where it is told
+abbrev pub words_text : Said → Bool → Reason → List ℕ
+words_text said tells why = reason_text said why ++ (if tells then like_text said why else [])
+
+-- how many such names may still be told after a line with this reason, if it has one
+abbrev pub left_after : ℕ → Option Reason → ℕ
+left_after left (Some reason.NoTenant) = left - 1
+left_after left (Some reason.NoArena) = left - 1
+left_after left _ = left

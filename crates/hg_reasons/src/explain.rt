@@ -12,7 +12,7 @@ ghost use Rattle.hg_replay.specs.StoredLabels.{binds};
 ghost use Rattle.hg_replay.specs.Tellings.{IsTold};
 ghost use Rattle.hg_reasons.specs.Explaining.{beginning, story_after, text_of, texts_of};
 ghost use Rattle.hg_reasons.specs.Explaining.{told_text, words_of, Explains};
-ghost use Rattle.hg_reasons.specs.Wording.{reason_text, said_by};
+ghost use Rattle.hg_reasons.specs.Wording.{left_after, said_by, words_text};
 
 use crate::counts::push_counts;
 use crate::form::{Form, push_told};
@@ -26,10 +26,16 @@ use hg_trace::{StoredLine, Trace};
 use std::alloc::{AllocError, Global};
 use std::marker::Model;
 
+/// How many names of the policy are told that are like one that it lacks.
+const LIKE: u32 = 64;
+
 /// What was told of the lines so far, and what they have done.
 #[derive(Drop)]
 pub(crate) struct Story {
     form: Form,
+    /// How many names of the policy that are like one that it lacks may still be told: each takes as
+    /// long as the policy has names.
+    left: u32,
     past: Past,
     text: Vec<u8>,
 }
@@ -41,6 +47,7 @@ impl Model for Story {
 
     ghost view = { λ story. record {
       form = story.form;
+      left = story.left;
       past = story.past;
       text = story.text.items;
     } };
@@ -63,39 +70,54 @@ fn text_of<'a>(texts: &[&'a [u8]], number: u32) -> &'a [u8]
     }
 }
 
-/// A reason for what a line came to, in words.
+/// A reason for what a line came to, in words, with a name that is like one that the policy lacks where
+/// that is told.
 fn in_words(
     alloc: Global,
     policy: &Policy,
     names: &[&str],
     line: &StoredLine,
+    tells: bool,
     reason: Reason,
 ) -> Result<Vec<u8>, AllocError>
     ensures { IfOk result (λ words. (labels : List (List ℕ)) → words.items
-        ≡ reason_text (said_by policy.now (texts names.now) line.now.worker
-        (command_in (texts names.now) labels line.now.command)) reason) }
+        ≡ words_text (said_by policy.now (texts names.now) line.now.worker
+        (command_in (texts names.now) labels line.now.command)) tells reason) }
 {
     let mut words = Vec::new(alloc);
-    Said::by(policy, names, line).push_reason(&mut words, reason)?;
+    Said::by(policy, names, line).push_words(&mut words, alloc, tells, reason)?;
     Ok(words)
 }
 
-/// The reason for what a line came to, in words, if it has one.
+/// The same of a line that has a reason or none.
 fn words_of(
     alloc: Global,
-    core: &Core,
-    past: &Past,
+    policy: &Policy,
     names: &[&str],
     line: &StoredLine,
-    told: Told,
+    tells: bool,
+    reason: Option<Reason>,
 ) -> Result<Option<Vec<u8>>, AllocError>
     ensures { IfOk result (λ words. (labels : List (List ℕ))
-        → option_map (λ w. w.items) words ≡ words_of (texts names.now) core.now.state past.now
-        (line_in (texts names.now) labels line.now) told) }
+        → option_map (λ w. w.items) words ≡ words_of policy.now (texts names.now)
+        (line_in (texts names.now) labels line.now) tells reason) }
 {
-    match reason_of(core, past, line, told) {
+    match reason {
         None => Ok(None),
-        Some(reason) => Ok(Some(in_words(alloc, core.policy(), names, line, reason)?)),
+        Some(reason) => {
+            let words = in_words(alloc, policy, names, line, tells, reason)?;
+            Ok(Some(words))
+        }
+    }
+}
+
+/// How many names that are like another may still be told after a line with this reason.
+fn left_after(left: u32, reason: Option<Reason>) -> u32
+    ensures { result ≡ left_after left reason }
+{
+    match reason {
+        Some(Reason::NoTenant | Reason::NoArena) => left.saturating_sub(1),
+        _ => left,
     }
 }
 
@@ -107,6 +129,7 @@ impl Story {
         let past = Past::new(alloc, policy)?;
         Ok(Story {
             form,
+            left: LIKE,
             past,
             text: Vec::new(alloc),
         })
@@ -141,7 +164,9 @@ impl Story {
             (texts names.now) self.old core.now.state
             (line_in (texts names.now) labels line.now) told text.now reply.now) }
     {
-        let words = words_of(alloc, core, &self.past, names, line, told)?;
+        let reason = reason_of(core, &self.past, line, told);
+        let tells = self.left > 0;
+        let words = words_of(alloc, core.policy(), names, line, tells, reason)?;
         push_told(
             &mut self.text,
             self.form,
@@ -151,6 +176,7 @@ impl Story {
             reply,
             words,
         )?;
+        self.left = left_after(self.left, reason);
         self.past.note(line, told)
     }
 }

@@ -4,8 +4,8 @@ ghost use Rattle.std.specs.Prelude.{◌≡◌, ◌++◌, ℕ, List, OnOk, decima
 ghost use Rattle.hg_labels.specs.Indexes.{texts};
 ghost use Rattle.hg_trace.specs.Stored.{command_in};
 ghost use Rattle.hg_reasons.specs.Wording.{admits_text, arena_text, charge_text, denies_text};
-ghost use Rattle.hg_reasons.specs.Wording.{hand_text, left_text, lets_text, limit_text};
-ghost use Rattle.hg_reasons.specs.Wording.{reason_text, room_text, said_by, tenant_text};
+ghost use Rattle.hg_reasons.specs.Wording.{hand_text, left_text, lets_text, like_text, limit_text};
+ghost use Rattle.hg_reasons.specs.Wording.{reason_text, room_text, said_by, tenant_text, words_text};
 
 mod lists;
 mod naming;
@@ -13,6 +13,7 @@ mod plain;
 
 use crate::reason::{Between, Charged, Held, Reason};
 use hg_policy::Policy;
+use hg_strangers::{Kind, near_to, push_near};
 use hg_trace::StoredLine;
 use lists::{push_admitted, push_rights, right_text};
 use naming::{actor_said, arena_said, arena_text, tenant_text};
@@ -20,7 +21,7 @@ use plain::{
     push_asks, push_freed, push_generation, push_holds, push_large, push_no_segment, push_pair,
     push_unserved,
 };
-use std::alloc::AllocError;
+use std::alloc::{AllocError, Global};
 use std::marker::Model;
 
 /// What the words of a reason are about: the policy, the names in the trace, the worker of a line,
@@ -180,8 +181,43 @@ impl<'a> Said<'a> {
         push(out, what)
     }
 
+    /// Appends a name of the policy that is like the one that it lacks, where that is the reason.
+    fn push_like(&self, out: &mut Vec<u8>, alloc: Global, reason: Reason) -> Result<(), AllocError>
+        ensures { OnOk result (out.new.items ≡ out.old.items ++ like_text self.now reason) }
+    {
+        match reason {
+            Reason::NoTenant => {
+                let near = near_to(alloc, self.policy, Kind::Tenant, self.actor)?;
+                push_near(out, near)
+            }
+            Reason::NoArena => {
+                let near = near_to(alloc, self.policy, Kind::Arena, self.arena)?;
+                push_near(out, near)
+            }
+            _ => Ok(()),
+        }
+    }
+
+    /// Appends the words of a reason, with such a name where it is told.
+    pub(crate) fn push_words(
+        &self,
+        out: &mut Vec<u8>,
+        alloc: Global,
+        tells: bool,
+        reason: Reason,
+    ) -> Result<(), AllocError>
+        ensures { OnOk result (out.new.items
+            ≡ out.old.items ++ words_text self.now tells reason) }
+    {
+        self.push_reason(out, reason)?;
+        if tells {
+            self.push_like(out, alloc, reason)?;
+        }
+        Ok(())
+    }
+
     /// Appends the words of a reason.
-    pub(crate) fn push_reason(&self, out: &mut Vec<u8>, reason: Reason) -> Result<(), AllocError>
+    fn push_reason(&self, out: &mut Vec<u8>, reason: Reason) -> Result<(), AllocError>
         ensures { OnOk result (out.new.items ≡ out.old.items ++ reason_text self.now reason) }
     {
         match reason {

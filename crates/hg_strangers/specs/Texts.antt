@@ -31,8 +31,8 @@ unfoldable pub near_text : Option (List ℕ) → List ℕ
 near_text None = []
 near_text (Some name) = codes " (" ++ name ++ codes "?)"
 
-abbrev pub near_of : Policy → Mention → Option (List ℕ)
-near_of policy m = near (names_of policy m.kind) m.name
+abbrev pub near_to : Policy → Kind → List ℕ → Option (List ℕ)
+near_to policy kind name = near (names_of policy kind) name
 
 -- a name that the policy lacks: the first line that says it, one that is like it, and how many lines do
 unfoldable pub lacked_text : ℕ → Kind → List ℕ → List ℕ
@@ -46,7 +46,8 @@ rest_text near lines =
 
 unfoldable pub warning : Policy → List Line → Mention → List ℕ
 warning policy lines m =
-    lacked_text m.line m.kind m.name ++ rest_text (near_of policy m) (lines_that_say lines m)
+    lacked_text m.line m.kind m.name
+    ++ rest_text (near_to policy m.kind m.name) (lines_that_say lines m)
 
 -- that there are others
 unfoldable pub others_text : Bool → List ℕ

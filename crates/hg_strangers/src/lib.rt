@@ -8,3 +8,4 @@ mod text;
 
 pub use mention::Kind;
 pub use run::run_check_trace;
+pub use text::{near_to, push_near};

@@ -6,7 +6,7 @@ ghost use Rattle.hg_replay.specs.Checks.{counts_line};
 ghost use Rattle.hg_trace.specs.Stored.{lines_in};
 ghost use Rattle.hg_strangers.specs.Mentions.{says_another, seen};
 ghost use Rattle.hg_strangers.specs.Texts.{arena_at, checked, kind_text, lacked_text, names_of};
-ghost use Rattle.hg_strangers.specs.Texts.{near_of, near_text, others_text, rest_text, tenant_at};
+ghost use Rattle.hg_strangers.specs.Texts.{near_text, near_to, others_text, rest_text, tenant_at};
 ghost use Rattle.hg_strangers.specs.Texts.{warning};
 
 use crate::lacked::{lacked, lacks_another, lines_that_say};
@@ -90,9 +90,10 @@ fn kind_text(kind: Kind) -> &'static str
     }
 }
 
-/// Appends a name that is like the one that is lacked, if there is one.
+/// Appends a name that is like the one that is lacked, if there is one, as ` (host?)`. Its one error is
+/// want of memory.
 #[tactic(auto, unfolding(crate::specs::Texts::near_text))]
-fn push_near(out: &mut Vec<u8>, name: Option<&str>) -> Result<(), AllocError>
+pub fn push_near(out: &mut Vec<u8>, name: Option<&str>) -> Result<(), AllocError>
     ensures { OnOk result (out.new.items
         ≡ out.old.items ++ near_text (option_map (λ name. name.now) name.entry)) }
 {
@@ -106,17 +107,19 @@ fn push_near(out: &mut Vec<u8>, name: Option<&str>) -> Result<(), AllocError>
     }
 }
 
-/// The name of the policy that is like one that it lacks.
-fn near_of<'a>(
+/// The name of a tenant or an arena of the policy that is like another, if there is one (`near` of
+/// hg_hints). Its one error is want of memory.
+pub fn near_to<'a>(
     alloc: Global,
     policy: &'a Policy,
-    mention: &Mention<'_>,
+    kind: Kind,
+    name: &str,
 ) -> Result<Option<&'a str>, AllocError>
     ensures { IfOk result (λ found. option_map (λ name. name.now) found
-        ≡ near_of policy.now (seen mention.now)) }
+        ≡ near_to policy.now kind name.now) }
 {
-    let names = names_of(alloc, policy, mention.kind)?;
-    near(alloc, &names, mention.name)
+    let names = names_of(alloc, policy, kind)?;
+    near(alloc, &names, name)
 }
 
 /// Appends where a name stands that the policy lacks.
@@ -153,7 +156,7 @@ fn push_warning(
     ensures { OnOk result (out.new.items
         ≡ out.old.items ++ warning policy.now (lines_in trace.now) (seen mention.now)) }
 {
-    let near = near_of(alloc, policy, mention)?;
+    let near = near_to(alloc, policy, mention.kind, mention.name)?;
     push_lacked(out, mention.line, mention.kind, mention.name)?;
     push_rest(out, near, lines_that_say(trace, mention))
 }

@@ -3,7 +3,7 @@
 use crate::tests::fakes::Limited;
 use hg_reasons::{Form, run_explained};
 use hg_replay::Status;
-use std::alloc::Global;
+use std::alloc::{AllocError, Global};
 use std::process::Abort;
 
 /// Bob may read and free what alice has, and carol may not read it.
@@ -80,7 +80,7 @@ unbound: line 9 was denied stranger
 11: w0 alloc bob vault 8
 denied arena: vault admits alice
 12: w0 alloc bob valut 8
-denied arena: the policy has no arena valut
+denied arena: the policy has no arena valut (vault?)
 13: w0 alloc alice main 70000 as large
 large: 70000 bytes are asked for, and a block has 65536 at most
 14: w0 write alice large 0 1
@@ -214,6 +214,34 @@ const QUIRKS_OBJECTS: &str = "\
 fn objects_are_told(rt: HostRuntime) {
     let want = (Status::Done, QUIRKS_OBJECTS, "");
     ends_in(&rt, rt.alloc(), Form::Json, POLICY, QUIRKS, want);
+}
+
+/// A trace of so many lines with an arena that the policy lacks.
+fn slips(alloc: Global, count: usize) -> Result<String, AllocError> {
+    let mut text = String::new(alloc);
+    for _line in 0..count {
+        text.push_str("w0 refill mian\n")?;
+    }
+    Ok(text)
+}
+
+/// A name that is like the one that is lacked is told 64 times.
+#[test]
+fn sixty_four_names_are_like_others(rt: HostRuntime) {
+    for (count, want) in [(63, 63), (64, 64), (65, 64), (200, 64)] {
+        let trace = slips(rt.alloc(), count).expect(&rt, "memory");
+        let mut out = Vec::new(rt.alloc());
+        let mut err = Vec::new(rt.alloc());
+        let (policy, trace) = (POLICY.as_bytes(), trace.as_bytes());
+        let status = run_explained(rt.alloc(), Form::Text, policy, trace, &mut out, &mut err);
+        let told = str::from_utf8(&out).unwrap_or("");
+        assert!(&rt; status == Status::Done);
+        assert_eq!(&rt;
+            told.matches(": the policy has no arena mian\n").count(),
+            count - want
+        );
+        assert_eq!(&rt; told.matches("no arena mian (main?)\n").count(), want);
+    }
 }
 
 #[test]

@@ -1,13 +1,15 @@
 use Rattle.std.proofs.Common.{◌≡◌, ◌++◌, ℕ, List, ap, ◌∙◌}
+use Rattle.std.specs.Prelude.{nat_lt}
 use Rattle.std.proofs.lemmas.Result.{on_ok_weaker}
 use Rattle.hg_labels.specs.Indexes.{texts}
 use Rattle.hg_trace.specs.Stored.{line_in}
 use Rattle.hg_reasons.specs.Past.{Past, past_after}
-use Rattle.hg_reasons.specs.Explaining.{Story, story_after}
+use Rattle.hg_reasons.specs.Explaining.{Story, story_after, words_of}
 use Rattle.hg_reasons.specs.Forms.{line_told}
+use Rattle.hg_reasons.specs.Wording.{left_after}
 use Rattle.hg_reasons.proofs.explain.Story.tell.Goals as goal
 
--- what is noted, what is appended, and the words of that
+-- what is noted, what is appended, the words of that, and their reason
 pub returns : goal.returns
 returns c =
     on_ok_weaker c.note.result
@@ -21,10 +23,17 @@ returns c =
     let past = c.self.inside.past in
     let front = c.self.inside.text.items in
     let form = c.self.inside.form in
-    let story : Past → List ℕ → Story = λ p t. record { form = form; past = p; text = t } in
+    let left = c.self.inside.left in
+    let story : ℕ → Past → List ℕ → Story = λ n p t. record { form = form; left = n; past = p; text = t } in
     let after = past_after past says.number says.command told in
-    ap (λ p. story p c.push_told.new.out.items) (noted names labels)
-    ∙ ap (λ t. story after t) c.in_ok-push_told.ensures
-    ∙ ap (λ w. story after (front ++ line_told form says.number text told reply w)) (c.in_ok-words.ensures labels)
+    let told_with = λ w. front ++ line_told form says.number text told reply w in
+    let now = c.left_after.result in
+    let why = c.reason_of-reason.result in
+    ap (λ p. story now p c.push_told.new.out.items) (noted names labels)
+    ∙ ap (λ t. story now after t) c.in_ok-push_told.ensures
+    ∙ ap (λ w. story now after (told_with w)) (c.in_ok-words.ensures labels)
+    ∙ ap (λ p. story now after (told_with (words_of p names says (nat_lt 0 left) why))) c.policy.ensures.value
+    ∙ ap (λ n. story n after (told_with (words_of s.policy names says (nat_lt 0 left) why))) c.left_after.ensures
+    ∙ ap (λ r. story (left_after left r) after (told_with (words_of s.policy names says (nat_lt 0 left) r))) (c.reason_of-reason.ensures names labels)
     ∙ ap (λ here. story_after names here s says told text reply) c.self.view_is)
     c.note.ensures
