@@ -54,20 +54,20 @@ EndsOnFiles first second ended old new =
     ⊎ ((policy : List ℕ) × (trace : List ℕ) × IsOf first policy × IsOf second trace
     × EndsAs ended policy trace old new)
 
--- a file is not read, or an explanation of the second's bytes under the first's ends so
+-- a file is not read, or an explanation of the second's bytes under the first's ends so, in this form
 abbrev pub EndsOnExplained
-    : Option (List ℕ) → Option (List ℕ) → Status → Seen → Seen → Type 0
-EndsOnExplained first second ended old new =
+    : Form → Option (List ℕ) → Option (List ℕ) → Status → Seen → Seen → Type 0
+EndsOnExplained form first second ended old new =
     ReadsNone ended old new
     ⊎ ((policy : List ℕ) × (trace : List ℕ) × IsOf first policy × IsOf second trace
-    × EndsExplained ended policy trace old new)
+    × EndsExplained form ended policy trace old new)
 
--- joined input is not read, or an explanation of its two parts ends so
-abbrev pub EndsExplainedJoined : Option (List ℕ) → Status → Seen → Seen → Type 0
-EndsExplainedJoined input ended old new =
+-- joined input is not read, or an explanation of its two parts ends so, in this form
+abbrev pub EndsExplainedJoined : Form → Option (List ℕ) → Status → Seen → Seen → Type 0
+EndsExplainedJoined form input ended old new =
     ReadsNone ended old new
     ⊎ ((bytes : List ℕ) × IsOf input bytes
-    × EndsExplained ended (policy_in bytes) (trace_in bytes) old new)
+    × EndsExplained form ended (policy_in bytes) (trace_in bytes) old new)
 
 -- the file is not read, or a race of so many rounds under the policy of its bytes ends so
 abbrev pub EndsOnRace : Option (List ℕ) → ℕ → Status → Seen → Seen → Type 0

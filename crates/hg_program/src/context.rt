@@ -64,14 +64,17 @@ impl<H: Host> Context<'_, H> {
     /// What is wanted in place of a policy's fault, where that is asked for: nothing where it has none,
     /// or where memory for it was refused.
     pub(crate) fn hint(&self, policy: &[u8]) -> Vec<u8> {
-        self.asked(policy_hint(self.alloc, policy))
+        if !self.explain {
+            return Vec::new(self.alloc);
+        }
+        self.granted(policy_hint(self.alloc, policy))
     }
 
-    /// A hint where it is asked for, and memory wasn't refused.
-    fn asked(&self, hint: Result<Vec<u8>, AllocError>) -> Vec<u8> {
+    /// A hint where memory wasn't refused.
+    fn granted(&self, hint: Result<Vec<u8>, AllocError>) -> Vec<u8> {
         match hint {
-            Ok(hint) if self.explain => hint,
-            _ => Vec::new(self.alloc),
+            Ok(hint) => hint,
+            Err(_) => Vec::new(self.alloc),
         }
     }
 
@@ -103,7 +106,10 @@ impl<H: Host> Context<'_, H> {
 
     /// What is told of a trace's fault under a policy, in the same way.
     pub(crate) fn hint_on(&self, policy: &[u8], trace: &[u8]) -> Vec<u8> {
-        self.asked(trace_hint(self.alloc, policy, trace))
+        if !self.explain {
+            return Vec::new(self.alloc);
+        }
+        self.granted(trace_hint(self.alloc, policy, trace))
     }
 
     /// The same of a job on a trace, which may have a fault too: then it tells the line with the word
@@ -135,7 +141,7 @@ impl<H: Host> Context<'_, H> {
         ensures quiet { ended ≡ Status.Done → err.new ≡ err.old }
     {
         if ended == Status::BadPolicy && self.explain {
-            let lack = self.asked(race_hint(self.alloc, policy));
+            let lack = self.granted(race_hint(self.alloc, policy));
             return told(self.explained(ended, policy, err), &lack, err);
         }
         self.unwritten(ended, err)

@@ -1,4 +1,3 @@
 mod Ranges
 mod Rows
-mod Naming
 pub mod Explaining

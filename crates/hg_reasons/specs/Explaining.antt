@@ -6,7 +6,6 @@ use Rattle.std.specs.List.{slice_split}
 use Rattle.hg_machine.specs.Policy.{Policy}
 use Rattle.hg_machine.specs.State.{State}
 use Rattle.hg_trace.specs.Lines.{ends_line}
-use Rattle.hg_trace.specs.Stored.{Store, lines_in, AreNumbered}
 use Rattle.hg_trace.specs.declared.line.Line.{Line}
 use Rattle.hg_core.specs.Opening.{opened}
 use Rattle.hg_replay.specs.declared.replaying.fault.ReplayFault.{ReplayFault}
@@ -31,8 +30,8 @@ texts_of bytes = slice_split ends_line bytes
 abbrev pub text_of : List (List ℕ) → ℕ → List ℕ
 text_of texts number = unwrap_or (slice_get texts (number - 1)) []
 
--- what was told of the lines so far, in which form, how many names of the policy may still be told that
--- are like one that it lacks, and what the lines have done
+-- what was told of the lines so far, in which form, how many reasons of a name that the policy lacks may
+-- still have one that is like it, and what the lines have done
 pub record Story : Type 0 where
   pub form : Form
   pub left : ℕ
@@ -44,14 +43,13 @@ beginning form policy = record { form = form; left = 64; past = no_past policy; 
 
 -- the reason for what a line came to, in words, if it has one, with a name that is like one that the
 -- policy lacks where that is told
-abbrev pub words_of : Policy → List (List ℕ) → Line → Bool → Option Reason → Option (List ℕ)
-words_of policy names line tells why =
-    option_map (words_text (said_by policy names line.worker line.command) tells) why
+abbrev pub words_of : Policy → Line → Bool → Option Reason → Option (List ℕ)
+words_of policy line tells why =
+    option_map (words_text (said_by policy line.worker line.command) tells) why
 
 -- what is told with a line of this text, which leaves this state and printed this reply
-abbrev pub story_after
-    : List (List ℕ) → Story → State → Line → Told → List ℕ → List ℕ → Story
-story_after names from s line told text reply =
+abbrev pub story_after : Story → State → Line → Told → List ℕ → List ℕ → Story
+story_after from s line told text reply =
     let why = reason_of s from.past line.worker line.command told in
     record {
       form = from.form;
@@ -60,38 +58,33 @@ story_after names from s line told text reply =
       text =
           from.text
           ++ line_told from.form line.number text told reply
-          (words_of s.policy names line (nat_lt 0 from.left) why);
+          (words_of s.policy line (nat_lt 0 from.left) why);
     }
 
 -- a line is answered as in a replay, which leaves this, and told with its answer and the reason
-pub record Explained (names : List (List ℕ)) (text : List ℕ) (from : Progress) (story : Story)
-    (line : Line) (mid : Progress) (next : Story) : Type 0 where
+pub record Explained (text : List ℕ) (from : Progress) (story : Story) (line : Line)
+    (mid : Progress) (next : Story) : Type 0 where
   pub told : Told
   pub reply : List ℕ
   pub answered : Answered from line mid reply
   pub comes_to : IsTold from line told mid.kept
-  pub is : next ≡ story_after names story mid.kept.state line told text reply
+  pub is : next ≡ story_after story mid.kept.state line told text reply
 
 -- the lines are answered one after another, as in a replay, which leaves this, and told so
 abbrev pub Explains
-    : List (List ℕ) → List (List ℕ) → Progress → Story → List Line → Progress → Story → Type 0
-Explains names texts from story [] end last = (end ≡ from) × (last ≡ story)
-Explains names texts from story (line ∷ lines) end last =
+    : List (List ℕ) → Progress → Story → List Line → Progress → Story → Type 0
+Explains texts from story [] end last = (end ≡ from) × (last ≡ story)
+Explains texts from story (line ∷ lines) end last =
     (mid : Progress) × (next : Story)
-    × Explained names (text_of texts line.number) from story line mid next
-    × Explains names texts mid next lines end last
+    × Explained (text_of texts line.number) from story line mid next
+    × Explains texts mid next lines end last
 
--- the same, from what a core opens with under the policy, where the lines are kept so: the names in
--- the trace are those that their numbers stand for
-pub record ExplainsAll (form : Form) (trace_bytes : List ℕ) (policy : Policy)
-    (lines : List Line) (last : Story) : Type 0 where
-  pub store : Store
-  pub kept : lines ≡ lines_in store
-  pub numbered : AreNumbered store
-  pub end : Progress
-  pub explained :
-      Explains store.names (texts_of trace_bytes) (starting (opened policy))
-      (beginning form policy) lines end last
+-- the same, from what a core opens with under the policy
+abbrev pub ExplainsAll : Form → List ℕ → Policy → List Line → Story → Type 0
+ExplainsAll form trace_bytes policy lines last =
+    (end : Progress)
+    × Explains (texts_of trace_bytes) (starting (opened policy)) (beginning form policy) lines
+    end last
 
 -- a text is what was told of the lines, and how many came to what behind it
 abbrev pub told_text : Policy → Story → List ℕ

@@ -1,7 +1,7 @@
 -- The words of a reason.
 use Rattle.std.specs.Prelude.{ℕ, ◌-◌, ◌==◌, Bool, true, false, nat_lt, List, [], ◌∷◌, ◌++◌, length}
 use Rattle.std.specs.Prelude.{Option, Some, None, unwrap_or, codes, decimal, if◌then◌else◌}
-use Rattle.std.specs.Prelude.{map, find}
+use Rattle.std.specs.Prelude.{map}
 use Rattle.std.specs.Prelude.{take}
 use Rattle.std.specs.List.{range_with_len}
 use Rattle.hg_place.specs.declared.Right.{Right}
@@ -9,8 +9,7 @@ use Rattle.hg_place.specs.declared.Right.TheVariants as right
 use Rattle.hg_machine.specs.Policy.{Policy, admits, lets}
 use Rattle.hg_machine.specs.declared.Answer.{Answer}
 use Rattle.hg_machine.specs.declared.Answer.TheVariants as answer
-use Rattle.hg_machine.specs.Holders.{is_number}
-use Rattle.hg_policy.specs.Names.{tenant_name, arena_number}
+use Rattle.hg_policy.specs.Names.{arena_name, tenant_name}
 use Rattle.hg_trace.specs.declared.line.Command.{Command}
 use Rattle.hg_trace.specs.declared.line.Command.TheVariants as command
 use Rattle.hg_replay.specs.Text.{rule_text}
@@ -42,10 +41,9 @@ arena_said _ = []
 abbrev pub tenant_text : Policy → ℕ → List ℕ
 tenant_text policy tenant = unwrap_or (tenant_name policy tenant) []
 
--- the name of an arena: the first of these that means it
-abbrev pub arena_text : Policy → List (List ℕ) → ℕ → List ℕ
-arena_text policy names arena =
-    unwrap_or (find (λ name. is_number arena (arena_number policy name)) names) []
+-- the name of an arena
+abbrev pub arena_text : Policy → ℕ → List ℕ
+arena_text policy arena = unwrap_or (arena_name policy arena) []
 
 -- what stands before one of several words, by whether it is the first
 abbrev pub comma : Bool → List ℕ
@@ -114,19 +112,17 @@ abbrev pub by_text : Answer → List ℕ
 by_text (answer.Denied rule) = rule_text rule
 by_text _ = []
 
--- what the words of a reason are about: the policy, the names in the trace, the worker of a line,
--- and who asks and which arena, as the line names them
+-- what the words of a reason are about: the policy, the worker of a line, and who asks and which arena,
+-- as the line names them
 pub record Said : Type 0 where
   pub policy : Policy
-  pub names : List (List ℕ)
   pub worker : ℕ
   pub actor : List ℕ
   pub arena : List ℕ
 
-abbrev pub said_by : Policy → List (List ℕ) → ℕ → Command → Said
-said_by policy names worker command = record {
+abbrev pub said_by : Policy → ℕ → Command → Said
+said_by policy worker command = record {
   policy = policy;
-  names = names;
   worker = worker;
   actor = actor_said command;
   arena = arena_said command;
@@ -161,15 +157,15 @@ lets_text said between =
 unfoldable pub room_text : Said → Held → List ℕ
 room_text said held =
     codes "worker " ++ decimal said.worker ++ codes " holds " ++ decimal held.segments
-    ++ codes " segments of " ++ arena_text said.policy said.names held.arena
+    ++ codes " segments of " ++ arena_text said.policy held.arena
     ++ codes ", and none has room for a block of " ++ decimal held.block
 
 unfoldable pub admits_text : Said → ℕ → List ℕ
 admits_text said arena =
-    arena_text said.policy said.names arena ++ codes " admits" ++ admitted_text said.policy arena
+    arena_text said.policy arena ++ codes " admits" ++ admitted_text said.policy arena
 
 unfoldable pub left_text : Said → ℕ → List ℕ
-left_text said arena = arena_text said.policy said.names arena ++ codes " has no segment left"
+left_text said arena = arena_text said.policy arena ++ codes " has no segment left"
 
 unfoldable pub holds_text : ℕ → Option ℕ → List ℕ
 holds_text segment holder = holder_text holder ++ codes " holds segment " ++ decimal segment
@@ -224,7 +220,8 @@ reason_text said (reason.Unserved bound) = unserved_text bound
 abbrev pub words_text : Said → Bool → Reason → List ℕ
 words_text said tells why = reason_text said why ++ (if tells then like_text said why else [])
 
--- how many such names may still be told after a line with this reason, if it has one
+-- how many reasons of a name that the policy lacks may still have one that is like it, after a line with
+-- this reason, if it has one
 abbrev pub left_after : ℕ → Option Reason → ℕ
 left_after left (Some reason.NoTenant) = left - 1
 left_after left (Some reason.NoArena) = left - 1

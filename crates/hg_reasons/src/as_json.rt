@@ -8,7 +8,7 @@ ghost use Rattle.hg_reasons.specs.AsJson.{member, reason_member, string};
 
 use crate::as_text::without_end;
 use crate::counts::{Kind, word_of};
-use crate::wording::{push, push_count};
+use hg_text::{push, push_count};
 use std::alloc::AllocError;
 
 /// Appends a byte as a JSON string has it: one that is neither printable ASCII nor blank is a `?`.

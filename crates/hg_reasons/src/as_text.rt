@@ -4,7 +4,7 @@ ghost use Rattle.std.specs.Prelude.{◌≡◌, ◌++◌, map, OnOk, option_map};
 ghost use Rattle.hg_reasons.specs.AsText.{line_text, reply_text, without_end};
 ghost use Rattle.hg_reasons.specs.Shown.{shown};
 
-use crate::wording::{push, push_count};
+use hg_text::{push, push_count};
 use std::alloc::AllocError;
 
 /// A byte as it is shown: no control byte but a tab is.

@@ -10,10 +10,10 @@ ghost use Rattle.hg_reasons.specs.Counts.{is_of, kind_row, rule_kind, tenant_row
 ghost use Rattle.hg_reasons.specs.Counts.{tenants_in, word_of};
 
 use crate::form::Form;
-use crate::wording::{push, push_count};
 use hg_machine::{Answer, Event, Rule};
 use hg_policy::Policy;
 use hg_replay::Told;
+use hg_text::{push, push_count};
 use std::alloc::AllocError;
 
 /// What a line came to, as it is counted.

@@ -5,7 +5,7 @@ ghost use Rattle.std.specs.Prelude.{OnOk, option_map, vec_len, vec_capacity, if�
 ghost use Rattle.hg_labels.specs.Indexes.{texts};
 ghost use Rattle.hg_machine.specs.Policy.{Policy};
 ghost use Rattle.hg_trace.specs.Labels.{label_count};
-ghost use Rattle.hg_trace.specs.Stored.{command_in, line_in, lines_in, AreNumbered, IsNumbered};
+ghost use Rattle.hg_trace.specs.Stored.{command_in, line_in, lines_in, IsNumbered};
 ghost use Rattle.hg_replay.specs.KnownNames.{meanings};
 ghost use Rattle.hg_replay.specs.Replays.{Answered, Progress, starting};
 ghost use Rattle.hg_replay.specs.StoredLabels.{binds};
@@ -26,15 +26,15 @@ use hg_trace::{StoredLine, Trace};
 use std::alloc::{AllocError, Global};
 use std::marker::Model;
 
-/// How many names of the policy are told that are like one that it lacks.
+/// How many reasons of a name that the policy lacks may have one that is like it.
 const LIKE: u32 = 64;
 
 /// What was told of the lines so far, and what they have done.
 #[derive(Drop)]
 pub(crate) struct Story {
     form: Form,
-    /// How many names of the policy that are like one that it lacks may still be told: each takes as
-    /// long as the policy has names.
+    /// How many reasons of a name that the policy lacks may still have one that is like it: to look for
+    /// that takes as long as the policy has names.
     left: u32,
     past: Past,
     text: Vec<u8>,
@@ -81,7 +81,7 @@ fn in_words(
     reason: Reason,
 ) -> Result<Vec<u8>, AllocError>
     ensures { IfOk result (λ words. (labels : List (List ℕ)) → words.items
-        ≡ words_text (said_by policy.now (texts names.now) line.now.worker
+        ≡ words_text (said_by policy.now line.now.worker
         (command_in (texts names.now) labels line.now.command)) tells reason) }
 {
     let mut words = Vec::new(alloc);
@@ -99,7 +99,7 @@ fn words_of(
     reason: Option<Reason>,
 ) -> Result<Option<Vec<u8>>, AllocError>
     ensures { IfOk result (λ words. (labels : List (List ℕ))
-        → option_map (λ w. w.items) words ≡ words_of policy.now (texts names.now)
+        → option_map (λ w. w.items) words ≡ words_of policy.now
         (line_in (texts names.now) labels line.now) tells reason) }
 {
     match reason {
@@ -111,7 +111,7 @@ fn words_of(
     }
 }
 
-/// How many names that are like another may still be told after a line with this reason.
+/// How many such reasons may still have such a name after a line with this one, if it has one.
 fn left_after(left: u32, reason: Option<Reason>) -> u32
     ensures { result ≡ left_after left reason }
 {
@@ -161,7 +161,7 @@ impl Story {
         reply: &[u8],
     ) -> Result<(), AllocError>
         ensures { OnOk result ((labels : List (List ℕ)) → self.new ≡ story_after
-            (texts names.now) self.old core.now.state
+            self.old core.now.state
             (line_in (texts names.now) labels line.now) told text.now reply.now) }
     {
         let reason = reason_of(core, &self.past, line, told);
@@ -225,10 +225,9 @@ pub(crate) fn explain(
     requires none { ready.old.handles.items ≡ [] }
     requires count { vec_len ready.old.handles ≡ 0 }
     requires room { label_count (lines_in trace.now) ≤ vec_capacity ready.old.handles }
-    ensures numbered { AreNumbered trace.now }
     ensures policy { OnOk result (ready.new.core.state.policy ≡ ready.old.core.state.policy) }
     ensures told { OnOk result ((end : Progress)
-        × Explains trace.now.names (map (λ text. text.now) texts.now) (starting ready.old.core)
+        × Explains (map (λ text. text.now) texts.now) (starting ready.old.core)
         story.old (lines_in trace.now) end story.new) }
 {
     for line in trace.stored() {

@@ -1,6 +1,6 @@
 //! The words of a reason.
 
-ghost use Rattle.std.specs.Prelude.{◌≡◌, ◌++◌, ℕ, List, OnOk, decimal};
+ghost use Rattle.std.specs.Prelude.{◌≡◌, ◌++◌, ℕ, List, OnOk};
 ghost use Rattle.hg_labels.specs.Indexes.{texts};
 ghost use Rattle.hg_trace.specs.Stored.{command_in};
 ghost use Rattle.hg_reasons.specs.Wording.{admits_text, arena_text, charge_text, denies_text};
@@ -14,6 +14,7 @@ mod plain;
 use crate::reason::{Between, Charged, Held, Reason};
 use hg_policy::Policy;
 use hg_strangers::{Kind, near_to, push_near};
+use hg_text::{push, push_count};
 use hg_trace::StoredLine;
 use lists::{push_admitted, push_rights, right_text};
 use naming::{actor_said, arena_said, arena_text, tenant_text};
@@ -24,57 +25,37 @@ use plain::{
 use std::alloc::{AllocError, Global};
 use std::marker::Model;
 
-/// What the words of a reason are about: the policy, the names in the trace, the worker of a line,
-/// and who asks and which arena, as the line names them.
+/// What the words of a reason are about: the policy, the worker of a line, and who asks and which arena,
+/// as the line names them.
 #[derive(Drop)]
 pub(crate) struct Said<'a> {
     policy: &'a Policy,
-    names: &'a [&'a str],
     worker: u8,
     actor: &'a str,
     arena: &'a str,
 }
 
 impl<'a> Model for Said<'a> {
-    ghost use Rattle.hg_labels.specs.Indexes.{texts};
     ghost use Rattle.hg_reasons.specs.Wording as wording;
 
     ghost Value = { wording.Said };
 
     ghost view = { λ said. record {
       policy = said.policy.now;
-      names = texts said.names.now;
       worker = said.worker;
       actor = said.actor.now;
       arena = said.arena.now;
     } };
 }
 
-/// Appends a text.
-pub(crate) fn push(out: &mut Vec<u8>, text: &str) -> Result<(), AllocError>
-    ensures { OnOk result (out.new.items ≡ out.old.items ++ text.now) }
-{
-    out.extend_from_slice(text.as_bytes())
-}
-
-/// Appends a text and a number behind it.
-pub(crate) fn push_count(out: &mut Vec<u8>, text: &str, n: u64) -> Result<(), AllocError>
-    ensures { OnOk result (out.new.items ≡ out.old.items ++ text.now ++ decimal n) }
-{
-    let mut digits = itoa::Buffer::new();
-    push(out, text)?;
-    push(out, digits.format(n))
-}
-
 impl<'a> Said<'a> {
     /// What the words of a reason for this line are about.
     pub(crate) fn by(policy: &'a Policy, names: &'a [&'a str], line: &StoredLine) -> Said<'a>
-        ensures { (labels : List (List ℕ)) → result ≡ said_by policy.now (texts names.now)
+        ensures { (labels : List (List ℕ)) → result ≡ said_by policy.now
             line.now.worker (command_in (texts names.now) labels line.now.command) }
     {
         Said {
             policy,
-            names,
             worker: line.worker,
             actor: actor_said(names, line.command),
             arena: arena_said(names, line.command),
@@ -92,9 +73,9 @@ impl<'a> Said<'a> {
     /// Appends the name of an arena.
     fn push_arena(&self, out: &mut Vec<u8>, arena: u8) -> Result<(), AllocError>
         ensures { OnOk result (out.new.items
-            ≡ out.old.items ++ arena_text self.now.policy self.now.names arena) }
+            ≡ out.old.items ++ arena_text self.now.policy arena) }
     {
-        push(out, arena_text(self.policy, self.names, arena))
+        push(out, arena_text(self.policy, arena))
     }
 
     /// Appends what a tenant has of its limit with the worker.
@@ -163,11 +144,7 @@ impl<'a> Said<'a> {
     fn push_left(&self, out: &mut Vec<u8>, arena: u8) -> Result<(), AllocError>
         ensures { OnOk result (out.new.items ≡ out.old.items ++ left_text self.now arena) }
     {
-        push_pair(
-            out,
-            arena_text(self.policy, self.names, arena),
-            " has no segment left",
-        )
+        push_pair(out, arena_text(self.policy, arena), " has no segment left")
     }
 
     /// Appends what the worker has in hand.

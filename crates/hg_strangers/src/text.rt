@@ -1,6 +1,6 @@
 //! What a check of a policy and a trace prints.
 
-ghost use Rattle.std.specs.Prelude.{◌≡◌, ◌++◌, IfOk, OnOk, decimal, length, map, option_map};
+ghost use Rattle.std.specs.Prelude.{◌≡◌, ◌++◌, IfOk, OnOk, length, map, option_map};
 ghost use Rattle.std.specs.List.{flat_map, list_any, range_with_len};
 ghost use Rattle.hg_replay.specs.Checks.{counts_line};
 ghost use Rattle.hg_trace.specs.Stored.{lines_in};
@@ -13,24 +13,9 @@ use crate::lacked::{lacked, lacks_another, lines_that_say};
 use crate::mention::{Kind, Mention};
 use hg_hints::near;
 use hg_policy::Policy;
+use hg_text::{push, push_count};
 use hg_trace::Trace;
 use std::alloc::{AllocError, Global};
-
-/// Appends a text.
-fn push(out: &mut Vec<u8>, text: &str) -> Result<(), AllocError>
-    ensures { OnOk result (out.new.items ≡ out.old.items ++ text.now) }
-{
-    out.extend_from_slice(text.as_bytes())
-}
-
-/// Appends a text and a number behind it.
-fn push_count(out: &mut Vec<u8>, text: &str, n: u64) -> Result<(), AllocError>
-    ensures { OnOk result (out.new.items ≡ out.old.items ++ text.now ++ decimal n) }
-{
-    let mut digits = itoa::Buffer::new();
-    push(out, text)?;
-    push(out, digits.format(n))
-}
 
 /// The name of a tenant.
 fn tenant_at(policy: &Policy, tenant: u8) -> &str

@@ -8,9 +8,9 @@ ghost use Rattle.hg_reasons.specs.Wording.{conjunction, right_text, rights_text}
 
 use crate::reason::Between;
 use crate::wording::naming::tenant_text;
-use crate::wording::push;
 use hg_place::{Actor, Right};
 use hg_policy::Policy;
+use hg_text::push;
 use std::alloc::AllocError;
 
 fn comma(first: bool) -> &'static str

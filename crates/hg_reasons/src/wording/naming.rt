@@ -3,8 +3,6 @@
 ghost use Rattle.std.specs.Prelude.{◌≡◌, ℕ, List};
 ghost use Rattle.hg_labels.specs.Indexes.{texts};
 ghost use Rattle.hg_trace.specs.Stored.{command_in, named};
-ghost use Rattle.hg_machine.specs.Holders.{is_number};
-ghost use Rattle.hg_policy.specs.Names.{arena_number};
 ghost use Rattle.hg_reasons.specs.Wording.{actor_said, arena_said, arena_text, tenant_text};
 
 use hg_policy::Policy;
@@ -58,24 +56,12 @@ pub(super) fn tenant_text(policy: &Policy, tenant: u8) -> &str
     }
 }
 
-/// Whether a name means an arena.
-fn means(policy: &Policy, name: &str, arena: u8) -> bool
-    ensures { result ≡ is_number arena (arena_number policy.now name.now) }
+/// The name of an arena.
+pub(super) fn arena_text(policy: &Policy, arena: u8) -> &str
+    ensures { result.now ≡ arena_text policy.now arena }
 {
-    match policy.arena(name) {
-        Some(number) => number == arena,
-        None => false,
+    match policy.arena_name(arena) {
+        Some(name) => name,
+        None => "",
     }
-}
-
-/// The name of an arena: the first of these that means it.
-pub(super) fn arena_text<'a>(policy: &Policy, names: &[&'a str], arena: u8) -> &'a str
-    ensures { result.now ≡ arena_text policy.now (texts names.now) arena }
-{
-    for name in names {
-        if means(policy, name, arena) {
-            return *name;
-        }
-    }
-    ""
 }

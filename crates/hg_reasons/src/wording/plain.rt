@@ -8,8 +8,8 @@ ghost use Rattle.hg_reasons.specs.Wording.{no_segment_text, unserved_text, was_t
 
 use crate::past::Bound;
 use crate::reason::Charged;
-use crate::wording::{push, push_count};
 use hg_machine::{Answer, Rule};
+use hg_text::{push, push_count};
 use std::alloc::AllocError;
 
 fn rule_text(rule: Rule) -> &'static str

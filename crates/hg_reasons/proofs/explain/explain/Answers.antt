@@ -55,19 +55,19 @@ loop-line-preserved c =
     let (answered, comes_to) = c.in_ok-told.ensures.told store.names store.labels meant numbered in
     let core = c.told_by.new.ready.core in
     let here = c.loop-line.story in
-    let is : c.tell.new.self ≡ story_after store.names here core.state says told (text_of texts line.number) reply =
+    let is : c.tell.new.self ≡ story_after here core.state says told (text_of texts line.number) reply =
     c.in_ok-tell.ensures store.labels
-    ∙ ap (λ ns. story_after ns here core.state (line_in ns store.labels line) told c.text_of-text.result.now c.deref.result.now) c.names.ensures
-    ∙ ap (λ t. story_after store.names here core.state says told t c.deref.result.now) c.text_of-text.ensures
-    ∙ ap (λ r. story_after store.names here core.state says told (text_of texts line.number) r) c.deref.ensures.value in
+    ∙ ap (λ ns. story_after here core.state (line_in ns store.labels line) told c.text_of-text.result.now c.deref.result.now) c.names.ensures
+    ∙ ap (λ t. story_after here core.state says told t c.deref.result.now) c.text_of-text.ensures
+    ∙ ap (λ r. story_after here core.state says told (text_of texts line.number) r) c.deref.ensures.value in
     let now : Progress = record { kept = core; handles = c.told_by.new.ready.handles.items } in
-    let more : Explained store.names (text_of texts line.number) (record { kept = c.loop-line.ready.core; handles = c.loop-line.ready.handles.items }) here says now c.tell.new.self =
+    let more : Explained (text_of texts line.number) (record { kept = c.loop-line.ready.core; handles = c.loop-line.ready.handles.items }) here says now c.tell.new.self =
     record { told = told; reply = reply; answered = answered; comes_to = comes_to; is = is } in
     record {
       policy = answered_keeps_policy _ _ says reply answered ∙ c.loop-line.invariant.policy;
       meant = c.told_by.ensures.meant ∙ c.loop-line.invariant.meant;
       told =
-          explains_next store.names texts (lines_in store) i says _ _ _ c.args.story.now here c.tell.new.self within there c.loop-line.invariant.told more;
+          explains_next texts (lines_in store) i says _ _ _ c.args.story.now here c.tell.new.self within there c.loop-line.invariant.told more;
       count =
           c.told_by.ensures.count ∙ ap (λ n. n + (if binds line.command then 1 else 0)) c.loop-line.invariant.count
           ∙ (ap (λ b. label_count (take i (lines_in store)) + (if b then 1 else 0)) (sym (binds_said store.names store.labels line.command))

@@ -11,7 +11,7 @@ invariant-loop-line l = record {
   policy : l.ready.core.state.policy ≡ l.fn.ready.core.state.policy;
   meant : l.ready.meant ≡ l.fn.ready.meant;
   told :
-      Explains l.trace.names (map (λ text. text.now) l.texts) (starting l.fn.ready.core) l.fn.story (take l.line-index (lines_in l.trace))
+      Explains (map (λ text. text.now) l.texts) (starting l.fn.ready.core) l.fn.story (take l.line-index (lines_in l.trace))
       (record { kept = l.ready.core; handles = l.ready.handles.items }) l.story;
   count : vec_len l.ready.handles ≡ label_count (take l.line-index (lines_in l.trace));
   room : vec_capacity l.ready.handles ≡ vec_capacity l.fn.ready.handles;

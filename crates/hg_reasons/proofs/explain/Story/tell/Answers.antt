@@ -32,8 +32,8 @@ returns c =
     ap (λ p. story now p c.push_told.new.out.items) (noted names labels)
     ∙ ap (λ t. story now after t) c.in_ok-push_told.ensures
     ∙ ap (λ w. story now after (told_with w)) (c.in_ok-words.ensures labels)
-    ∙ ap (λ p. story now after (told_with (words_of p names says (nat_lt 0 left) why))) c.policy.ensures.value
-    ∙ ap (λ n. story n after (told_with (words_of s.policy names says (nat_lt 0 left) why))) c.left_after.ensures
-    ∙ ap (λ r. story (left_after left r) after (told_with (words_of s.policy names says (nat_lt 0 left) r))) (c.reason_of-reason.ensures names labels)
-    ∙ ap (λ here. story_after names here s says told text reply) c.self.view_is)
+    ∙ ap (λ p. story now after (told_with (words_of p says (nat_lt 0 left) why))) c.policy.ensures.value
+    ∙ ap (λ n. story n after (told_with (words_of s.policy says (nat_lt 0 left) why))) c.left_after.ensures
+    ∙ ap (λ r. story (left_after left r) after (told_with (words_of s.policy says (nat_lt 0 left) r))) (c.reason_of-reason.ensures names labels)
+    ∙ ap (λ here. story_after here s says told text reply) c.self.view_is)
     c.note.ensures
