@@ -1,5 +1,6 @@
 -- How the program ends, by the words of its command line: its status, and what it writes.
 use Rattle.std.specs.Prelude.{◌≡◌, ◌≢◌, ◌≤◌, ◌⊎◌, ℕ, List, Option, Result, Ok, Err, IfSome}
+use Rattle.std.specs.Prelude.{Bool, false}
 use Rattle.std.specs.Prelude.{length, string_bytes, All, map}
 use Rattle.std.specs.declared.io.ErrorKind.{ErrorKind}
 use Rattle.std.specs.declared.io.ErrorKind.TheVariants as kind
@@ -98,17 +99,22 @@ StandOf holds policy names tests Quiet =
     × (All (IsUnwarned policy) sources → Quiet)
 
 -- this holds where nothing is warned of in the traces that were read of these files, under the policy
--- that was read of that one; and so where a job is done, which warns of nothing unless it is a test
+-- that was read of that one
 abbrev pub IsQuietTest
     : (List ℕ → Option (List ℕ)) → List ℕ → List (List ℕ) → Type 0 → Type 0
 IsQuietTest holds file names Quiet =
     (policy : List ℕ) × (sources : List Source) × IsOf (holds file) policy
     × AreOf holds names sources × (All (IsUnwarned policy) sources → Quiet)
 
-abbrev pub IsQuietJob : (List ℕ → Option (List ℕ)) → Job → Type 0 → Type 0
-IsQuietJob holds (job.Test policy traces) Quiet =
+-- this holds where a job is done: of one that reads the input where that is no terminal, of a test where
+-- nothing is warned of, and of each other in any case
+abbrev pub IsQuietJob : Bool → (List ℕ → Option (List ℕ)) → Job → Type 0 → Type 0
+IsQuietJob may_be_terminal holds job.Joined Quiet = may_be_terminal ≡ false → Quiet
+IsQuietJob may_be_terminal holds job.ExplainJoined Quiet = may_be_terminal ≡ false → Quiet
+IsQuietJob may_be_terminal holds job.ExplainJoinedJson Quiet = may_be_terminal ≡ false → Quiet
+IsQuietJob may_be_terminal holds (job.Test policy traces) Quiet =
     IsQuietTest holds policy.now (map (λ trace. trace.now) traces.items) Quiet
-IsQuietJob holds _ Quiet = Quiet
+IsQuietJob may_be_terminal holds _ Quiet = Quiet
 
 -- the file is not read, or what its bytes say is shown so
 abbrev pub EndsOnShow : Option (List ℕ) → Status → Seen → Seen → Type 0
@@ -178,10 +184,13 @@ EndsProgram words holds input ended old new err_old err_new =
     (answer : Result Task JobFault) × IsAnswerTo words answer
     × EndsAnswer holds input answer ended old new err_old err_new
 
--- this holds where what the words ask for warns of nothing
-abbrev pub AreQuietWords : List (List ℕ) → (List ℕ → Option (List ℕ)) → Type 0 → Type 0
-AreQuietWords words holds Quiet =
-    Quiet ⊎ ((task : Task) × IsAnswerTo words (Ok task) × IsQuietJob holds task.job Quiet)
+-- this holds where what the words ask for tells and warns of nothing
+abbrev pub AreQuietWords
+    : Bool → List (List ℕ) → (List ℕ → Option (List ℕ)) → Type 0 → Type 0
+AreQuietWords may_be_terminal words holds Quiet =
+    Quiet
+    ⊎ ((task : Task) × IsAnswerTo words (Ok task)
+    × IsQuietJob may_be_terminal holds task.job Quiet)
 
 -- the system gives no words, and nothing is written: for want of memory the status is Failed, and
 -- else the words are no text

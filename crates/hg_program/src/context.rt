@@ -21,6 +21,31 @@ pub(crate) struct Context<'a, H: Host> {
     pub(crate) explain: bool,
 }
 
+/// What is wanted in place of the first fault of a test's policy, and of its traces.
+#[derive(Drop)]
+pub(crate) struct Hints {
+    pub(crate) of_policy: Vec<u8>,
+    pub(crate) of_traces: Vec<u8>,
+}
+
+impl Hints {
+    /// No fault is known yet.
+    pub(crate) fn new(alloc: Global) -> Hints {
+        Hints {
+            of_policy: Vec::new(alloc),
+            of_traces: Vec::new(alloc),
+        }
+    }
+
+    /// What is told where a test ended so.
+    pub(crate) fn of(&self, ended: Status) -> &[u8] {
+        match ended {
+            Status::BadPolicy => &self.of_policy,
+            _ => &self.of_traces,
+        }
+    }
+}
+
 /// A file that wasn't read, and why.
 #[derive(Drop)]
 pub(crate) struct Unread<'a> {

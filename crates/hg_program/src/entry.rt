@@ -1,6 +1,6 @@
 //! The program, from the words of its command line to its exit status.
 
-ghost use Rattle.std.specs.Prelude.{◌≡◌, false, IfOk, MatchResult, map, string_bytes};
+ghost use Rattle.std.specs.Prelude.{◌≡◌, IfOk, MatchResult, map, string_bytes};
 ghost use Rattle.std.specs.Process.{exit_status};
 ghost use Rattle.std.specs.IoError.{error_kind};
 ghost use Rattle.hg_replay.specs.Numbers.{number_of};
@@ -35,8 +35,8 @@ fn do_job<T: Threads + Wait, H: Host, R: Read, W: Sink, E: Write>(
 ) -> Status
     ensures ends { EndsJob (H.holds cx.now.host.now) (R.remaining input.old) job.now result
         (W.seen out.old) (W.seen out.new) }
-    ensures quiet { H.may_be_terminal cx.now.host.now ≡ false → result ≡ Status.Done
-        → IsQuietJob (H.holds cx.now.host.now) job.now (err.new ≡ err.old) }
+    ensures quiet { result ≡ Status.Done → IsQuietJob (H.may_be_terminal cx.now.host.now)
+        (H.holds cx.now.host.now) job.now (err.new ≡ err.old) }
 {
     match job {
         Job::Joined => replay_input(cx, input, out, err),
@@ -69,8 +69,8 @@ pub fn program<T: Threads + Wait, H: Host, R: Read, W: Sink, E: Sink + Write>(
     ensures ends { EndsProgram (map (λ w. w.now) words.now) (H.holds host.now)
         (R.remaining input.old) result
         (W.seen out.old) (W.seen out.new) (E.seen err.old) (E.seen err.new) }
-    ensures quiet { H.may_be_terminal host.now ≡ false → result ≡ Status.Done
-        → AreQuietWords (map (λ w. w.now) words.now) (H.holds host.now) (err.new ≡ err.old) }
+    ensures quiet { result ≡ Status.Done → AreQuietWords (H.may_be_terminal host.now)
+        (map (λ w. w.now) words.now) (H.holds host.now) (err.new ≡ err.old) }
 {
     match task_of(alloc, words) {
         Ok(Task { job, explain }) => {

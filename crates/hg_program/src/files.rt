@@ -5,7 +5,7 @@ ghost use Rattle.hg_replay.specs.declared.run.input.TheConstants.{LIMIT};
 ghost use Rattle.hg_program.specs.Ends.{EndsOnChecked, EndsOnExplained, EndsOnFile, EndsOnFiles};
 ghost use Rattle.hg_program.specs.Ends.{EndsOnRace, EndsOnTests, IsOf, IsQuietTest, StandOf};
 
-use crate::context::{Context, Unread, told};
+use crate::context::{Context, Hints, Unread, told};
 use crate::host::Host;
 use hg_expect::{Source, Tests};
 use hg_race::run_race;
@@ -111,12 +111,12 @@ pub(crate) fn explain_files<H: Host, W: Sink, E: Write>(
 }
 
 /// Tests of the traces of files, in their order, each read and given back before the next is read; and
-/// what is wanted in place of the fault of the first that has one, unless the policy has one.
+/// what is wanted in place of the fault of the first that has one.
 fn test_each<'a, H: Host, E: Write>(
     cx: &Context<'_, H>,
     policy: &[u8],
     names: &[&'a str],
-    hint: &mut Vec<u8>,
+    of_traces: &mut Vec<u8>,
     err: &mut E,
 ) -> Result<Tests<'a>, Unread<'a>>
     ensures { IfOk result (λ tests. StandOf (H.holds cx.now.host.now) policy.now
@@ -128,8 +128,8 @@ fn test_each<'a, H: Host, E: Write>(
         let source = Source { name: *name, bytes };
         let was_stopped = tests.is_stopped();
         tests.add(cx.alloc, policy, &source, err);
-        if tests.is_stopped() && !was_stopped && hint.is_empty() {
-            *hint = cx.hint_on(policy, source.bytes.as_slice());
+        if tests.is_stopped() && !was_stopped {
+            *of_traces = cx.hint_on(policy, source.bytes.as_slice());
         }
     }
     Ok(tests)
@@ -141,7 +141,7 @@ fn test_all<'a, H: Host, E: Write>(
     cx: &Context<'_, H>,
     policy: &'a str,
     names: &[&'a str],
-    hint: &mut Vec<u8>,
+    hints: &mut Hints,
     err: &mut E,
 ) -> Result<Tests<'a>, Unread<'a>>
     ensures { IfOk result (λ tests. (bytes : List ℕ)
@@ -150,8 +150,8 @@ fn test_all<'a, H: Host, E: Write>(
         (err.new ≡ err.old)) }
 {
     let policy = cx.read(policy)?;
-    *hint = cx.hint(policy.as_slice());
-    test_each(cx, policy.as_slice(), names, hint, err)
+    hints.of_policy = cx.hint(policy.as_slice());
+    test_each(cx, policy.as_slice(), names, &mut hints.of_traces, err)
 }
 
 /// Tests the traces of files under the policy of another. All are read before any fault of one is
@@ -168,11 +168,11 @@ pub(crate) fn test_files<H: Host, W: Sink, E: Write>(
     ensures quiet { result ≡ Status.Done → IsQuietTest (H.holds cx.now.host.now) policy.now
         (map (λ name. name.now) names.now) (err.new ≡ err.old) }
 {
-    let mut hint = Vec::new(cx.alloc);
-    match test_all(cx, policy, names, &mut hint, err) {
+    let mut hints = Hints::new(cx.alloc);
+    match test_all(cx, policy, names, &mut hints, err) {
         Ok(tests) => {
             let ended = tests.end(names.len() > 1, out, err);
-            cx.unwritten(told(ended, &hint, err), err)
+            cx.unwritten(told(ended, hints.of(ended), err), err)
         }
         Err(unread) => cx.fails(unread, err),
     }

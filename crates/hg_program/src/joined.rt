@@ -32,7 +32,7 @@ pub(crate) fn replay_input<H: Host, R: Read, W: Sink, E: Write>(
     err: &mut E,
 ) -> Status
     ensures ends { EndsJoined result (R.remaining input.old) (W.seen out.old) (W.seen out.new) }
-    ensures quiet { H.may_be_terminal cx.now.host.now ≡ false → result ≡ Status.Done → err.new ≡ err.old }
+    ensures quiet { result ≡ Status.Done → H.may_be_terminal cx.now.host.now ≡ false → err.new ≡ err.old }
 {
     tell_what_is_read(cx.host, err);
     run_joined(cx.alloc, input, out, err)
@@ -70,7 +70,7 @@ pub(crate) fn explain_input<H: Host, R: Read, W: Sink, E: Write>(
 ) -> Status
     ensures ends { EndsExplainedJoined form (R.remaining input.old) result
         (W.seen out.old) (W.seen out.new) }
-    ensures quiet { H.may_be_terminal cx.now.host.now ≡ false → result ≡ Status.Done → err.new ≡ err.old }
+    ensures quiet { result ≡ Status.Done → H.may_be_terminal cx.now.host.now ≡ false → err.new ≡ err.old }
 {
     tell_what_is_read(cx.host, err);
     explain_joined(cx, form, input, out, err)

@@ -16,10 +16,10 @@ returns-in-Test-clause-ends g c =
     (seen c.test_files.new.out)) c.as_slice.ensures.value c.test_files.ensures.ends)
 
 pub returns-in-Test-clause-quiet : goal.returns-in-Test-clause-quiet
-returns-in-Test-clause-quiet g c = λ plain done.
+returns-in-Test-clause-quiet g c = λ done.
     let holds = g.H.Host.holds c.args.cx.now.host.now in
     subst
-    (λ (job : Job). IsQuietJob holds job (c.test_files.new.err ≡ c.args.err.now))
+    (λ (job : Job). IsQuietJob (g.H.Host.may_be_terminal c.args.cx.now.host.now) holds job (c.test_files.new.err ≡ c.args.err.now))
     (sym c.in-Test.is)
     (subst
     (λ (traces : List (Bor (List ℕ))). IsQuietTest holds c.in-Test.policy.now

@@ -12,12 +12,13 @@ returns-in-Ok-clause-ends g c =
     subst
     (λ (ended : Status). EndsOnTests (g.H.Host.holds c.args.cx.now.host.now) c.args.policy.now
     (texts c.args.names.now) ended (g.W.Sink.seen c.args.out.now) (g.W.Sink.seen c.end-ended.new.out))
-    (sym c.told.ensures.status)
+    (sym (c.unwritten.ensures.status ∙ c.told.ensures.status))
     (inr (bytes, sources, of, are, c.end-ended.ensures.ends bytes sources stands))
 
 pub returns-in-Ok-clause-quiet : goal.returns-in-Ok-clause-quiet
 returns-in-Ok-clause-quiet g c = λ done.
     let (bytes, of, stand) = c.in-Ok.ensures in
     let (sources, are, stands, quiet) = stand in
-    let ended : c.end-ended.result ≡ status.Done = sym c.told.ensures.status ∙ done in
-    (bytes, sources, of, are, λ all. c.told.ensures.quiet ended ∙ (c.end-ended.ensures.quiet ended ∙ quiet all))
+    let told : c.told.result ≡ status.Done = sym c.unwritten.ensures.status ∙ done in
+    let ended : c.end-ended.result ≡ status.Done = sym c.told.ensures.status ∙ told in
+    (bytes, sources, of, are, λ all. c.unwritten.ensures.quiet told ∙ (c.told.ensures.quiet ended ∙ (c.end-ended.ensures.quiet ended ∙ quiet all)))
