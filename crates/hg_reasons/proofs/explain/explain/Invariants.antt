@@ -1,4 +1,4 @@
-use Rattle.std.proofs.Common.{◌≡◌, ◌≤◌, map, take, vec_len, vec_capacity}
+use Rattle.std.proofs.Common.{◌≡◌, map, take, vec_len, vec_capacity}
 use Rattle.hg_trace.specs.Labels.{label_count}
 use Rattle.hg_trace.specs.Stored.{lines_in}
 use Rattle.hg_replay.specs.Replays.{starting}
