@@ -1,0 +1,2 @@
+mod OrphansTold
+mod Texts

@@ -1,0 +1,35 @@
+-- What a trace leaves, and the text of that.
+use Rattle.std.specs.Prelude.{⊤, ◌≡◌, ℕ, List, Some}
+use Rattle.hg_machine.specs.Policy.{Policy}
+use Rattle.hg_machine.specs.Lists.{Kept}
+use Rattle.hg_trace.specs.declared.line.Line.{Line}
+use Rattle.hg_core.specs.Opening.{opened}
+use Rattle.hg_replay.specs.declared.replaying.fault.ReplayFault.{ReplayFault}
+use Rattle.hg_replay.specs.declared.replaying.fault.ReplayFault.TheVariants as fault
+use Rattle.hg_replay.specs.Events.{unknown_worker}
+use Rattle.hg_replay.specs.Replays.{Progress, Replays, starting}
+use Rattle.hg_replay.specs.Statuses.{Means}
+use Rattle.hg_state.specs.Standing.{standing_text}
+
+-- a replay of these lines, from what a core opens with under the policy, leaves this
+abbrev pub Leads : Policy → List Line → Kept → Type 0
+Leads policy lines kept =
+    (end : Progress) × (text : List ℕ) × Replays (starting (opened policy)) lines end text
+    × (end.kept ≡ kept)
+
+-- and this is the text of what stands then
+abbrev pub LeavesText : Policy → List Line → List ℕ → Type 0
+LeavesText policy lines text =
+    (kept : Kept) × Leads policy lines kept × (text ≡ standing_text kept.state kept.state.orphans)
+
+-- why there is none: some line's worker is unknown, or memory was refused
+abbrev pub IsWithout : Policy → List Line → ReplayFault → Type 0
+IsWithout policy lines (fault.Worker line) = unknown_worker policy.workers lines ≡ Some line
+IsWithout policy lines fault.Memory = ⊤
+IsWithout policy lines fault.Write = ⊥
+
+-- the bytes mean a policy and a trace for it, and this is the text of what stands after it
+abbrev pub IsTextAfter : List ℕ → List ℕ → List ℕ → Type 0
+IsTextAfter policy_bytes trace_bytes text =
+    (policy : Policy) × (lines : List Line) × Means policy_bytes trace_bytes policy lines
+    × LeavesText policy lines text

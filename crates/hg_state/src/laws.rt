@@ -1,0 +1,13 @@
+//! Laws of what stands. Each function does nothing: what it promises is the law.
+
+ghost use Rattle.hg_state.specs.Orphans.{FreshAreApart, StepsTellOrphans};
+
+/// The orphans of the machine after a step are those before it and what the event was answered.
+pub fn steps_tell_orphans()
+    ensures { StepsTellOrphans }
+{}
+
+/// In a sound state a segment that nobody holds, and that is no orphan, is fresh.
+pub fn fresh_are_apart()
+    ensures { FreshAreApart }
+{}

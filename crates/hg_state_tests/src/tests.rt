@@ -1,0 +1,3 @@
+mod plain;
+mod seeded;
+mod worked;
