@@ -19,11 +19,14 @@ use Rattle.hg_machine.specs.Policy.{Policy, is_tenant, admits, limit_of}
 use Rattle.hg_machine.specs.Refusal.{refusal, alloc_refusal}
 use Rattle.hg_machine.specs.Request.{words_for, size_of, verdict_on_size, alloc_verdict}
 use Rattle.hg_machine.specs.Room.{has_room}
+use Rattle.hg_machine.specs.Soundness.{IsSound}
 use Rattle.hg_machine.specs.Served.{IsNext}
 use Rattle.hg_machine.specs.State.{State}
 use Rattle.hg_machine.specs.Steps.{Step}
 use Rattle.hg_machine.proofs.Serves.{fits_parts}
 use Rattle.hg_bank.specs.Choosing.{FitsIn}
+use Rattle.hg_bank.specs.Requests.{bank_verdict}
+use Rattle.hg_bank.specs.State.{BankState, charge_over}
 use Rattle.hg_laws.specs.Asked.{is_refusal}
 use Rattle.hg_laws.proofs.LimitsLemmas.{allocations_are_charged}
 use Rattle.hg_laws.proofs.Refusals.{was_served, was_refused}
@@ -64,6 +67,38 @@ fits_below policy actor arena words charged less size low e =
     (verdict_on_size policy actor charged (size_for words))
     (verdict_on_size policy actor less (size_for words)) size
     (size_fits policy actor charged less (size_for words) size low) e
+
+-- what fits stays within the limit
+size_within : (policy : Policy) (actor charged : ℕ) (o : Option ℕ) (size : ℕ)
+    → verdict_on_size policy actor charged o ≡ verdict.Fits size
+    → charged + 8 * size ≤ limit_of policy actor
+size_within policy actor charged None size e = absurd (cc)
+size_within policy actor charged (Some n) size e =
+    let limit = limit_of policy actor in
+    let fits = in_limit (nat_le (charged + 8 * n) limit) n size e in
+    let low = leb-true _ _ fits in
+    let same = fits_same n size
+    (sym (ap (λ b. if b then verdict.Fits n else verdict.Denied rule.OverLimit) fits) ∙ e) in
+    omega arith
+  where
+    fits_same : (m n : ℕ) → verdict.Fits m ≡ verdict.Fits n → m ≡ n
+    fits_same m n e = cc
+
+undenied : (b c : Bool) (v : AllocVerdict) (size : ℕ)
+    → unwrap_or (cond b (Some (verdict.Denied rule.Stranger))
+    (cond c (Some (verdict.Denied rule.ForeignArena)) None)) v ≡ verdict.Fits size
+    → v ≡ verdict.Fits size
+undenied true c v size e = absurd (cc)
+undenied false true v size e = absurd (cc)
+undenied false false v size e = e
+
+pub fits_within : (policy : Policy) (actor arena words charged size : ℕ)
+    → alloc_verdict policy actor arena words charged ≡ verdict.Fits size
+    → charged + 8 * size ≤ limit_of policy actor
+fits_within policy actor arena words charged size e =
+    size_within policy actor charged (size_for words) size
+    (undenied (not (is_tenant policy actor)) (not (admits policy arena actor))
+    (verdict_on_size policy actor charged (size_for words)) size e)
 
 -- a stranger's charge is not looked at
 pub stranger_denied : (policy : Policy) (actor arena words one other : ℕ)
@@ -151,3 +186,23 @@ pub size_is : (policy : Policy) (actor arena bytes counted size : ℕ)
 size_is policy actor arena bytes counted size e =
     let parts = fits_parts policy actor arena (words_for bytes) counted size e in
     (ltb-true actor (length policy.tenants) parts.0, sym (ap (λ o. unwrap_or o 0) parts.1))
+
+-- a core judges as the bank does
+pub core_fits : (b : BankState) (worker : ℕ) (actor : Actor) (arena bytes size : ℕ) (k : Kept)
+    → bank_verdict b worker actor arena bytes ≡ verdict.Fits size
+    → k.state.policy ≡ b.policy → IsSound k.state → worker < b.policy.workers
+    → charge k.state worker actor.0 ≤ charge_over b.cores worker actor.0
+    → FitsIn worker actor arena bytes k
+core_fits b worker actor arena bytes size k fits same sound inside low =
+    let sum = charge_over b.cores worker actor.0 in
+    let sized = (size_is b.policy actor.0 arena bytes sum size fits).1 in
+    record {
+      sound = sound;
+      worker_is = subst (λ p. worker < p.workers) (sym same) inside;
+      fits =
+          ap (λ p. alloc_verdict p actor.0 arena (words_for bytes) (charge k.state worker actor.0))
+          same
+          ∙ fits_below b.policy actor.0 arena (words_for bytes) sum
+          (charge k.state worker actor.0) size low fits
+          ∙ ap verdict.Fits sized;
+    }

@@ -41,7 +41,7 @@ none_left : (o : Option ℕ) → cond (is_none o) (Some answer.NoSegment) None �
 none_left None e = absurd (cc)
 none_left (Some n) e = refl
 
-some_left : (o : Option ℕ) (a : Answer) → cond (is_none o) (Some answer.NoSegment) None ≡ Some a
+pub some_left : (o : Option ℕ) (a : Answer) → cond (is_none o) (Some answer.NoSegment) None ≡ Some a
     → is_some o ≡ false
 some_left None a e = refl
 some_left (Some n) a e = absurd (cc)

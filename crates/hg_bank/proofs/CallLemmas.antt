@@ -3,6 +3,7 @@ use Rattle.std.proofs.Common.{◌≡◌, ℕ, ◌+◌, ◌^◌, ◌<◌, ◌≤�
 use Rattle.std.proofs.Common.{set, slice_index_or, sym, ap, subst, ◌∙◌, arith}
 use Rattle.std.specs.Vec.{with_item}
 use Rattle.std.proofs.lemmas.List.{get_or_default}
+use Rattle.hg_core.specs.Opening.{opened}
 use Rattle.hg_machine.specs.declared.Answer.{Answer}
 use Rattle.hg_machine.specs.declared.Event.{Event}
 use Rattle.hg_machine.specs.Charge.{charge}
@@ -17,7 +18,7 @@ use Rattle.hg_bank.specs.Sound.{IsCoreOf, IsSoundBank}
 use Rattle.hg_bank.specs.State.{BankState, charge_over}
 use Rattle.hg_bank.specs.Steps.{BankStep}
 use Rattle.hg_bank.proofs.BankLemmas.{away_step, there_step, core_sound}
-use Rattle.hg_bank.proofs.ChargeLemmas.{is_calm, calm_keeps, others_keep}
+use Rattle.hg_bank.proofs.ChargeLemmas.{is_calm, calm_keeps, charge_small, others_keep}
 use Rattle.hg_bank.proofs.SumLemmas.{over_small, part_of_sum, sums_stay, sums_follow}
 
 -- what holds of the fields, as callers see it
@@ -33,6 +34,46 @@ away a s view worker at core e answer names same past is =
     (away_step (bank_of a) worker core e answer names
     (subst (λ n. length a.cores.items ≤ n) same past)
     is)
+
+-- what a call on a worker's rows finds
+pub record IsRead (a : Inside) (s : BankState) (worker wat : ℕ) (row : List ℕ) : Type 0 where
+  pub kept : IsKept a
+  pub view : bank_of a ≡ s
+  pub below : worker < s.policy.workers
+  pub same : wat ≡ worker
+  pub there : row ≡ slice_index_or a.sums.items wat row
+
+pub read_of : {a : Inside} {s : BankState} {worker wat : ℕ} {row : List ℕ} → IsKept a
+    → bank_of a ≡ s → worker < s.policy.workers → wat ≡ worker
+    → row ≡ slice_index_or a.sums.items wat row → IsRead a s worker wat row
+read_of kept view below same there =
+    record { kept = kept; view = view; below = below; same = same; there = there }
+
+module _ {a : Inside} {s : BankState} {worker wat : ℕ} {row : List ℕ}
+    (read : IsRead a s worker wat row) where
+  pub inside : worker < a.policy.workers
+  inside = subst (λ b. worker < b.policy.workers) (sym read.view) read.below
+
+  pub row_is : (tenant : ℕ) → tenant < length a.policy.tenants
+      → get_or row tenant 0 ≡ charge_over a.cores.items worker tenant
+  row_is tenant less =
+      let long = read.kept.sums.workers in
+      let there = inside in
+      let same = read.same in
+      let at_row : get_or a.sums.items wat [] ≡ row =
+      get_or_default a.sums.items wat [] row (omega arith) ∙ sym read.there in
+      ap (λ r. get_or r tenant 0) (sym at_row)
+      ∙ ap (λ w. get_or (get_or a.sums.items w []) tenant 0) same
+      ∙ read.kept.sums.each worker tenant there less
+
+  pub row_low : (tenant : ℕ) → tenant < length a.policy.tenants → get_or row tenant 0 ≤ 2 ^ 49
+  row_low tenant less =
+      let counts = row_is tenant less in
+      let small = over_small a.cores.items (opened a.policy) worker tenant
+      (λ core below. (read.kept.sound.cores core (opened a.policy) below).sound) in
+      let within = read.kept.sound.within in
+      let most = read.kept.sound.most in
+      omega arith
 
 -- a core that is there, as the call found it
 pub record IsFound (a : Inside) (s : BankState) (at worker : ℕ) (was : Kept) : Type 0 where
@@ -75,36 +116,30 @@ module _ {a : Inside} {s : BankState} {at worker : ℕ} {was : Kept}
   pub core_worker : worker < was.state.policy.workers
   core_worker = subst (λ p. worker < p.workers) (sym core_is.policy) inside_worker
 
-  -- the worker's row of the sums
-  module _ (wat : ℕ) (row : List ℕ) (same : wat ≡ worker)
+  -- the worker's row of the sums: the core's charges can be taken out, and what it has after the
+  -- call put back
+  module _ {wat : ℕ} {row : List ℕ} (same : wat ≡ worker)
       (there : row ≡ slice_index_or a.sums.items wat row) where
-    row_counts : (tenant : ℕ) → tenant < length a.policy.tenants
-        → get_or row tenant 0 ≡ charge_over a.cores.items worker tenant
-    row_counts tenant less =
-        let long = found.kept.sums.workers in
-        let inside = inside_worker in
-        let at_row : get_or a.sums.items wat [] ≡ row =
-        get_or_default a.sums.items wat [] row (omega arith) ∙ sym there in
-        ap (λ r. get_or r tenant 0) (sym at_row)
-        ∙ ap (λ w. get_or (get_or a.sums.items w []) tenant 0) same
-        ∙ found.kept.sums.each worker tenant inside less
+    row_read : IsRead a s worker wat row
+    row_read = read_of found.kept found.view found.worker_is same there
 
     pub covered : (tenant : ℕ) → tenant < length a.policy.tenants
         → charge was.state worker tenant ≤ get_or row tenant 0
     covered tenant less =
-        let counts = row_counts tenant less in
+        let counts = row_is row_read tenant less in
         let part = part_of_sum a.cores.items at was worker tenant found.below in
         let is = ap (λ k. charge k.state worker tenant) found.there in
         omega arith
 
-    pub row_small : (tenant : ℕ) → tenant < length a.policy.tenants
-        → get_or row tenant 0 ≤ 2 ^ 49
-    row_small tenant less =
-        let counts = row_counts tenant less in
-        let small = over_small a.cores.items was worker tenant
-        (λ core below. (found.kept.sound.cores core was below).sound) in
-        let within = found.kept.sound.within in
-        let most = found.kept.sound.most in
+    pub room_for : (mid : List ℕ) (next : Kept) → IsSound next.state
+        → ((tenant : ℕ) → tenant < length a.policy.tenants
+        → get_or mid tenant 0 + charge was.state worker tenant ≡ get_or row tenant 0)
+        → (tenant : ℕ) → tenant < length a.policy.tenants
+        → get_or mid tenant 0 + charge next.state worker tenant < 2 ^ 64
+    room_for mid next sound out tenant less =
+        let low = out tenant less in
+        let few = row_low row_read tenant less in
+        let more = charge_small next.state worker tenant sound in
         omega arith
 
   module _ {next : Kept} {e : Event} {answer : Answer} (called : IsCalled worker was next e answer)
@@ -148,15 +183,15 @@ module _ {a : Inside} {s : BankState} {at worker : ℕ} {was : Kept}
       }
 
       -- a call with the worker's sums before and after it
-      pub counted_call : (core wat : ℕ) (row mid last : List ℕ) → names_core e ≡ true → at ≡ core
-          → wat ≡ worker → row ≡ slice_index_or a.sums.items wat row
+      pub counted_call : (core : ℕ) {wat : ℕ} {row : List ℕ} (mid last : List ℕ)
+          → names_core e ≡ true → at ≡ core → wat ≡ worker → row ≡ slice_index_or a.sums.items wat row
           → ((tenant : ℕ) → tenant < length a.policy.tenants
           → get_or mid tenant 0 + charge was.state worker tenant ≡ get_or row tenant 0)
           → ((tenant : ℕ) → tenant < length a.policy.tenants
           → get_or last tenant 0 ≡ get_or mid tenant 0 + charge next.state worker tenant)
           → IsAfter s worker core e answer
           (record a { cores = with_item a.cores at next; sums = with_item a.sums wat last })
-      counted_call core wat row mid last names same wsame there out in_again = record {
+      counted_call core {wat} {row} mid last names same wsame there out in_again = record {
         kept = record {
           sound = after_sound;
           room = found.kept.room;

@@ -113,7 +113,7 @@ alike r q e = record {
   words = ap (λ x. contents_of x.life) e;
 }
 
-parting_alike : (s : State) (place : ℕ) (e : Event) (a : Answer) (new : State)
+pub parting_alike : (s : State) (place : ℕ) (e : Event) (a : Answer) (new : State)
     → IsParting s place e a new → IsAlike (record_at new place) (record_at s place)
 parting_alike s place (event.Free actor handle) a new p = parted_alike _ _ p.2 p.3
 parting_alike s place (event.Alloc actor arena bytes) a new p = absurd p

@@ -1,65 +1,25 @@
--- Laws of a bank's steps and runs.
-use Rattle.std.proofs.Common.{◌≡◌, ◌≢◌, ◌⊎◌, inl, inr, ℕ, ◌<◌, List, [], ◌∷◌, length, set, Option}
-use Rattle.std.proofs.Common.{Some, None, MatchOption, refl, sym, ap, subst, ◌∙◌, arith}
+-- Laws of a bank's steps and histories.
+use Rattle.std.proofs.Common.{◌≡◌, ◌≢◌, inl, inr, ℕ, true, false, List, []}
+use Rattle.std.proofs.Common.{◌∷◌, ◌++◌, length, get_or, Option, Some, if◌then◌else◌}
+use Rattle.std.proofs.Common.{zero, suc, refl, sym, ap, subst, ◌∙◌, arith}
 use Rattle.std.specs.Prelude.{slice_get}
-use Rattle.std.proofs.lemmas.Bool.{cases_eq, cases_lt}
+use Rattle.std.proofs.lemmas.Bool.{cases_eq, eq-eqb, ne_eqb}
 use Rattle.std.proofs.lemmas.Grind.{get_or-set_at}
-use Rattle.std.proofs.lemmas.List.{length-set, get_or-set_other}
-use Rattle.std.proofs.lemmas.Option.{same_Some, none-some, slice_get-get_or, slice_get_past}
-use Rattle.std.proofs.lemmas.Option.{slice_get_within}
+use Rattle.std.proofs.lemmas.List.{length-append, length-set, get_or-set_other}
+use Rattle.std.proofs.lemmas.Option.{same_Some, none-some, get_or_from_slice_get}
 use Rattle.hg_choice.proofs.ChoiceLemmas.{steps_agree}
 use Rattle.hg_choice.specs.ChosenSteps.{Chosen, ChosenStep}
+use Rattle.hg_core.specs.Opening.{opened}
 use Rattle.hg_machine.specs.declared.Answer.{Answer}
-use Rattle.hg_machine.specs.declared.Event.{Event}
+use Rattle.hg_machine.specs.Holders.{is_number}
 use Rattle.hg_machine.specs.Lists.{Kept}
-use Rattle.hg_bank.specs.Laws.{OthersStay, StepsAreDetermined, AreSomeOf, IsRunOf, EachCoreRuns}
-use Rattle.hg_bank.specs.Requests.{Request, alloc, refill, named, event_of, server, unserved}
+use Rattle.hg_bank.specs.Histories.{Entry, grew, answered, events_at, answers_at}
+use Rattle.hg_bank.specs.Laws.{OthersStay, StepsAreDetermined, IsRunOf, EachCoreRuns}
+use Rattle.hg_bank.specs.Opening.{grown, core_at}
+use Rattle.hg_bank.specs.Requests.{Request, event_of}
 use Rattle.hg_bank.specs.State.{BankState, with_core}
-use Rattle.hg_bank.specs.Steps.{IsServedBy, BankStep, BankRun, moved}
-
-cases_of : (o : Option ℕ) (P : Type 0) (Q : ℕ → Type 0) → MatchOption o P Q
-    → ((o ≡ None) × P) ⊎ ((core : ℕ) × (o ≡ Some core) × Q core)
-cases_of None P Q h = inl (refl, h)
-cases_of (Some core) P Q h = inr (core, refl, h)
-
--- a core serves, or none does
-step_cases : (old : BankState) (worker : ℕ) (request : Request) (answer : Answer) (new : BankState)
-    → BankStep old worker request answer new
-    → ((server old worker request ≡ None) × ((answer ≡ unserved old worker request) × (new ≡ old)))
-    ⊎ ((core : ℕ) × (server old worker request ≡ Some core)
-    × IsServedBy old worker request answer new core)
-step_cases old worker request answer new h =
-    cases_of (server old worker request) _ (IsServedBy old worker request answer new) h
-
-moved_cores : (request : Request) (worker core : ℕ) (b : BankState)
-    → (moved request worker core b).cores ≡ b.cores
-moved_cores (alloc actor arena bytes) worker core b = refl
-moved_cores (refill arena) worker core b = refl
-moved_cores (named other event) worker core b = refl
-
-cores_after : (old : BankState) (worker : ℕ) (request : Request) (answer : Answer)
-    (new : BankState) (core : ℕ) (is : IsServedBy old worker request answer new core)
-    → new.cores ≡ set old.cores core is.next
-cores_after old worker request answer new core is =
-    ap (λ b. b.cores) is.after ∙ moved_cores request worker core (with_core old core is.next)
-
-get_other : (xs : List Kept) (i j : ℕ) (y : Kept) → j ≢ i
-    → slice_get (set xs i y) j ≡ slice_get xs j
-get_other xs i j y ne =
-    let long = length-set xs i y in
-    elim (cases_lt j (length xs)) as (λ _. slice_get (set xs i y) j ≡ slice_get xs j) [
-      | inl less ↦
-          slice_get-get_or (set xs i y) j y (omega arith)
-          ∙ ap Some (get_or-set_other xs i j y y ne)
-          ∙ sym (slice_get-get_or xs j y less)
-      | inr past ↦
-          slice_get_past (set xs i y) j (omega arith) ∙ sym (slice_get_past xs j past)
-    ]
-
-get_same : (xs : List Kept) (i : ℕ) (y : Kept) → i < length xs → slice_get (set xs i y) i ≡ Some y
-get_same xs i y less =
-    let long = length-set xs i y in
-    slice_get-get_or (set xs i y) i y (omega arith) ∙ ap Some (get_or-set_at xs i i y y refl less)
+use Rattle.hg_bank.specs.Steps.{IsServedBy, moved}
+use Rattle.hg_bank.proofs.StepCases.{step_cases, cores_after, core_below, policy_after, get_other}
 
 pub others_stay : OthersStay
 others_stay old new worker request answer core ne h =
@@ -78,9 +38,10 @@ served_agree : (old new last : BankState) (worker : ℕ) (request : Request) (an
     → IsServedBy old worker request given last core → (given ≡ answer) × (last ≡ new)
 served_agree old new last worker request answer given core one other =
     let same = same_Some one.was other.was (sym one.there ∙ other.there) in
+    let second = subst (λ k. ChosenStep k worker (event_of request) given other.next) (sym same)
+    other.step in
     let agree = steps_agree one.was worker (event_of request) answer given one.next other.next
-    one.step
-    (subst (λ k. ChosenStep k worker (event_of request) given other.next) (sym same) other.step) in (
+    one.step second in (
       agree.0,
       other.after ∙ ap (λ k. moved request worker core (with_core old core k)) agree.1
           ∙ sym one.after,
@@ -107,74 +68,111 @@ steps_are_determined old new last worker request answer given one other =
           ]
     ]
 
--- with one more request
-more : (events : List (ℕ × Event)) (told : List Answer) (r : ℕ × Request) (b : Answer)
-    (requests : List (ℕ × Request)) (answers : List Answer)
-    → AreSomeOf events told requests answers → AreSomeOf events told (r ∷ requests) (b ∷ answers)
-more [] [] r b requests answers h = tt
-more [] (a ∷ told) r b requests answers h = absurd h
-more (e ∷ events) [] r b requests answers h = absurd h
-more (e ∷ events) (a ∷ told) r b requests answers h = inr h
+-- one more core, as it opens, changes nothing at a number
+padded : (xs : List Kept) (k : Kept) (i : ℕ) → get_or (xs ++ k ∷ []) i k ≡ get_or xs i k
+padded [] k zero = refl
+padded [] k (suc i) = refl
+padded (x ∷ xs) k zero = refl
+padded (x ∷ xs) k (suc i) = padded xs k i
 
-passed : (core : ℕ) (k : Kept) (r : ℕ × Request) (b : Answer) (requests : List (ℕ × Request))
-    (answers : List Answer) (new : BankState) → IsRunOf core k requests answers new
-    → IsRunOf core k (r ∷ requests) (b ∷ answers) new
-passed core k r b requests answers new is = record {
-  events = is.events;
-  told = is.told;
-  last = is.last;
-  some = more is.events is.told r b requests answers is.some;
-  run = is.run;
-  there = is.there;
-}
+-- what a core was asked and answered, with one more entry, by whether it served
+module _ (core : ℕ) (k last : Kept) (w : ℕ) (request : Request) (served : Option ℕ)
+    (answer : Answer) (later : List Entry) where
+  passed : is_number core served ≡ false
+      → Chosen k (events_at core later) (answers_at core later) last
+      → Chosen k (events_at core (answered w request served answer ∷ later))
+      (answers_at core (answered w request served answer ∷ later)) last
+  passed e run =
+      subst (λ b. Chosen k
+      (if b then (w, event_of request) ∷ events_at core later else events_at core later)
+      (if b then answer ∷ answers_at core later else answers_at core later) last)
+      (sym e) run
+
+  joined : {next : Kept} → is_number core served ≡ true
+      → ChosenStep k w (event_of request) answer next
+      → Chosen next (events_at core later) (answers_at core later) last
+      → Chosen k (events_at core (answered w request served answer ∷ later))
+      (answers_at core (answered w request served answer ∷ later)) last
+  joined {next} e step run =
+      subst (λ b. Chosen k
+      (if b then (w, event_of request) ∷ events_at core later else events_at core later)
+      (if b then answer ∷ answers_at core later else answers_at core later) last)
+      (sym e) (next, step, run)
+
+-- the core at a number after a step: the one that served, or as it was
+module _ {old mid : BankState} {w : ℕ} {request : Request} {answer : Answer} {at : ℕ}
+    (is : IsServedBy old w request answer mid at) where
+  opens_alike : opened mid.policy ≡ opened old.policy
+  opens_alike = ap opened (policy_after is)
+
+  was_at : core_at old at ≡ is.was
+  was_at = get_or_from_slice_get old.cores at is.was (opened old.policy) is.there
+
+  next_at : core_at mid at ≡ is.next
+  next_at =
+      ap (λ xs. get_or xs at (opened mid.policy)) (cores_after old w request answer mid at is)
+      ∙ get_or-set_at old.cores at at is.next (opened mid.policy) refl (core_below is)
+
+  other_at : (core : ℕ) → core ≢ at → core_at mid core ≡ core_at old core
+  other_at core ne =
+      ap (λ xs. get_or xs core (opened mid.policy)) (cores_after old w request answer mid at is)
+      ∙ get_or-set_other old.cores at core is.next (opened mid.policy) ne
+      ∙ ap (get_or old.cores core) opens_alike
+
+  as_many : length mid.cores ≡ length old.cores
+  as_many =
+      ap length (cores_after old w request answer mid at is) ∙ length-set old.cores at is.next
 
 pub each_core_runs : EachCoreRuns
-each_core_runs old new [] [] core k run there = record {
-  events = [];
-  told = [];
-  last = k;
-  some = tt;
-  run = refl;
-  there = ap (λ b. slice_get b.cores core) run ∙ there;
+each_core_runs old new [] core run = record {
+  run = ap (λ b. core_at b core) run;
+  stays = let e = ap (λ b. length b.cores) run in omega arith;
 }
-each_core_runs old new [] (a ∷ answers) core k run there = absurd run
-each_core_runs old new (r ∷ requests) [] core k run there = absurd run
-each_core_runs old new (r ∷ requests) (a ∷ answers) core k run there =
-    let mid = run.0 in
-    elim (step_cases old r.0 r.1 a mid run.1) as
-    (λ _. IsRunOf core k (r ∷ requests) (a ∷ answers) new) [
+each_core_runs old new (grew ∷ later) core run =
+    let rest = each_core_runs (grown old) new later core run.1 in
+    let more = length-append old.cores (opened old.policy ∷ []) in
+    let stays = rest.stays in
+    record {
+      run = subst (λ k. Chosen k (events_at core later) (answers_at core later) (core_at new core))
+          (padded old.cores (opened old.policy) core) rest.run;
+      stays = omega arith;
+    }
+each_core_runs old new (answered w request served answer ∷ later) core run =
+    let mid = run.1.0 in
+    let rest = each_core_runs mid new later core run.1.2 in
+    let stays = rest.stays in
+    elim (step_cases old w request answer mid run.1.1) as
+    (λ _. IsRunOf core old (answered w request served answer ∷ later) new) [
       | inl none ↦
-          passed core k r a requests answers new
-          (each_core_runs mid new requests answers core k run.2
-          (ap (λ b. slice_get b.cores core) none.1.1 ∙ there))
-      | inr served ↦
-          elim (cases_eq core served.0) as
-          (λ _. IsRunOf core k (r ∷ requests) (a ∷ answers) new) [
-            | inr ne ↦
-                passed core k r a requests answers new
-                (each_core_runs mid new requests answers core k run.2
-                (ap (λ xs. slice_get xs core) (cores_after old r.0 r.1 a mid served.0 served.2)
-                ∙ get_other old.cores served.0 core served.2.next ne ∙ there))
-            | inl here ↦
-                let is = served.2 in
-                let below = slice_get_within old.cores served.0 is.was is.there in
-                let same = same_Some k is.was
-                (sym there ∙ ap (slice_get old.cores) here ∙ is.there) in
-                let rest = each_core_runs mid new requests answers core is.next run.2
-                (ap (slice_get mid.cores) here
-                ∙ ap (λ xs. slice_get xs served.0) (cores_after old r.0 r.1 a mid served.0 is)
-                ∙ get_same old.cores served.0 is.next below) in
-                record {
-                  events = (r.0, event_of r.1) ∷ rest.events;
-                  told = a ∷ rest.told;
-                  last = rest.last;
-                  some = inl (refl, refl, rest.some);
-                  run = (
-                    is.next,
-                    subst (λ x. ChosenStep x r.0 (event_of r.1) a is.next) (sym same) is.step,
-                    rest.run,
-                  );
-                  there = rest.there;
-                }
+          let same = none.1.1 in
+          record {
+            run = passed core (core_at old core) (core_at new core) w request served answer later
+                (ap (is_number core) (run.0 ∙ none.0))
+                (subst (λ k. Chosen k (events_at core later) (answers_at core later)
+                (core_at new core)) (ap (λ b. core_at b core) same) rest.run);
+            stays = let e = ap (λ b. length b.cores) same in omega arith;
+          }
+      | inr by ↦
+          let at = by.0 in
+          let is = by.2 in
+          let long = as_many is in
+          elim (cases_eq core at) as
+          (λ _. IsRunOf core old (answered w request served answer ∷ later) new) [
+            | inr ne ↦ record {
+              run = passed core (core_at old core) (core_at new core) w request served answer later
+                  (ap (is_number core) (run.0 ∙ by.1) ∙ ne_eqb at core (λ e. ne (sym e)))
+                  (subst (λ k. Chosen k (events_at core later) (answers_at core later)
+                  (core_at new core)) (other_at is core ne) rest.run);
+              stays = omega arith;
+            }
+            | inl here ↦ record {
+              run = joined core (core_at old core) (core_at new core) w request served answer later
+                  (ap (is_number core) (run.0 ∙ by.1) ∙ eq-eqb at core (sym here))
+                  (subst (λ k. ChosenStep k w (event_of request) answer is.next)
+                  (sym (ap (core_at old) here ∙ was_at is)) is.step)
+                  (subst (λ k. Chosen k (events_at core later) (answers_at core later)
+                  (core_at new core)) (ap (core_at mid) here ∙ next_at is) rest.run);
+              stays = omega arith;
+            }
           ]
     ]

@@ -1,11 +1,12 @@
 -- The first number of a range that passes.
 use Rattle.std.proofs.Common.{◌≡◌, ℕ, ◌+◌, ◌-◌, ◌<◌, ◌≤◌, inl, inr, Bool, true, false, cond, Option}
 use Rattle.std.proofs.Common.{Some}
-use Rattle.std.proofs.Common.{None, find, refl, ap, ◌∙◌, arith, zero, suc}
+use Rattle.std.proofs.Common.{None, find, refl, sym, ap, ◌∙◌, arith, zero, suc}
 use Rattle.std.specs.List.{range_with_len}
-use Rattle.std.proofs.lemmas.Bool.{cases_eq}
+use Rattle.std.proofs.lemmas.Bool.{cases_Bool, cases_eq, cases_lt}
 use Rattle.std.specs.Option.{option_or}
 use Rattle.std.proofs.lemmas.List.Folds.{find-append}
+use Rattle.std.proofs.lemmas.Option.{none-some}
 use Rattle.hg_bank.specs.Order.{round_from}
 
 -- none passes
@@ -63,3 +64,37 @@ found_later p current count o e f =
     find-append p (range_with_len current (count - current)) (range_with_len 0 current)
     ∙ ap (λ x. option_or x (find p (range_with_len 0 current))) e
     ∙ ap (λ n. find p (range_with_len 0 n)) same ∙ f
+
+-- where none is found none passes
+none_in : (p : ℕ → Bool) (first count n : ℕ) → find p (range_with_len first count) ≡ None
+    → first ≤ n → n < first + count → p n ≡ false
+none_in p first zero n e low high = absurd (omega arith)
+none_in p first (suc count) n e low high =
+    let rest = find p (range_with_len (first + 1) count) in
+    elim (cases_Bool (p first)) as (λ _. p n ≡ false) [
+      | inl there ↦
+          absurd (none-some first (sym e ∙ ap (λ b. cond b (Some first) rest) there))
+      | inr not ↦
+          elim (cases_eq n first) as (λ _. p n ≡ false) [
+            | inl here ↦ ap p here ∙ not
+            | inr ne ↦
+                none_in p (first + 1) count n
+                (sym (ap (λ b. cond b (Some first) rest) not) ∙ e) (omega arith) (omega arith)
+          ]
+    ]
+
+neither : (o q : Option ℕ) → option_or o q ≡ None → (o ≡ None) × (q ≡ None)
+neither None q e = (refl, e)
+neither (Some n) q e = absurd (none-some n (sym e))
+
+pub none_in_round : (p : ℕ → Bool) (current count n : ℕ)
+    → find p (round_from current count) ≡ None → current ≤ count → n < count → p n ≡ false
+none_in_round p current count n e inside below =
+    let both = neither (find p (range_with_len current (count - current)))
+    (find p (range_with_len 0 current))
+    (sym (find-append p (range_with_len current (count - current)) (range_with_len 0 current)) ∙ e)
+    in
+    elim (cases_lt n current) as (λ _. p n ≡ false) [
+      | inl less ↦ none_in p 0 current n both.1 (omega arith) (omega arith)
+      | inr past ↦ none_in p current (count - current) n both.0 past (omega arith)
+    ]

@@ -8,4 +8,7 @@ pub mod Kept
 pub mod Choosing
 pub mod Answers
 pub mod Charges
+pub mod Histories
 pub mod Laws
+pub mod Limits
+pub mod Hidden

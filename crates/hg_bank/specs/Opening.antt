@@ -1,7 +1,7 @@
 -- What a bank opens with, and how it grows.
-use Rattle.std.specs.Prelude.{ℕ, [], ◌∷◌, ◌++◌, replicate}
+use Rattle.std.specs.Prelude.{ℕ, [], ◌∷◌, ◌++◌, replicate, slice_index_or}
 use Rattle.hg_core.specs.Opening.{opened}
-use Rattle.hg_machine.specs.Lists.{IsPartition}
+use Rattle.hg_machine.specs.Lists.{Kept, IsPartition}
 use Rattle.hg_machine.specs.Policy.{Policy}
 use Rattle.hg_machine.specs.Soundness.{IsSound}
 use Rattle.hg_bank.specs.declared.bank.TheConstants.{ARENAS}
@@ -29,3 +29,7 @@ grown b = record {
   cores = b.cores ++ opened b.policy ∷ [];
   currents = b.currents;
 }
+
+-- the core of a number; one that isn't there yet, as it will open
+abbrev pub core_at : BankState → ℕ → Kept
+core_at b core = slice_index_or b.cores core (opened b.policy)

@@ -1,5 +1,5 @@
--- The steps of a bank, and its runs.
-use Rattle.std.specs.Prelude.{◌≡◌, ℕ, List, [], ◌∷◌, MatchOption, Some, slice_get}
+-- The steps of a bank.
+use Rattle.std.specs.Prelude.{◌≡◌, ℕ, MatchOption, Some, slice_get}
 use Rattle.hg_machine.specs.declared.Answer.{Answer}
 use Rattle.hg_machine.specs.Lists.{Kept}
 use Rattle.hg_bank.specs.Requests.{Request, alloc, refill, named, event_of, server, unserved}
@@ -28,12 +28,3 @@ BankStep old worker request answer new =
     MatchOption (server old worker request)
     ((answer ≡ unserved old worker request) × (new ≡ old))
     (IsServedBy old worker request answer new)
-
--- from old, the requests of these workers are answered so one after another, and leave new
-abbrev pub BankRun : BankState → List (ℕ × Request) → List Answer → BankState → Type 0
-BankRun old [] [] new = new ≡ old
-BankRun old (request ∷ requests) (answer ∷ answers) new =
-    (mid : BankState) × BankStep old request.0 request.1 answer mid
-    × BankRun mid requests answers new
-BankRun old [] (answer ∷ answers) new = ⊥
-BankRun old (request ∷ requests) [] new = ⊥

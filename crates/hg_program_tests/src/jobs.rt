@@ -154,8 +154,14 @@ static JOBS: [(&[&str], Told<'static>); 30] = [
     (&["--json"], ("json joined", "", "", 0)),
     (&["--json", "--explain"], ("json joined", "", "", 0)),
     (&["replay", "--json", "p", "t"], ("json", "p", "t", 0)),
-    (&["replay", "p", "t", "--json", "--explain"], ("json", "p", "t", 0)),
-    (&["replay", "p", "--", "--json"], ("replay", "p", "--json", 0)),
+    (
+        &["replay", "p", "t", "--json", "--explain"],
+        ("json", "p", "t", 0),
+    ),
+    (
+        &["replay", "p", "--", "--json"],
+        ("replay", "p", "--json", 0),
+    ),
     (&["replay", "--explain", "p", "t"], ("explain", "p", "t", 0)),
     (&["replay", "p", "--explain", "t"], ("explain", "p", "t", 0)),
     (&["replay", "p", "t", "--explain"], ("explain", "p", "t", 0)),

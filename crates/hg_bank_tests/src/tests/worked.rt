@@ -64,19 +64,25 @@ fn asked_round_and_round(rt: HostRuntime) {
     drop(bank);
 }
 
-// A limit counts over all cores.
-#[test]
-fn limit_over_all_cores(rt: HostRuntime) {
-    let mut bank = bank(&rt, rt.alloc());
-    assert_eq!(&rt; grow(&rt, &mut bank, rt.alloc()), Some(1));
-    assert_eq!(&rt; grow(&rt, &mut bank, rt.alloc()), Some(2));
-    assert!(&rt; bank.is_full());
+/// A bank of three cores, in each of which worker 0 holds the segment for two tenants.
+fn held(rt: &impl Abort, memory: Global) -> Bank {
+    let mut bank = bank(rt, memory);
+    assert_eq!(rt; grow(rt, &mut bank, memory), Some(1));
+    assert_eq!(rt; grow(rt, &mut bank, memory), Some(2));
+    assert!(rt; bank.is_full());
     for core in 0..3 {
-        assert_eq!(&rt;
-            refill(&rt, &mut bank, 0, MAIN),
+        assert_eq!(rt;
+            refill(rt, &mut bank, 0, MAIN),
             Ok(BankSegment { core, segment: 0 })
         );
     }
+    bank
+}
+
+// A limit counts over all cores.
+#[test]
+fn limit_over_all_cores(rt: HostRuntime) {
+    let mut bank = held(&rt, rt.alloc());
     assert_eq!(&rt;
         core_of(alloc(&rt, &mut bank, 0, ALICE, MAIN, SEGMENT)),
         Some(2)

@@ -2,9 +2,8 @@ use Rattle.std.proofs.Common.{refl, arith}
 use Rattle.std.specs.Vec.{with_item}
 use Rattle.hg_core.specs.Answers.{free_answer}
 use Rattle.hg_machine.specs.declared.Event.TheVariants as Event
-use Rattle.hg_bank.proofs.CallLemmas.{IsAfter, found, inside_worker, covered, row_small}
+use Rattle.hg_bank.proofs.CallLemmas.{IsAfter, found, inside_worker, covered, room_for}
 use Rattle.hg_bank.proofs.CallLemmas.{counted_call}
-use Rattle.hg_bank.proofs.ChargeLemmas.{charge_small}
 use Rattle.hg_bank.proofs.bank.Bank.free.Goals as goal
 
 pub index_mut-row-requires : goal.index_mut-row-requires
@@ -18,19 +17,15 @@ pub withdraw-requires-clause-covered : goal.withdraw-requires-clause-covered
 withdraw-requires-clause-covered c tenant less =
     let f = found c.self.invariant c.self.view_is c.index_mut-core.ensures.value
     (omega (arith, c.self.inside.cores.ok.0)) c.requires.worker in
-    covered f c.from-3.result c.index_mut-row.result.now c.from-3.ensures
-    c.index_mut-row.ensures.value tenant (omega arith)
+    covered f c.from-3.ensures c.index_mut-row.ensures.value tenant (omega arith)
 
 pub deposit-requires-clause-room : goal.deposit-requires-clause-room
 deposit-requires-clause-room c tenant less =
     let f = found c.self.invariant c.self.view_is c.index_mut-core.ensures.value
     (omega (arith, c.self.inside.cores.ok.0)) c.requires.worker in
-    let few = row_small f c.from-3.result c.index_mut-row.result.now c.from-3.ensures
-    c.index_mut-row.ensures.value tenant (omega arith) in
-    let out = c.withdraw.ensures tenant less in
-    let more = charge_small c.free-freed.new.self.state c.args.worker tenant
-    c.free-freed.ensures.kept.0 in
-    omega arith
+    room_for f c.from-3.ensures c.index_mut-row.ensures.value c.withdraw.new.row
+    c.free-freed.new.self c.free-freed.ensures.kept.0
+    (λ t below. c.withdraw.ensures t (omega arith)) tenant (omega arith)
 
 after : (c : goal.After-self-2-1) → IsAfter c.args.self.now c.args.worker c.args.block.core
     (Event.Free c.args.actor c.args.block.handle) (free_answer c.free-freed.result)
@@ -43,9 +38,8 @@ after c =
     (found c.self.invariant c.self.view_is c.index_mut-core.ensures.value
     (omega (arith, c.self.inside.cores.ok.0)) c.requires.worker)
     (record { step = c.free-freed.ensures.chosen; kept = c.free-freed.ensures.kept })
-    c.args.block.core c.from-3.result c.index_mut-row.result.now c.withdraw.new.row
-    c.deposit.new.row
-    refl c.from-2.ensures c.from-3.ensures c.index_mut-row.ensures.value
+    c.args.block.core c.withdraw.new.row c.deposit.new.row refl c.from-2.ensures
+    c.from-3.ensures c.index_mut-row.ensures.value
     (λ tenant less. c.withdraw.ensures tenant (omega arith))
     (λ tenant less. c.deposit.ensures tenant (omega arith))
 
