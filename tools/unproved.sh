@@ -25,7 +25,7 @@ unproved() {
         shift
         [ "$it" != -- ] || ended=yes
         case $ended$it in
-            --explain | --json) options="$options $it" ;;
+            --explain | --json | --map | --svg) options="$options $it" ;;
             *) set -- "$@" "$it" ;;
         esac
     done
@@ -37,7 +37,7 @@ unproved() {
             lend policy "$2"
             set -- "$1" policy
             ;;
-        check/3 | replay/3)
+        check/3 | replay/3 | state/3)
             lend policy "$2"
             lend trace "$3"
             set -- "$1" policy trace

@@ -5,10 +5,11 @@ use Rattle.clap.specs.Walk.{walked}
 use Rattle.clap.specs.declared.error.kind.ErrorKind.{ErrorKind}
 use Rattle.clap.specs.declared.error.kind.ErrorKind.TheVariants as kind
 use Rattle.hg_job.specs.Jobs.{IsDecimal, IsNumber, RefusedBy, faults_of}
-use Rattle.hg_job.specs.JobLaws.{OptionsAreJobs, OptionsExplain, WordsAreJobs, RequestsArePrinted, IsPrinted, IsTold}
+use Rattle.hg_job.specs.JobLaws.{OptionsAreJobs, OptionsExplain, StatesAreJobs, WordsAreJobs, RequestsArePrinted, IsPrinted, IsTold}
 use Rattle.hg_job.specs.declared.job.Job.TheVariants.{Joined, Check, Replay, Race, Test, Show}
 use Rattle.hg_job.specs.declared.job.Job.TheVariants.{ExplainJoined, Explain, CheckTrace, ShowJson}
 use Rattle.hg_job.specs.declared.job.Job.TheVariants.{ExplainJoinedJson, ExplainJson}
+use Rattle.hg_job.specs.declared.job.Job.TheVariants.{State, StateJson, StateMap, StateSvg}
 use Rattle.hg_job.specs.declared.job.JobFault.{JobFault}
 use Rattle.hg_job.specs.declared.job.JobFault.TheVariants.{Print, Line, Memory}
 
@@ -23,6 +24,9 @@ test_is_no_show e = let first : 116 ≡ 115 = ap (λ text. slice_index text 0) e
 
 test_is_no_race : codes "test" ≡ codes "race" → ⊥
 test_is_no_race e = let first : 116 ≡ 114 = ap (λ text. slice_index text 0) e in omega (arith, first)
+
+check_is_no_state : codes "check" ≡ codes "state" → ⊥
+check_is_no_state e = let first : 99 ≡ 115 = ap (λ text. slice_index text 0) e in omega (arith, first)
 
 -- what a command asks for, behind no option
 job_of : {A B : Type 0} → A × B → B
@@ -142,6 +146,42 @@ words_are_jobs (ShowJson policy) = (
   (λ h. let given = (job_of h).2 in absurd (cc)),
   (λ h. let e = (job_of h).0 in absurd (cc)),
 )
+words_are_jobs (State policy trace) = (
+  (λ e. e),
+  (λ h. absurd (check_is_no_state (job_of h).0)),
+  (λ h. let e = (job_of h).0 in absurd (cc)),
+  (λ h. let e = (job_of h).0 in absurd (cc)),
+  (λ h. let e = (job_of h).0 in absurd (cc)),
+  (λ h. let e = (job_of h).0 in absurd (cc)),
+  (λ h. absurd (check_is_no_state (job_of h).0)),
+)
+words_are_jobs (StateJson policy trace) = (
+  (λ e. e),
+  (λ h. absurd (check_is_no_state (job_of h).0)),
+  (λ h. let e = (job_of h).0 in absurd (cc)),
+  (λ h. let e = (job_of h).0 in absurd (cc)),
+  (λ h. let e = (job_of h).0 in absurd (cc)),
+  (λ h. let e = (job_of h).0 in absurd (cc)),
+  (λ h. absurd (check_is_no_state (job_of h).0)),
+)
+words_are_jobs (StateMap policy trace) = (
+  (λ e. e),
+  (λ h. absurd (check_is_no_state (job_of h).0)),
+  (λ h. let e = (job_of h).0 in absurd (cc)),
+  (λ h. let e = (job_of h).0 in absurd (cc)),
+  (λ h. let e = (job_of h).0 in absurd (cc)),
+  (λ h. let e = (job_of h).0 in absurd (cc)),
+  (λ h. absurd (check_is_no_state (job_of h).0)),
+)
+words_are_jobs (StateSvg policy trace) = (
+  (λ e. e),
+  (λ h. absurd (check_is_no_state (job_of h).0)),
+  (λ h. let e = (job_of h).0 in absurd (cc)),
+  (λ h. let e = (job_of h).0 in absurd (cc)),
+  (λ h. let e = (job_of h).0 in absurd (cc)),
+  (λ h. let e = (job_of h).0 in absurd (cc)),
+  (λ h. absurd (check_is_no_state (job_of h).0)),
+)
 
 pub options_are_jobs : OptionsAreJobs
 unfolding walked
@@ -253,10 +293,145 @@ options_are_jobs (ExplainJson policy trace) = (
   (λ e. e),
   (λ h. let job = job_of h in (job.1, job.2)),
 )
+options_are_jobs (State policy trace) = (
+  (λ e. e),
+  (λ h. let e = (job_of h).0 in absurd (cc)),
+  (λ h. let e = (job_of h).0 in absurd (cc)),
+  (λ h. let e = (job_of h).0 in absurd (cc)),
+  (λ e. e),
+  (λ e. e),
+  (λ h. let e = (job_of h).0 in absurd (cc)),
+)
+options_are_jobs (StateJson policy trace) = (
+  (λ e. e),
+  (λ h. let e = (job_of h).0 in absurd (cc)),
+  (λ h. let e = (job_of h).0 in absurd (cc)),
+  (λ h. let e = (job_of h).0 in absurd (cc)),
+  (λ e. e),
+  (λ e. e),
+  (λ h. let e = (job_of h).0 in absurd (cc)),
+)
+options_are_jobs (StateMap policy trace) = (
+  (λ e. e),
+  (λ h. let e = (job_of h).0 in absurd (cc)),
+  (λ h. let e = (job_of h).0 in absurd (cc)),
+  (λ h. let e = (job_of h).0 in absurd (cc)),
+  (λ e. e),
+  (λ e. e),
+  (λ h. let e = (job_of h).0 in absurd (cc)),
+)
+options_are_jobs (StateSvg policy trace) = (
+  (λ e. e),
+  (λ h. let e = (job_of h).0 in absurd (cc)),
+  (λ h. let e = (job_of h).0 in absurd (cc)),
+  (λ h. let e = (job_of h).0 in absurd (cc)),
+  (λ e. e),
+  (λ e. e),
+  (λ h. let e = (job_of h).0 in absurd (cc)),
+)
+
+pub states_are_jobs : StatesAreJobs
+unfolding walked
+states_are_jobs Joined = (
+  (λ h. job_of h),
+  (λ h. job_of h),
+  (λ h. job_of h),
+  (λ h. job_of h),
+)
+states_are_jobs ExplainJoined = (
+  (λ h. job_of h),
+  (λ h. job_of h),
+  (λ h. job_of h),
+  (λ h. job_of h),
+)
+states_are_jobs ExplainJoinedJson = (
+  (λ h. job_of h),
+  (λ h. job_of h),
+  (λ h. job_of h),
+  (λ h. job_of h),
+)
+states_are_jobs (Check policy) = (
+  (λ h. absurd (check_is_no_state (sym (job_of h).0))),
+  (λ h. absurd (check_is_no_state (sym (job_of h).0))),
+  (λ h. absurd (check_is_no_state (sym (job_of h).0))),
+  (λ h. absurd (check_is_no_state (sym (job_of h).0))),
+)
+states_are_jobs (CheckTrace policy trace) = (
+  (λ h. absurd (check_is_no_state (sym (job_of h).0))),
+  (λ h. absurd (check_is_no_state (sym (job_of h).0))),
+  (λ h. absurd (check_is_no_state (sym (job_of h).0))),
+  (λ h. absurd (check_is_no_state (sym (job_of h).0))),
+)
+states_are_jobs (Replay policy trace) = (
+  (λ h. let e = (job_of h).0 in absurd (cc)),
+  (λ h. let e = (job_of h).0 in absurd (cc)),
+  (λ h. let e = (job_of h).0 in absurd (cc)),
+  (λ h. let e = (job_of h).0 in absurd (cc)),
+)
+states_are_jobs (Explain policy trace) = (
+  (λ h. let e = (job_of h).0 in absurd (cc)),
+  (λ h. let e = (job_of h).0 in absurd (cc)),
+  (λ h. let e = (job_of h).0 in absurd (cc)),
+  (λ h. let e = (job_of h).0 in absurd (cc)),
+)
+states_are_jobs (ExplainJson policy trace) = (
+  (λ h. let e = (job_of h).0 in absurd (cc)),
+  (λ h. let e = (job_of h).0 in absurd (cc)),
+  (λ h. let e = (job_of h).0 in absurd (cc)),
+  (λ h. let e = (job_of h).0 in absurd (cc)),
+)
+states_are_jobs (Race policy rounds) = (
+  (λ h. let e = (job_of h).0 in absurd (cc)),
+  (λ h. let e = (job_of h).0 in absurd (cc)),
+  (λ h. let e = (job_of h).0 in absurd (cc)),
+  (λ h. let e = (job_of h).0 in absurd (cc)),
+)
+states_are_jobs (Test policy traces) = (
+  (λ h. let e = (job_of h).0 in absurd (cc)),
+  (λ h. let e = (job_of h).0 in absurd (cc)),
+  (λ h. let e = (job_of h).0 in absurd (cc)),
+  (λ h. let e = (job_of h).0 in absurd (cc)),
+)
+states_are_jobs (Show policy) = (
+  (λ h. let e = (job_of h).0 in absurd (cc)),
+  (λ h. let e = (job_of h).0 in absurd (cc)),
+  (λ h. let e = (job_of h).0 in absurd (cc)),
+  (λ h. let e = (job_of h).0 in absurd (cc)),
+)
+states_are_jobs (ShowJson policy) = (
+  (λ h. let e = (job_of h).0 in absurd (cc)),
+  (λ h. let e = (job_of h).0 in absurd (cc)),
+  (λ h. let e = (job_of h).0 in absurd (cc)),
+  (λ h. let e = (job_of h).0 in absurd (cc)),
+)
+states_are_jobs (State policy trace) = (
+  (λ h. (job_of h).1.0),
+  (λ h. let given = (job_of h).1.1 in absurd (cc)),
+  (λ h. let given = (job_of h).1.2 in absurd (cc)),
+  (λ h. let given = (job_of h).1.3 in absurd (cc)),
+)
+states_are_jobs (StateJson policy trace) = (
+  (λ h. let given = (job_of h).1.1 in absurd (cc)),
+  (λ h. (job_of h).1.0),
+  (λ h. let given = (job_of h).1.1 in absurd (cc)),
+  (λ h. let given = (job_of h).1.1 in absurd (cc)),
+)
+states_are_jobs (StateMap policy trace) = (
+  (λ h. let given = (job_of h).1.1 in absurd (cc)),
+  (λ h. let given = (job_of h).1.1 in absurd (cc)),
+  (λ h. (job_of h).1.0),
+  (λ h. let given = (job_of h).1.1 in absurd (cc)),
+)
+states_are_jobs (StateSvg policy trace) = (
+  (λ h. let given = (job_of h).1.1 in absurd (cc)),
+  (λ h. let given = (job_of h).1.1 in absurd (cc)),
+  (λ h. let given = (job_of h).1.1 in absurd (cc)),
+  (λ h. (job_of h).1.0),
+)
 
 pub options_explain : OptionsExplain
 unfolding walked
-options_explain = (refl, refl, refl, refl, refl, refl, refl)
+options_explain = (refl, refl, refl, refl, refl, refl, refl, refl, refl)
 
 -- where a request is all that the words may be refused for
 only_printed : (k : ErrorKind) → (k ≡ kind.DisplayHelp) ⊎ (k ≡ kind.DisplayVersion) → (fault : JobFault) → RefusedBy (k ∷ []) fault → IsPrinted fault
@@ -332,6 +507,14 @@ faults_of-two_inputs : faults_of (codes "replay" ∷ codes "-" ∷ codes "-" ∷
 unfolding walk_fault walked defaults_fault
 faults_of-two_inputs = refl
 
+faults_of-two_forms : faults_of (codes "state" ∷ codes "p" ∷ codes "t" ∷ codes "--json" ∷ codes "--map" ∷ []) ≡ kind.ArgumentConflict ∷ []
+unfolding walk_fault walked defaults_fault
+faults_of-two_forms = refl
+
+faults_of-other_forms : faults_of (codes "state" ∷ codes "p" ∷ codes "t" ∷ codes "--svg" ∷ codes "--map" ∷ []) ≡ kind.ArgumentConflict ∷ []
+unfolding walk_fault walked defaults_fault
+faults_of-other_forms = refl
+
 pub requests_are_printed : RequestsArePrinted
 requests_are_printed fault = (
   (λ h. only_printed kind.DisplayHelp (inl refl) fault (subst (λ ks. RefusedBy ks fault) faults_of-help h)),
@@ -345,4 +528,6 @@ requests_are_printed fault = (
   (λ h. only_printed kind.DisplayHelp (inl refl) fault (subst (λ ks. RefusedBy ks fault) faults_of-help_check h)),
   (λ h. only_told kind.UnknownArgument kind.InvalidSubcommand (λ e. cc) (λ e. cc) (λ e. cc) (λ e. cc) fault (subst (λ ks. RefusedBy ks fault) faults_of-help_jump h)),
   (λ h. only_one_told kind.ArgumentConflict (λ e. cc) (λ e. cc) fault (subst (λ ks. RefusedBy ks fault) faults_of-two_inputs h)),
+  (λ h. only_one_told kind.ArgumentConflict (λ e. cc) (λ e. cc) fault (subst (λ ks. RefusedBy ks fault) faults_of-two_forms h)),
+  (λ h. only_one_told kind.ArgumentConflict (λ e. cc) (λ e. cc) fault (subst (λ ks. RefusedBy ks fault) faults_of-other_forms h)),
 )

@@ -1,7 +1,7 @@
 -- What words are answered against which the parser has nothing, and something else may be.
 use Rattle.std.proofs.Common.{◌≡◌, ◌∙◌, ◌⊎◌, inl, inr, ap, refl, sym, subst, true, false, Bool, List, [], ◌∷◌, Option, Some, None}
 use Rattle.std.proofs.lemmas.Result.{IfOk-weaker, IfErr-weaker}
-use Rattle.std.specs.Prelude.{Result, Ok, Err, IfOk, IfErr, option_map, ◌&&◌, codes, if◌then◌else◌}
+use Rattle.std.specs.Prelude.{Result, Ok, Err, IfOk, IfErr, option_map, ◌&&◌, ◌||◌, codes, if◌then◌else◌}
 use Rattle.std.specs.Str.{bytes_eq}
 use Rattle.clap.specs.Words.{App, Row, Text, fault_of, is_simple, is_simple_and_free, matches_of, subcommand_of, takes}
 use Rattle.clap.specs.Kinds.{Kinds, IsAmong, or_else}
@@ -9,7 +9,7 @@ use Rattle.clap.specs.declared.error.kind.ErrorKind.{ErrorKind}
 use Rattle.clap.specs.declared.error.kind.ErrorKind.TheVariants.{ArgumentConflict}
 use Rattle.hg_job.specs.CommandLine.{heapguard}
 use Rattle.hg_job.specs.Jobs.{IsJobAt, IsJobOf, IsKnown, IsTaskAt, RefusedBy, TellsOf, accepts, against, against_words, faults_of}
-use Rattle.hg_job.specs.Jobs.{help_faults, has_option, is_none, reads_twice, twice_faults}
+use Rattle.hg_job.specs.Jobs.{clash_faults, has_option, has_two_forms, help_faults, is_none, reads_twice}
 use Rattle.hg_job.specs.declared.job.Job.{Job}
 use Rattle.hg_job.specs.declared.job.Task.{Task}
 use Rattle.hg_job.specs.declared.job.JobFault.{JobFault}
@@ -51,15 +51,29 @@ told_alone [] k fault none (inl memory) = inl memory
 told_alone [] k fault none (inr tells) = inr (k, inl refl, tells)
 told_alone (x ∷ xs) k fault none told = absurd (cc)
 
--- what is told of two files that are the standard input
-pub twice_told : (rows : List Row) (fault : JobFault) → reads_twice rows ≡ true
-    → (fault ≡ Memory) ⊎ TellsOf ArgumentConflict fault → RefusedBy (twice_faults rows) fault
-twice_told rows fault twice told =
-    let alone : twice_faults rows ≡ ArgumentConflict ∷ [] = ap (λ b. if b then ArgumentConflict ∷ [] else []) twice in
+either_first : (a b : Bool) → a ≡ true → (a || b) ≡ true
+either_first true b h = refl
+either_first false b h = absurd (cc)
+
+either_second : (a b : Bool) → b ≡ true → (a || b) ≡ true
+either_second true b h = refl
+either_second false b h = h
+
+clash_told : (rows : List Row) (fault : JobFault) → (reads_twice rows || has_two_forms rows) ≡ true
+    → (fault ≡ Memory) ⊎ TellsOf ArgumentConflict fault → RefusedBy (clash_faults rows) fault
+clash_told rows fault clash told =
+    let alone : clash_faults rows ≡ ArgumentConflict ∷ [] = ap (λ b. if b then ArgumentConflict ∷ [] else []) clash in
     subst (λ kinds. RefusedBy kinds fault) (sym alone) (told_alone [] ArgumentConflict fault refl told)
 
-pub read_once : (rows : List Row) → reads_twice rows ≡ false → twice_faults rows ≡ []
-read_once rows once = ap (λ b. if b then ArgumentConflict ∷ [] else []) once
+-- what is told of two files that are the standard input
+pub twice_told : (rows : List Row) (fault : JobFault) → reads_twice rows ≡ true
+    → (fault ≡ Memory) ⊎ TellsOf ArgumentConflict fault → RefusedBy (clash_faults rows) fault
+twice_told rows fault twice = clash_told rows fault (either_first (reads_twice rows) (has_two_forms rows) twice)
+
+-- and of more forms than one
+pub forms_told : (rows : List Row) (fault : JobFault) → has_two_forms rows ≡ true
+    → (fault ≡ Memory) ⊎ TellsOf ArgumentConflict fault → RefusedBy (clash_faults rows) fault
+forms_told rows fault two = clash_told rows fault (either_second (reads_twice rows) (has_two_forms rows) two)
 
 -- a name and rows that a command has are those of the pair that it is
 pub entered_as : {A : Type 0} (f : A → Text) (g : A → List Row) (entered : Option A) (name : Text) (rows : List Row)
@@ -70,7 +84,7 @@ entered_as f g (Some b) name rows named has = cc
 
 module _ (options : List Row) (p : Text × List Row) where
   abbrev behind : Kinds
-  behind = if bytes_eq p.0 (codes "help") then help_faults p.1 else twice_faults p.1
+  behind = if bytes_eq p.0 (codes "help") then help_faults p.1 else clash_faults p.1
 
   against_before : has_option options ≡ true → against options (Some p) ≡ ArgumentConflict ∷ []
   against_before given = ap (λ b. if b then ArgumentConflict ∷ [] else behind) given
@@ -79,10 +93,10 @@ module _ (options : List Row) (p : Text × List Row) where
   against_behind given = ap (λ b. if b then ArgumentConflict ∷ [] else behind) given
 
   against_help : has_option options ≡ false → bytes_eq p.0 (codes "help") ≡ true → against options (Some p) ≡ help_faults p.1
-  against_help given help = against_behind given ∙ ap (λ b. if b then help_faults p.1 else twice_faults p.1) help
+  against_help given help = against_behind given ∙ ap (λ b. if b then help_faults p.1 else clash_faults p.1) help
 
-  pub against_other : has_option options ≡ false → bytes_eq p.0 (codes "help") ≡ false → against options (Some p) ≡ twice_faults p.1
-  against_other given help = against_behind given ∙ ap (λ b. if b then help_faults p.1 else twice_faults p.1) help
+  pub against_other : has_option options ≡ false → bytes_eq p.0 (codes "help") ≡ false → against options (Some p) ≡ clash_faults p.1
+  against_other given help = against_behind given ∙ ap (λ b. if b then help_faults p.1 else clash_faults p.1) help
 
   -- what is told of an option before a command
   pub before_told : (fault : JobFault) → has_option options ≡ true
@@ -97,12 +111,12 @@ module _ (options : List Row) (p : Text × List Row) where
 
   -- what another command is answered
   pub job_other : (answer : Result Job JobFault) → has_option options ≡ false → bytes_eq p.0 (codes "help") ≡ false
-      → IfOk answer (IsJobOf p.0 p.1) → IfOk answer (λ _. twice_faults p.1 ≡ []) → IfOk answer (IsJobAt options (Some p))
+      → IfOk answer (IsJobOf p.0 p.1) → IfOk answer (λ _. clash_faults p.1 ≡ []) → IfOk answer (IsJobAt options (Some p))
   job_other (Ok job) given help is once = (against_other given help ∙ once, is)
   job_other (Err fault) given help is once = is
 
   pub refused_other : (answer : Result Job JobFault) → has_option options ≡ false → bytes_eq p.0 (codes "help") ≡ false
-      → IfErr answer (RefusedBy (twice_faults p.1)) → IfErr answer (RefusedBy (against options (Some p)))
+      → IfErr answer (RefusedBy (clash_faults p.1)) → IfErr answer (RefusedBy (against options (Some p)))
   refused_other answer given help refused =
       subst (λ kinds. IfErr answer (RefusedBy kinds)) (sym (against_other given help)) refused
 

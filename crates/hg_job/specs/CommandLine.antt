@@ -64,6 +64,18 @@ show =
     (flag (codes "json")))
     (flag (codes "explain"))
 
+-- what stands after a trace: by its operands, with the options for JSON and a map, and with all
+abbrev pub standing : App
+standing =
+    with_rule (with_rule (new_app (codes "state")) (required (codes "POLICY")))
+    (required (codes "TRACE"))
+
+abbrev pub formed : App
+formed = with_rule (with_rule standing (flag (codes "json"))) (flag (codes "map"))
+
+abbrev pub state : App
+state = with_rule (with_rule formed (flag (codes "svg"))) (flag (codes "explain"))
+
 -- the program alone: its words come without its own name, and help and the version are asked for by
 -- flags
 abbrev pub named : App
@@ -84,15 +96,18 @@ abbrev pub help : App
 help = with_rule (new_app (codes "help")) (optional (codes "COMMAND"))
 
 -- the program with the commands that read a policy or a trace once, with those that run traces and
--- races too, and with all its commands
+-- races too, with those that show what is and what stands, and with all its commands
 abbrev pub reader : App
 reader = with_subcommand (with_subcommand alone check.top) replay.top
 
 abbrev pub runner : App
 runner = with_subcommand (with_subcommand reader race.top) test.top
 
+abbrev pub shower : App
+shower = with_subcommand (with_subcommand runner show.top) state.top
+
 abbrev pub heapguard : App
-heapguard = with_subcommand (with_subcommand runner show.top) help.top
+heapguard = with_subcommand shower help.top
 
 -- the names of the commands
 abbrev pub command_names : List Text

@@ -7,6 +7,7 @@ use Rattle.hg_job.specs.declared.job.Job.{Job}
 use Rattle.hg_job.specs.declared.job.Job.TheVariants.{Joined, Check, Replay, Race, Test, Show}
 use Rattle.hg_job.specs.declared.job.Job.TheVariants.{ExplainJoined, Explain, CheckTrace, ShowJson}
 use Rattle.hg_job.specs.declared.job.Job.TheVariants.{ExplainJoinedJson, ExplainJson}
+use Rattle.hg_job.specs.declared.job.Job.TheVariants.{State, StateJson, StateMap, StateSvg}
 use Rattle.hg_job.specs.declared.job.JobFault.{JobFault}
 use Rattle.hg_job.specs.declared.job.JobFault.TheVariants.{Print, Line}
 
@@ -58,6 +59,24 @@ abbrev pub IsShowJsonOf : Text → Job → Type 0
 IsShowJsonOf file (ShowJson policy) = policy.now ≡ file
 IsShowJsonOf file _ = ⊥
 
+-- what stands after the trace of the second file under the policy of the first is to be told, as text,
+-- as JSON, as a map, and as a picture
+abbrev pub IsStateTextOf : Text → Text → Job → Type 0
+IsStateTextOf first second (State policy trace) = (policy.now ≡ first) × (trace.now ≡ second)
+IsStateTextOf first second _ = ⊥
+
+abbrev pub IsStateJsonOf : Text → Text → Job → Type 0
+IsStateJsonOf first second (StateJson policy trace) = (policy.now ≡ first) × (trace.now ≡ second)
+IsStateJsonOf first second _ = ⊥
+
+abbrev pub IsStateMapOf : Text → Text → Job → Type 0
+IsStateMapOf first second (StateMap policy trace) = (policy.now ≡ first) × (trace.now ≡ second)
+IsStateMapOf first second _ = ⊥
+
+abbrev pub IsStateSvgOf : Text → Text → Job → Type 0
+IsStateSvgOf first second (StateSvg policy trace) = (policy.now ≡ first) × (trace.now ≡ second)
+IsStateSvgOf first second _ = ⊥
+
 -- the words ask for this job
 abbrev pub AskFor : List Text → Job → Type 0
 AskFor words job = IsJobAt (matches_of heapguard words) (subcommand_of heapguard words) job
@@ -92,6 +111,19 @@ OptionsAreJobs =
     × (AskFor (codes "replay" ∷ codes "--json" ∷ codes "p" ∷ codes "t" ∷ []) job
     → IsExplainJsonOf (codes "p") (codes "t") job)
 
+-- and so where what stands after a trace is asked for, in each form
+abbrev pub StatesAreJobs : Type 0
+StatesAreJobs =
+    (job : Job)
+    → (AskFor (codes "state" ∷ codes "p" ∷ codes "t" ∷ []) job
+    → IsStateTextOf (codes "p") (codes "t") job)
+    × (AskFor (codes "state" ∷ codes "p" ∷ codes "t" ∷ codes "--json" ∷ []) job
+    → IsStateJsonOf (codes "p") (codes "t") job)
+    × (AskFor (codes "state" ∷ codes "--map" ∷ codes "p" ∷ codes "t" ∷ []) job
+    → IsStateMapOf (codes "p") (codes "t") job)
+    × (AskFor (codes "state" ∷ codes "p" ∷ codes "--svg" ∷ codes "t" ∷ []) job
+    → IsStateSvgOf (codes "p") (codes "t") job)
+
 -- the words ask for faults to be explained
 abbrev pub are_explained : List Text → Bool
 are_explained words = explains (matches_of heapguard words) (subcommand_of heapguard words)
@@ -105,6 +137,8 @@ OptionsExplain =
     × (are_explained (codes "race" ∷ codes "p" ∷ codes "1000" ∷ codes "--explain" ∷ []) ≡ true)
     × (are_explained (codes "test" ∷ codes "--explain" ∷ codes "p" ∷ codes "t" ∷ []) ≡ true)
     × (are_explained (codes "show" ∷ codes "p" ∷ codes "--explain" ∷ []) ≡ true)
+    × (are_explained (codes "state" ∷ codes "p" ∷ codes "t" ∷ codes "--explain" ∷ []) ≡ true)
+    × (are_explained (codes "replay" ∷ codes "p" ∷ codes "--explain" ∷ codes "t" ∷ []) ≡ true)
 
 -- a text to print, or want of memory
 abbrev pub IsPrinted : JobFault → Type 0
@@ -117,8 +151,8 @@ IsTold (Print text) = ⊥
 IsTold _ = ⊤
 
 -- help, of the program and of a command, and the version are printed; and a word that is no command,
--- also behind `help`, a race of no rounds, an option twice, one before a command, and two files that
--- are the standard input, are told
+-- also behind `help`, a race of no rounds, an option twice, one before a command, two files that are
+-- the standard input, and two forms of a state, are told
 abbrev pub RequestsArePrinted : Type 0
 RequestsArePrinted =
     (fault : JobFault)
@@ -135,3 +169,9 @@ RequestsArePrinted =
     × (RefusedBy (faults_of (codes "help" ∷ codes "check" ∷ [])) fault → IsPrinted fault)
     × (RefusedBy (faults_of (codes "help" ∷ codes "jump" ∷ [])) fault → IsTold fault)
     × (RefusedBy (faults_of (codes "replay" ∷ codes "-" ∷ codes "-" ∷ [])) fault → IsTold fault)
+    × (RefusedBy
+    (faults_of (codes "state" ∷ codes "p" ∷ codes "t" ∷ codes "--json" ∷ codes "--map" ∷ [])) fault
+    → IsTold fault)
+    × (RefusedBy
+    (faults_of (codes "state" ∷ codes "p" ∷ codes "t" ∷ codes "--svg" ∷ codes "--map" ∷ [])) fault
+    → IsTold fault)

@@ -14,6 +14,7 @@ use Rattle.hg_job.specs.declared.job.Job.{Job}
 use Rattle.hg_job.specs.declared.job.Job.TheVariants.{Joined, Check, Replay, Race, Test, Show}
 use Rattle.hg_job.specs.declared.job.Job.TheVariants.{ExplainJoined, Explain, CheckTrace, ShowJson}
 use Rattle.hg_job.specs.declared.job.Job.TheVariants.{ExplainJoinedJson, ExplainJson}
+use Rattle.hg_job.specs.declared.job.Job.TheVariants.{State, StateJson, StateMap, StateSvg}
 use Rattle.hg_job.specs.declared.job.Task.{Task}
 use Rattle.hg_job.specs.declared.job.JobFault.{JobFault}
 use Rattle.hg_job.specs.declared.job.JobFault.TheVariants.{Print, Line, Memory}
@@ -42,6 +43,27 @@ IsNumber None number = number ≡ 0
 IsNumber (Some text) number =
     (IsDecimal text → number ≡ digits_value 10 (without_leading_plus text))
     × ((IsDecimal text → ⊥) → number ≡ 0)
+
+-- these are the files of both operands
+abbrev pub IsOfFiles : List Row → Text → Text → Type 0
+IsOfFiles rows policy trace =
+    (policy ≡ operand (codes "POLICY") rows) × (trace ≡ operand (codes "TRACE") rows)
+
+-- what stands after the trace of one under the policy of the other is to be told, in the form that is
+-- asked for: the first of `--json`, `--map` and `--svg` that is given, and text where none is
+abbrev pub IsStateOf : List Row → Job → Type 0
+IsStateOf rows (StateJson policy trace) =
+    IsOfFiles rows policy.now trace.now × (is_given (codes "json") rows ≡ true)
+IsStateOf rows (StateMap policy trace) =
+    IsOfFiles rows policy.now trace.now × (is_given (codes "map") rows ≡ true)
+    × (is_given (codes "json") rows ≡ false)
+IsStateOf rows (StateSvg policy trace) =
+    IsOfFiles rows policy.now trace.now × (is_given (codes "svg") rows ≡ true)
+    × (is_given (codes "json") rows ≡ false) × (is_given (codes "map") rows ≡ false)
+IsStateOf rows (State policy trace) =
+    IsOfFiles rows policy.now trace.now × (is_given (codes "json") rows ≡ false)
+    × (is_given (codes "map") rows ≡ false) × (is_given (codes "svg") rows ≡ false)
+IsStateOf rows _ = ⊥
 
 -- the job of the command of this name, with its operands
 abbrev pub IsJobOf : Text → List Row → Job → Type 0
@@ -77,6 +99,14 @@ IsJobOf name rows (Show policy) =
 IsJobOf name rows (ShowJson policy) =
     (name ≡ codes "show") × (policy.now ≡ operand (codes "POLICY") rows)
     × (is_given (codes "json") rows ≡ true)
+IsJobOf name rows (State policy trace) =
+    (name ≡ codes "state") × IsStateOf rows (State policy trace)
+IsJobOf name rows (StateJson policy trace) =
+    (name ≡ codes "state") × IsStateOf rows (StateJson policy trace)
+IsJobOf name rows (StateMap policy trace) =
+    (name ≡ codes "state") × IsStateOf rows (StateMap policy trace)
+IsJobOf name rows (StateSvg policy trace) =
+    (name ≡ codes "state") × IsStateOf rows (StateSvg policy trace)
 
 -- a file of this name is the standard input
 abbrev pub is_input : Text → Bool
@@ -90,8 +120,16 @@ is_read_twice policy traces =
 abbrev pub reads_twice : List Row → Bool
 reads_twice rows = is_read_twice (operand (codes "POLICY") rows) (operands (codes "TRACE") rows)
 
-abbrev pub twice_faults : List Row → Kinds
-twice_faults rows = if reads_twice rows then kind.ArgumentConflict ∷ [] else []
+-- more than one form is asked for
+abbrev pub has_two_forms : List Row → Bool
+has_two_forms rows =
+    (is_given (codes "json") rows && is_given (codes "map") rows)
+    || ((is_given (codes "json") rows && is_given (codes "svg") rows)
+    || (is_given (codes "map") rows && is_given (codes "svg") rows))
+
+abbrev pub clash_faults : List Row → Kinds
+clash_faults rows =
+    if reads_twice rows || has_two_forms rows then kind.ArgumentConflict ∷ [] else []
 
 -- the words that `help` stands for, as which it is answered
 abbrev pub help_words : Option Text → List Text
@@ -108,12 +146,12 @@ abbrev pub has_option : List Row → Bool
 has_option options = is_given (codes "explain") options || is_given (codes "json") options
 
 -- what is against a command where the parser has nothing: an option of the program alone before it;
--- that it is `help`; or that two files are the standard input
+-- that it is `help`; or that two files are the standard input, or more than one form is asked for
 abbrev pub against : List Row → Option (Text × List Row) → Kinds
 against options None = []
 against options (Some p) =
     if has_option options then kind.ArgumentConflict ∷ []
-    else (if bytes_eq p.0 (codes "help") then help_faults p.1 else twice_faults p.1)
+    else (if bytes_eq p.0 (codes "help") then help_faults p.1 else clash_faults p.1)
 
 -- the job of the command that was entered, if any was, behind these options
 abbrev pub IsJobAt : List Row → Option (Text × List Row) → Job → Type 0

@@ -2,9 +2,10 @@
 ghost use Rattle.std.specs.Prelude.{◌≡◌, codes, false, IfOk};
 ghost use Rattle.clap.specs.Words.{app_of, rule_of};
 ghost use Rattle.clap.specs.declared.builder.command.Command.TheViews.{out-Command};
-ghost use Rattle.hg_job.specs.CommandLine.{alone, check, counted, flag, heapguard, help, named};
-ghost use Rattle.hg_job.specs.CommandLine.{optional, race, reader, replay, replaying, required};
-ghost use Rattle.hg_job.specs.CommandLine.{runner, several, show, test};
+ghost use Rattle.hg_job.specs.CommandLine.{alone, check, counted, flag, formed, heapguard, help};
+ghost use Rattle.hg_job.specs.CommandLine.{named, optional, race, reader, replay, replaying};
+ghost use Rattle.hg_job.specs.CommandLine.{required, runner, several, show, shower, standing, state};
+ghost use Rattle.hg_job.specs.CommandLine.{test};
 
 use clap::{Arg, ArgAction, Command, value_parser};
 use std::alloc::{AllocError, Global};
@@ -15,8 +16,7 @@ const ABOUT: &str = "Replays traces of a multi-tenant memory service; \
     alone it reads standard input: policy, `---`, trace";
 
 const MORE: &str = "\
-Exit status:
-  0  done
+Exit status, 0 where all is done:
   1  the policy has a fault
   2  the trace has a fault
   3  reading (16777216 bytes at most) or writing failed, or memory was refused
@@ -98,6 +98,22 @@ Exit status:
   3  reading or writing failed, or memory was refused
   4  the command line is wrong";
 
+const STATE_ABOUT: &str = "Prints what stands after a trace";
+
+const STATE_MORE: &str = "\
+Runs the trace to its end, and tells what stands then: what each worker holds, has in hand
+and charges; orphans and fresh segments; the blocks of each tenant; of each segment how many
+places are live, parted, sent or worn; and of each page with a class, in a segment that is
+held, how many are live, parted, worn or free. With --map and --svg these pages are drawn.
+No answer is printed: see `heapguard replay --explain` for lines that serve nothing.
+
+Exit status:
+  0  the trace was run to its end
+  1  the policy has a fault, told in one line on standard error
+  2  the trace has a fault, told with its line's number
+  3  reading or writing failed, or memory was refused
+  4  the command line is wrong";
+
 const HELP_ABOUT: &str = "Prints this help, or that of a command";
 
 /// An operand that has to be there.
@@ -172,6 +188,11 @@ const WITH_WANTED: &str = "Tell of a fault what is wanted there";
 
 /// What `--json` does where answers are printed.
 const AS_JSON: &str = "Print the same as JSON, an object a line";
+
+/// What `--map` and `--svg` do.
+const AS_MAP: &str = "Draw pages and places, a character each";
+
+const AS_SVG: &str = "Draw them as a picture, an SVG file";
 
 fn explain<'a>(alloc: Global, help: &'a str) -> Arg<'a>
     ensures rule { rule_of result ≡ flag (codes "explain") }
@@ -249,6 +270,37 @@ fn show_command<'a>(alloc: Global) -> Result<Command<'a>, AllocError>
         .arg(explain(alloc, WITH_WANTED))
 }
 
+/// What stands after a trace, with no option yet.
+fn standing<'a>(alloc: Global) -> Result<Command<'a>, AllocError>
+    ensures app { IfOk result (λ c. app_of c ≡ standing) }
+    ensures local { IfOk result (λ c. (out-Command c).has_globals ≡ false) }
+{
+    Command::new(alloc, "state")
+        .about(STATE_ABOUT)
+        .after_help(STATE_MORE)
+        .arg(policy(alloc))?
+        .arg(trace(alloc))
+}
+
+/// The same, with two of its forms.
+fn formed<'a>(alloc: Global) -> Result<Command<'a>, AllocError>
+    ensures app { IfOk result (λ c. app_of c ≡ formed) }
+    ensures local { IfOk result (λ c. (out-Command c).has_globals ≡ false) }
+{
+    standing(alloc)?
+        .arg(option(alloc, "json", AS_JSON))?
+        .arg(option(alloc, "map", AS_MAP))
+}
+
+fn state_command<'a>(alloc: Global) -> Result<Command<'a>, AllocError>
+    ensures app { IfOk result (λ c. app_of c ≡ state) }
+    ensures local { IfOk result (λ c. (out-Command c).has_globals ≡ false) }
+{
+    formed(alloc)?
+        .arg(option(alloc, "svg", AS_SVG))?
+        .arg(explain(alloc, WITH_WANTED))
+}
+
 fn help_command<'a>(alloc: Global) -> Result<Command<'a>, AllocError>
     ensures app { IfOk result (λ c. app_of c ≡ help) }
     ensures local { IfOk result (λ c. (out-Command c).has_globals ≡ false) }
@@ -299,11 +351,19 @@ fn runner<'a>(alloc: Global) -> Result<Command<'a>, AllocError>
     reader(alloc)?.subcommand(race)?.subcommand(test)
 }
 
+/// The same, with the commands that show what a policy says and what stands.
+fn shower<'a>(alloc: Global) -> Result<Command<'a>, AllocError>
+    ensures { IfOk result (λ c. app_of c ≡ shower) }
+{
+    let show = show_command(alloc)?;
+    let state = state_command(alloc)?;
+    runner(alloc)?.subcommand(show)?.subcommand(state)
+}
+
 /// The program's command line.
 pub(crate) fn command<'a>(alloc: Global) -> Result<Command<'a>, AllocError>
     ensures { IfOk result (λ c. app_of c ≡ heapguard) }
 {
-    let show = show_command(alloc)?;
     let help = help_command(alloc)?;
-    runner(alloc)?.subcommand(show)?.subcommand(help)
+    shower(alloc)?.subcommand(help)
 }

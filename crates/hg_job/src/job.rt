@@ -42,6 +42,14 @@ pub enum Job<'a> {
     Show(&'a str),
     /// The same, as JSON.
     ShowJson(&'a str),
+    /// Read the policy of the first file, run the trace of the second, and tell what stands then.
+    State(&'a str, &'a str),
+    /// The same, as JSON.
+    StateJson(&'a str, &'a str),
+    /// The same, as a map of pages and places.
+    StateMap(&'a str, &'a str),
+    /// The same, as a picture.
+    StateSvg(&'a str, &'a str),
 }
 
 /// What the words of a command line ask for.

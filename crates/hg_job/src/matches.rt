@@ -5,9 +5,9 @@ ghost use Rattle.clap.specs.Kinds.{or_else};
 ghost use Rattle.clap.specs.Words.{fault_of, first_of, found_of, one_of, rows_of};
 ghost use Rattle.clap.specs.Words.{subcommand_rows_of};
 ghost use Rattle.hg_job.specs.CommandLine.{command_names, heapguard};
-ghost use Rattle.hg_job.specs.Jobs.{against, explains, has_option, help_faults, is_given};
-ghost use Rattle.hg_job.specs.Jobs.{is_input, is_read_twice, IsTaskAt};
-ghost use Rattle.hg_job.specs.Jobs.{operand, operands, reads_twice, twice_faults, IsJobAt};
+ghost use Rattle.hg_job.specs.Jobs.{against, clash_faults, explains, has_option, has_two_forms};
+ghost use Rattle.hg_job.specs.Jobs.{help_faults, is_given, is_input, is_read_twice, IsTaskAt};
+ghost use Rattle.hg_job.specs.Jobs.{operand, operands, reads_twice, IsJobAt, IsStateOf};
 ghost use Rattle.hg_job.specs.Jobs.{IsJobOf, IsKnown, IsNumber, RefusedBy, TellsOf};
 
 use crate::command::command;
@@ -23,6 +23,9 @@ const MISPLACED: &str = "'--explain' and '--json' can't stand before a command: 
 
 /// What is told where two files are the standard input.
 const TWICE: &str = "the file '-' is standard input, which can't be read twice";
+
+/// What is told where more than one form is asked for.
+const FORMS: &str = "'--json', '--map' and '--svg' are forms of the same: give one of them";
 
 /// What is told of a word behind `help` for which the parser has no help.
 const NO_HELP: &str = "there is no help of this: see `heapguard --help`";
@@ -117,6 +120,34 @@ fn reads_twice(alloc: Global, matches: &ArgMatches<'_>) -> Result<bool, AllocErr
     Ok(is_read_twice(operand_in(matches, "POLICY"), &traces))
 }
 
+/// Whether more than one form is asked for.
+fn has_two_forms(matches: &ArgMatches<'_>) -> bool
+    ensures { result ≡ has_two_forms (rows_of (found_of matches.now)) }
+{
+    let json = is_given(matches, "json");
+    let map = is_given(matches, "map");
+    let svg = is_given(matches, "svg");
+    (json && map) || (json && svg) || (map && svg)
+}
+
+/// What stands after a trace, in the form that is asked for.
+fn state_in<'a>(matches: &ArgMatches<'a>) -> Job<'a>
+    ensures { IsStateOf (rows_of (found_of matches.now)) result }
+{
+    let policy = operand_in(matches, "POLICY");
+    let trace = operand_in(matches, "TRACE");
+    if is_given(matches, "json") {
+        return Job::StateJson(policy, trace);
+    }
+    if is_given(matches, "map") {
+        return Job::StateMap(policy, trace);
+    }
+    if is_given(matches, "svg") {
+        return Job::StateSvg(policy, trace);
+    }
+    Job::State(policy, trace)
+}
+
 /// The job of the command of this name, with its operands.
 fn job_named<'a>(alloc: Global, name: &str, matches: &ArgMatches<'a>) -> Result<Job<'a>, AllocError>
     requires known { Contains command_names name.now }
@@ -143,6 +174,7 @@ fn job_named<'a>(alloc: Global, name: &str, matches: &ArgMatches<'a>) -> Result<
         }
         "show" if is_given(matches, "json") => Ok(Job::ShowJson(policy)),
         "show" => Ok(Job::Show(policy)),
+        "state" => Ok(state_in(matches)),
         _ => unreachable!(),
     }
 }
@@ -182,22 +214,26 @@ fn helped(alloc: Global, matches: &ArgMatches<'_>) -> Result<JobFault, AllocErro
     }
 }
 
-/// The job of a command other than `help`, unless it reads the standard input twice.
+/// The job of a command other than `help`, unless it reads the standard input twice, or more than one
+/// form is asked for.
 fn job_reading<'a>(alloc: Global, name: &str, matches: &ArgMatches<'a>) -> Result<Job<'a>, JobFault>
     requires known { Contains command_names name.now }
     requires other { name.now ≢ codes "help" }
     ensures job { IfOk result (IsJobOf name.now (rows_of (found_of matches.now))) }
-    ensures once { IfOk result (λ _. twice_faults (rows_of (found_of matches.now)) ≡ []) }
-    ensures err { IfErr result (RefusedBy (twice_faults (rows_of (found_of matches.now)))) }
+    ensures once { IfOk result (λ _. clash_faults (rows_of (found_of matches.now)) ≡ []) }
+    ensures err { IfErr result (RefusedBy (clash_faults (rows_of (found_of matches.now)))) }
 {
     if reads_twice(alloc, matches)? {
         return Err(told(alloc, ErrorKind::ArgumentConflict, TWICE));
     }
+    if has_two_forms(matches) {
+        return Err(told(alloc, ErrorKind::ArgumentConflict, FORMS));
+    }
     Ok(job_named(alloc, name, matches)?)
 }
 
-/// The job of a command, unless that is `help`, an option stands before it, or it reads the standard
-/// input twice.
+/// The job of a command, unless that is `help`, an option stands before it, it reads the standard
+/// input twice, or more than one form is asked for.
 fn job_within<'a>(
     alloc: Global,
     options: &ArgMatches<'a>,

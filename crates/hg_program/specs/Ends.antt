@@ -19,6 +19,9 @@ use Rattle.hg_reasons.specs.declared.form.Form.TheVariants as form
 use Rattle.hg_expect.specs.Tests.{EndsTests, IsUnwarned, Progress, Stands}
 use Rattle.hg_expect.specs.declared.source.Source.{Source}
 use Rattle.hg_strangers.specs.Endings.{EndsChecked}
+use Rattle.hg_state.specs.Endings.{EndsState}
+use Rattle.hg_state.specs.declared.form.View.{View}
+use Rattle.hg_state.specs.declared.form.View.TheVariants as view
 use Rattle.hg_program.specs.ShowEnds.{EndsShow, EndsShowJson}
 use Rattle.hg_job.specs.Jobs.{IsAnswerTo}
 use Rattle.hg_job.specs.declared.job.Job.{Job}
@@ -62,6 +65,14 @@ EndsOnExplained form first second ended old new =
     ReadsNone ended old new
     ⊎ ((policy : List ℕ) × (trace : List ℕ) × IsOf first policy × IsOf second trace
     × EndsExplained form ended policy trace old new)
+
+-- a file is not read, or what stands after the second's bytes under the first's is told so, in this view
+abbrev pub EndsOnState
+    : View → Option (List ℕ) → Option (List ℕ) → Status → Seen → Seen → Type 0
+EndsOnState view first second ended old new =
+    ReadsNone ended old new
+    ⊎ ((policy : List ℕ) × (trace : List ℕ) × IsOf first policy × IsOf second trace
+    × EndsState view ended policy trace old new)
 
 -- joined input is not read, or an explanation of its two parts ends so, in this form
 abbrev pub EndsExplainedJoined : Form → Option (List ℕ) → Status → Seen → Seen → Type 0
@@ -151,6 +162,14 @@ EndsJob holds input (job.Test policy traces) ended old new =
 EndsJob holds input (job.Show policy) ended old new = EndsOnShow (holds policy.now) ended old new
 EndsJob holds input (job.ShowJson policy) ended old new =
     EndsOnShowJson (holds policy.now) ended old new
+EndsJob holds input (job.State policy trace) ended old new =
+    EndsOnState view.Text (holds policy.now) (holds trace.now) ended old new
+EndsJob holds input (job.StateJson policy trace) ended old new =
+    EndsOnState view.Json (holds policy.now) (holds trace.now) ended old new
+EndsJob holds input (job.StateMap policy trace) ended old new =
+    EndsOnState view.Map (holds policy.now) (holds trace.now) ended old new
+EndsJob holds input (job.StateSvg policy trace) ended old new =
+    EndsOnState view.Svg (holds policy.now) (holds trace.now) ended old new
 
 -- the text is written, or its writing stopped
 abbrev pub Tries : Seen → Seen → List ℕ → Type 0

@@ -9,7 +9,9 @@ ghost use Rattle.hg_program.specs.Ends.{AreQuietWords, EndsJob, EndsProgram, End
 ghost use Rattle.hg_program.specs.Ends.{IsQuietJob};
 
 use crate::context::Context;
-use crate::files::{check_file, check_files, explain_files, race_file, replay_files, test_files};
+use crate::files::{
+    check_file, check_files, explain_files, race_file, replay_files, state_files, test_files,
+};
 use crate::host::Host;
 use crate::joined::{explain_input, replay_input};
 use crate::refusal::{fails, refuse};
@@ -17,6 +19,7 @@ use crate::showing::{show_file, show_file_json};
 use hg_job::{Job, Task, task_of};
 use hg_reasons::Form;
 use hg_replay::{ReadFault, Sink, Status};
+use hg_state::View;
 use std::alloc::{AllocError, Global};
 use std::io;
 use std::io::{Read, Write};
@@ -51,6 +54,10 @@ fn do_job<T: Threads + Wait, H: Host, R: Read, W: Sink, E: Write>(
         Job::Test(policy, traces) => test_files(cx, policy, traces.as_slice(), out, err),
         Job::Show(policy) => show_file(cx, policy, out, err),
         Job::ShowJson(policy) => show_file_json(cx, policy, out, err),
+        Job::State(policy, trace) => state_files(cx, View::Text, policy, trace, out, err),
+        Job::StateJson(policy, trace) => state_files(cx, View::Json, policy, trace, out, err),
+        Job::StateMap(policy, trace) => state_files(cx, View::Map, policy, trace, out, err),
+        Job::StateSvg(policy, trace) => state_files(cx, View::Svg, policy, trace, out, err),
     }
 }
 

@@ -3,7 +3,8 @@
 ghost use Rattle.std.specs.Prelude.{◌≡◌, ◌≤◌, ℕ, List, IfOk, IfSome, map, vec_len};
 ghost use Rattle.hg_replay.specs.declared.run.input.TheConstants.{LIMIT};
 ghost use Rattle.hg_program.specs.Ends.{EndsOnChecked, EndsOnExplained, EndsOnFile, EndsOnFiles};
-ghost use Rattle.hg_program.specs.Ends.{EndsOnRace, EndsOnTests, IsOf, IsQuietTest, StandOf};
+ghost use Rattle.hg_program.specs.Ends.{EndsOnRace, EndsOnState, EndsOnTests, IsOf, IsQuietTest};
+ghost use Rattle.hg_program.specs.Ends.{StandOf};
 
 use crate::context::{Context, Hints, Unread, told};
 use crate::host::Host;
@@ -11,6 +12,7 @@ use hg_expect::{Source, Tests};
 use hg_race::run_race;
 use hg_reasons::{Form, run_explained};
 use hg_replay::{Sink, Status, run_check, run_texts};
+use hg_state::{View, run_state};
 use hg_strangers::run_check_trace;
 use std::io::Write;
 use std::sync::Wait;
@@ -104,6 +106,28 @@ pub(crate) fn explain_files<H: Host, W: Sink, E: Write>(
     match read_files(cx, policy, trace) {
         Ok((policy, trace)) => {
             let ended = run_explained(cx.alloc, form, &policy, &trace, out, err);
+            cx.explained_on(ended, &policy, &trace, err)
+        }
+        Err(unread) => cx.fails(unread, err),
+    }
+}
+
+/// Tells what stands after the trace of a file under the policy of another, so.
+pub(crate) fn state_files<H: Host, W: Sink, E: Write>(
+    cx: &Context<'_, H>,
+    view: View,
+    policy: &str,
+    trace: &str,
+    out: &mut W,
+    err: &mut E,
+) -> Status
+    ensures ends { EndsOnState view (H.holds cx.now.host.now policy.now)
+        (H.holds cx.now.host.now trace.now) result (W.seen out.old) (W.seen out.new) }
+    ensures quiet { result ≡ Status.Done → err.new ≡ err.old }
+{
+    match read_files(cx, policy, trace) {
+        Ok((policy, trace)) => {
+            let ended = run_state(cx.alloc, view, &policy, &trace, out, err);
             cx.explained_on(ended, &policy, &trace, err)
         }
         Err(unread) => cx.fails(unread, err),

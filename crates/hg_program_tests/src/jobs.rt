@@ -25,6 +25,10 @@ fn job_told<'a>(job: &Job<'a>) -> Told<'a> {
         }
         Job::Show(policy) => ("show", policy, "", 0),
         Job::ShowJson(policy) => ("show json", policy, "", 0),
+        Job::State(policy, trace) => ("state", policy, trace, 0),
+        Job::StateJson(policy, trace) => ("state json", policy, trace, 0),
+        Job::StateMap(policy, trace) => ("state map", policy, trace, 0),
+        Job::StateSvg(policy, trace) => ("state svg", policy, trace, 0),
     }
 }
 
@@ -86,7 +90,7 @@ fn tells(rt: &impl Abort, alloc: Global, words: &[&str], parts: &[&str]) {
 }
 
 /// Command lines that are refused by a line.
-static NO_JOBS: [&str; 42] = [
+static NO_JOBS: [&str; 53] = [
     "check",
     "check p q r",
     "check -p",
@@ -127,6 +131,17 @@ static NO_JOBS: [&str; 42] = [
     "test - t -",
     "test p - t -",
     "show p --json --json",
+    "state p",
+    "state p t u",
+    "state - -",
+    "state p t --json --map",
+    "state --svg p t --json",
+    "state --map --svg p t",
+    "state p t --json --map --svg",
+    "state p t --map --map",
+    "--json state p t",
+    "--map state p t",
+    "replay p t --map",
     "check --version",
     "a b c d e f g h i",
 ];
@@ -148,7 +163,7 @@ static HELPS: [&str; 12] = [
 ];
 
 /// Command lines that come to a job.
-static JOBS: [(&[&str], Told<'static>); 30] = [
+static JOBS: [(&[&str], Told<'static>); 36] = [
     (&[], ("joined", "", "", 0)),
     (&["--explain"], ("explain joined", "", "", 0)),
     (&["--json"], ("json joined", "", "", 0)),
@@ -191,6 +206,15 @@ static JOBS: [(&[&str], Told<'static>); 30] = [
     (&["show", "p"], ("show", "p", "", 0)),
     (&["show", "p", "--json"], ("show json", "p", "", 0)),
     (&["show", "--json", "p"], ("show json", "p", "", 0)),
+    (&["state", "p", "t"], ("state", "p", "t", 0)),
+    (&["state", "-", "t"], ("state", "-", "t", 0)),
+    (&["state", "p", "t", "--json"], ("state json", "p", "t", 0)),
+    (&["state", "--map", "p", "t"], ("state map", "p", "t", 0)),
+    (&["state", "p", "--svg", "t"], ("state svg", "p", "t", 0)),
+    (
+        &["state", "p", "--explain", "t", "--map"],
+        ("state map", "p", "t", 0),
+    ),
 ];
 
 #[test]
@@ -255,12 +279,12 @@ static HELP: [&str; 20] = [
     "\n  race    ",
     "\n  test    ",
     "\n  show    ",
+    "\n  state   ",
     "\n  help    ",
     "standard input",
     "`---`",
     "16777216 bytes",
-    "\nExit status:\n",
-    "\n  0  done\n",
+    "\nExit status, 0 where all is done:\n",
     "\n  1  the policy ",
     "\n  2  the trace ",
     "\n  3  reading (16777216 bytes at most) or writing ",
@@ -347,12 +371,29 @@ static HELP_OF_SHOW: [&str; 9] = [
     "\n  4  ",
 ];
 
+static HELP_OF_STATE: [&str; 13] = [
+    "out\nPrints what stands after a trace",
+    "\nUsage: heapguard state [OPTIONS] <POLICY> <TRACE>\n",
+    "\n  <POLICY>  ",
+    "\n  <TRACE>   ",
+    "\n      --json     ",
+    "\n      --map      ",
+    "\n      --svg      ",
+    "\nExit status:\n",
+    "\n  0  ",
+    "\n  1  ",
+    "\n  2  ",
+    "\n  3  ",
+    "\n  4  ",
+];
+
 /// Words that ask for the same help.
-static HELPS_BY_WORD: [(&[&str], &[&str]); 4] = [
+static HELPS_BY_WORD: [(&[&str], &[&str]); 5] = [
     (&["help"], &["--help"]),
     (&["help", "check"], &["check", "--help"]),
     (&["help", "replay"], &["replay", "--help"]),
     (&["help", "show"], &["show", "--help"]),
+    (&["help", "state"], &["state", "--help"]),
 ];
 
 #[test]
@@ -362,6 +403,7 @@ fn help_of_each_command(rt: HostRuntime) {
     tells(&rt, rt.alloc(), &["race", "--help"], &HELP_OF_RACE);
     tells(&rt, rt.alloc(), &["test", "--help"], &HELP_OF_TEST);
     tells(&rt, rt.alloc(), &["show", "--help"], &HELP_OF_SHOW);
+    tells(&rt, rt.alloc(), &["state", "--help"], &HELP_OF_STATE);
 }
 
 /// `help` prints what `--help` does, and says which word is no command.
@@ -392,7 +434,7 @@ fn version_of_the_program(rt: HostRuntime) {
 }
 
 /// Parts of the lines that refuse a command that there isn't, one that lacks an operand, an option
-/// before a command, and a number of rounds that is out of its range.
+/// before a command, a number of rounds that is out of its range, and two forms of a state.
 static NO_COMMAND: [&str; 4] = [
     "err\n",
     "'jump'",
@@ -416,16 +458,33 @@ static BEFORE: [&str; 4] = [
 
 static NO_ROUNDS: [&str; 3] = ["err\n", "'0'", "<ROUNDS>"];
 
+static TWO_INPUTS: [&str; 4] = [
+    "err\n",
+    "the file '-' is standard input, which can't be read twice",
+    "\nUsage: heapguard [OPTIONS] [COMMAND]\n",
+    "'--help'",
+];
+
+static TWO_FORMS: [&str; 4] = [
+    "err\n",
+    "'--json', '--map' and '--svg' are forms of the same: give one of them",
+    "\nUsage: heapguard [OPTIONS] [COMMAND]\n",
+    "'--help'",
+];
+
 #[test]
 fn lines_name_the_program(rt: HostRuntime) {
     tells(&rt, rt.alloc(), &["jump"], &NO_COMMAND);
     tells(&rt, rt.alloc(), &["check"], &NO_OPERAND);
     tells(&rt, rt.alloc(), &["--explain", "check", "p"], &BEFORE);
     tells(&rt, rt.alloc(), &["race", "p", "0"], &NO_ROUNDS);
+    tells(&rt, rt.alloc(), &["state", "-", "-"], &TWO_INPUTS);
+    let forms = ["state", "p", "t", "--json", "--map"];
+    tells(&rt, rt.alloc(), &forms, &TWO_FORMS);
 }
 
 /// Command lines, and whether faults are explained.
-static EXPLAINED: [(&[&str], bool); 10] = [
+static EXPLAINED: [(&[&str], bool); 12] = [
     (&[], false),
     (&["--explain"], true),
     (&["check", "p"], false),
@@ -436,6 +495,8 @@ static EXPLAINED: [(&[&str], bool); 10] = [
     (&["race", "p", "9", "--explain"], true),
     (&["test", "--explain", "p", "t", "u"], true),
     (&["show", "p", "--json", "--explain"], true),
+    (&["state", "p", "t", "--map", "--explain"], true),
+    (&["state", "p", "t", "--svg"], false),
 ];
 
 #[test]

@@ -22,3 +22,5 @@ mod races;
 mod shelf;
 #[cfg(test)]
 mod shows;
+#[cfg(test)]
+mod states;

@@ -1,2 +1,3 @@
+mod CellsDrawn
 mod OrphansTold
 mod Texts

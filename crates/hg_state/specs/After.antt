@@ -10,6 +10,7 @@ use Rattle.hg_replay.specs.Events.{unknown_worker}
 use Rattle.hg_replay.specs.Replays.{Progress, Replays, starting}
 use Rattle.hg_replay.specs.Statuses.{Means}
 use Rattle.hg_state.specs.Standing.{standing_text}
+use Rattle.hg_state.specs.declared.form.View.{View}
 
 -- a replay of these lines, from what a core opens with under the policy, leaves this
 abbrev pub Leads : Policy → List Line → Kept → Type 0
@@ -18,9 +19,9 @@ Leads policy lines kept =
     × (end.kept ≡ kept)
 
 -- and this is the text of what stands then
-abbrev pub LeavesText : Policy → List Line → List ℕ → Type 0
-LeavesText policy lines text =
-    (kept : Kept) × Leads policy lines kept × (text ≡ standing_text kept.state kept.state.orphans)
+abbrev pub LeavesText : View → Policy → List Line → List ℕ → Type 0
+LeavesText view policy lines text =
+    (kept : Kept) × Leads policy lines kept × (text ≡ standing_text view kept.state kept.state.orphans)
 
 -- why there is none: some line's worker is unknown, or memory was refused
 abbrev pub IsWithout : Policy → List Line → ReplayFault → Type 0
@@ -29,7 +30,7 @@ IsWithout policy lines fault.Memory = ⊤
 IsWithout policy lines fault.Write = ⊥
 
 -- the bytes mean a policy and a trace for it, and this is the text of what stands after it
-abbrev pub IsTextAfter : List ℕ → List ℕ → List ℕ → Type 0
-IsTextAfter policy_bytes trace_bytes text =
+abbrev pub IsTextAfter : View → List ℕ → List ℕ → List ℕ → Type 0
+IsTextAfter view policy_bytes trace_bytes text =
     (policy : Policy) × (lines : List Line) × Means policy_bytes trace_bytes policy lines
-    × LeavesText policy lines text
+    × LeavesText view policy lines text

@@ -8,6 +8,7 @@ use Rattle.hg_replay.specs.Writes.{Wrote, StopsIn}
 use Rattle.hg_replay.specs.declared.run.status.Status.{Status}
 use Rattle.hg_replay.specs.declared.run.status.Status.TheVariants as status
 use Rattle.hg_state.specs.After.{IsTextAfter}
+use Rattle.hg_state.specs.declared.form.View.{View}
 
 -- the bytes of the policy, or of the trace, have a fault with this status, or memory was refused
 abbrev pub IsFaulty : Status → List ℕ → List ℕ → Type 0
@@ -21,16 +22,16 @@ IsFaulty _ policy_bytes trace_bytes = ⊥
 -- stands then written; BadPolicy where there is no policy, and BadTrace where there is one and no
 -- trace for it, with nothing written; Failed for want of memory, and for a write that stopped in
 -- that text
-abbrev pub EndsState : Status → List ℕ → List ℕ → Seen → Seen → Type 0
-EndsState status.Done policy_bytes trace_bytes old new =
-    (text : List ℕ) × IsTextAfter policy_bytes trace_bytes text × Wrote old new text
-EndsState status.BadPolicy policy_bytes trace_bytes old new =
+abbrev pub EndsState : View → Status → List ℕ → List ℕ → Seen → Seen → Type 0
+EndsState view status.Done policy_bytes trace_bytes old new =
+    (text : List ℕ) × IsTextAfter view policy_bytes trace_bytes text × Wrote old new text
+EndsState view status.BadPolicy policy_bytes trace_bytes old new =
     NoPolicy policy_bytes × (new ≡ old)
-EndsState status.BadTrace policy_bytes trace_bytes old new =
+EndsState view status.BadTrace policy_bytes trace_bytes old new =
     (policy : Policy) × (document_of policy_bytes ≡ Ok policy) × NoTrace policy trace_bytes
     × (new ≡ old)
-EndsState status.Failed policy_bytes trace_bytes old new =
+EndsState view status.Failed policy_bytes trace_bytes old new =
     (new ≡ old)
-    ⊎ ((text : List ℕ) × IsTextAfter policy_bytes trace_bytes text × StopsIn old new text)
-EndsState status.BadLine policy_bytes trace_bytes old new = ⊥
-EndsState status.Differs policy_bytes trace_bytes old new = ⊥
+    ⊎ ((text : List ℕ) × IsTextAfter view policy_bytes trace_bytes text × StopsIn old new text)
+EndsState view status.BadLine policy_bytes trace_bytes old new = ⊥
+EndsState view status.Differs policy_bytes trace_bytes old new = ⊥

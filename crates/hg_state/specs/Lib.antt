@@ -1,6 +1,12 @@
 pub mod After
 pub mod Blocks
+pub mod Cells
 pub mod Endings
 pub mod Orphans
+pub mod Pages
+pub mod Pictures
+pub mod Pieces
+pub mod Shapes
 pub mod Standing
+pub mod Words
 pub mod Workers

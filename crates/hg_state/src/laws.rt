@@ -1,5 +1,6 @@
 //! Laws of what stands. Each function does nothing: what it promises is the law.
 
+ghost use Rattle.hg_state.specs.Cells.{CellsAreKinds};
 ghost use Rattle.hg_state.specs.Orphans.{FreshAreApart, StepsTellOrphans};
 
 /// The orphans of the machine after a step are those before it and what the event was answered.
@@ -10,4 +11,9 @@ pub fn steps_tell_orphans()
 /// In a sound state a segment that nobody holds, and that is no orphan, is fresh.
 pub fn fresh_are_apart()
     ensures { FreshAreApart }
+{}
+
+/// A place is drawn as live, parted or worn exactly where it counts as that.
+pub fn cells_are_kinds()
+    ensures { CellsAreKinds }
 {}

@@ -8,6 +8,7 @@ ghost use Rattle.hg_state.specs.After.{IsTextAfter, IsWithout, LeavesText};
 ghost use Rattle.hg_state.specs.Endings.{EndsState, IsFaulty};
 
 use crate::after::after;
+use crate::form::View;
 use crate::standing::stands;
 use hg_policy::{Policy, read_policy};
 use hg_replay::{ReplayFault, RunFault, Sink, Status, put};
@@ -16,46 +17,52 @@ use std::alloc::{AllocError, Global};
 use std::io::Write;
 
 /// What stands after a trace, from a core of its own that the policy opens.
-fn left_by(alloc: Global, policy: Policy, trace: &Trace) -> Result<Vec<u8>, AllocError>
+fn left_by(alloc: Global, view: View, policy: Policy, trace: &Trace) -> Result<Vec<u8>, AllocError>
     requires { All (λ line. line.worker < policy.workers) (lines_in trace.now) }
-    ensures { IfOk result (λ text. LeavesText policy (lines_in trace.now) text.items) }
+    ensures { IfOk result (λ text. LeavesText view policy (lines_in trace.now) text.items) }
 {
     let (core, orphans) = after(alloc, policy, trace)?;
-    stands(alloc, &core, &orphans)
+    stands(alloc, view, &core, &orphans)
 }
 
 /// The same, unless some worker is unknown.
-fn left_as(alloc: Global, policy: Policy, trace: &Trace) -> Result<Vec<u8>, ReplayFault>
+fn left_as(alloc: Global, view: View, policy: Policy, trace: &Trace) -> Result<Vec<u8>, ReplayFault>
     ensures known { IfOk result
         (λ _. unknown_worker policy.workers (lines_in trace.now) ≡ None) }
-    ensures text { IfOk result (λ text. LeavesText policy (lines_in trace.now) text.items) }
+    ensures text { IfOk result (λ text. LeavesText view policy (lines_in trace.now) text.items) }
     ensures faulty { IfErr result (IsWithout policy (lines_in trace.now)) }
 {
     if let Some(line) = trace.first_from(policy.workers()) {
         return Err(ReplayFault::Worker(line));
     }
-    match left_by(alloc, policy, trace) {
+    match left_by(alloc, view, policy, trace) {
         Ok(text) => Ok(text),
         Err(_) => Err(ReplayFault::Memory),
     }
 }
 
 /// What stands after a trace under a policy.
-fn text_after(alloc: Global, policy: &[u8], trace: &[u8]) -> Result<Vec<u8>, RunFault>
-    ensures text { IfOk result (λ text. IsTextAfter policy.now trace.now text.items) }
+fn text_after(alloc: Global, view: View, policy: &[u8], trace: &[u8]) -> Result<Vec<u8>, RunFault>
+    ensures text { IfOk result (λ text. IsTextAfter view policy.now trace.now text.items) }
     ensures faulty { IfErr result (λ fault. IsFaulty (status_of fault) policy.now trace.now) }
 {
     let policy = read_policy(alloc, policy)?;
     let lines = read_trace(alloc, trace)?;
-    let text = left_as(alloc, policy, &lines)?;
+    let text = left_as(alloc, view, policy, &lines)?;
     Ok(text)
 }
 
-fn run<W: Sink>(alloc: Global, policy: &[u8], trace: &[u8], out: &mut W) -> Result<(), RunFault>
-    ensures { EndsState (status_after result) policy.now trace.now
+fn run<W: Sink>(
+    alloc: Global,
+    view: View,
+    policy: &[u8],
+    trace: &[u8],
+    out: &mut W,
+) -> Result<(), RunFault>
+    ensures { EndsState view (status_after result) policy.now trace.now
         (W.seen out.old) (W.seen out.new) }
 {
-    let text = text_after(alloc, policy, trace)?;
+    let text = text_after(alloc, view, policy, trace)?;
     match put(out, &text) {
         Ok(()) => Ok(()),
         Err(_) => Err(RunFault::Replay(ReplayFault::Write)),
@@ -69,15 +76,16 @@ fn run<W: Sink>(alloc: Global, policy: &[u8], trace: &[u8], out: &mut W) -> Resu
 /// replay tells it. Where nothing goes wrong, `err` isn't touched.
 pub fn run_state<W: Sink, E: Write>(
     alloc: Global,
+    view: View,
     policy: &[u8],
     trace: &[u8],
     out: &mut W,
     err: &mut E,
 ) -> Status
-    ensures ends { EndsState result policy.now trace.now (W.seen out.old) (W.seen out.new) }
+    ensures ends { EndsState view result policy.now trace.now (W.seen out.old) (W.seen out.new) }
     ensures quiet { result ≡ Status.Done → err.new ≡ err.old }
 {
-    match run(alloc, policy, trace, out) {
+    match run(alloc, view, policy, trace, out) {
         Ok(()) => Status::Done,
         Err(fault) => {
             let _ = writeln!(err, "{fault}");

@@ -1,4 +1,4 @@
-//! What the workers hold and have in hand, and what they charge, as text.
+//! What the workers hold and have in hand, and what they charge, in lines.
 
 ghost use Rattle.std.specs.Prelude.{◌≡◌, ◌∷◌, ◌++◌, [], IfOk, OnOk, option_map, if◌then◌else◌};
 ghost use Rattle.std.specs.List.{flat_map};
@@ -6,12 +6,14 @@ ghost use Rattle.hg_place.specs.Places.{number_of};
 ghost use Rattle.hg_machine.specs.Policy.{limit_of};
 ghost use Rattle.hg_show.specs.Parts.{name_of, tenants_in};
 ghost use Rattle.hg_state.specs.Workers.{charge_line, hand_line, hand_text, held_by, held_line};
-ghost use Rattle.hg_state.specs.Workers.{numbers_text, worker_front, worker_text, workers_in};
+ghost use Rattle.hg_state.specs.Workers.{next_number, numbers_text, quoted_place, some_numbers};
+ghost use Rattle.hg_state.specs.Workers.{worker_text, workers_in};
 
+use crate::form::{Form, Word, push_counted, push_named, push_word};
 use hg_core::Core;
 use hg_place::Place;
 use hg_policy::Policy;
-use hg_text::{push, push_count};
+use hg_text::push_count;
 use std::alloc::{AllocError, Global};
 
 /// The name of a tenant, and no text where the policy lacks it.
@@ -56,89 +58,124 @@ fn held_by(alloc: Global, core: &Core, worker: u8) -> Result<Vec<u8>, AllocError
     Ok(held)
 }
 
-/// Appends numbers, each behind a blank, or that there are none.
-pub(crate) fn push_numbers(out: &mut Vec<u8>, numbers: &[u8]) -> Result<(), AllocError>
-    ensures { OnOk result (out.new.items ≡ out.old.items ++ numbers_text numbers.now) }
+/// Appends numbers, each behind the word that goes between two.
+fn push_next_numbers(out: &mut Vec<u8>, form: Form, numbers: &[u8]) -> Result<(), AllocError>
+    ensures { OnOk result (out.new.items ≡ out.old.items ++ flat_map (next_number form) numbers.now) }
 {
-    if numbers.is_empty() {
-        return push(out, " none");
-    }
     for number in numbers {
-        push_count(out, " ", u64::from(*number))?;
+        push_counted(out, form, Word::NextNumber, u64::from(*number))?;
     }
     Ok(())
 }
 
-/// Appends what a worker's line begins with.
-#[tactic(auto, unfolding(crate::specs::Workers::worker_front))]
-fn push_worker(out: &mut Vec<u8>, worker: u8, what: &str) -> Result<(), AllocError>
-    ensures { OnOk result (out.new.items ≡ out.old.items ++ worker_front worker what.now) }
+/// Appends numbers, of which one is the first.
+#[tactic(auto, unfolding(crate::specs::Workers::some_numbers))]
+fn push_some_numbers(
+    out: &mut Vec<u8>,
+    form: Form,
+    first: u8,
+    others: &[u8],
+) -> Result<(), AllocError>
+    ensures { OnOk result (out.new.items ≡ out.old.items ++ some_numbers form first others.now) }
 {
-    push_count(out, "worker ", u64::from(worker))?;
-    push(out, " ")?;
-    push(out, what)
+    push_counted(out, form, Word::FirstNumber, u64::from(first))?;
+    push_next_numbers(out, form, others)?;
+    push_word(out, form, Word::LastNumber)
+}
+
+/// Appends numbers, or that there are none.
+pub(crate) fn push_numbers(out: &mut Vec<u8>, form: Form, numbers: &[u8]) -> Result<(), AllocError>
+    ensures { OnOk result (out.new.items ≡ out.old.items ++ numbers_text form numbers.now) }
+{
+    match numbers {
+        [] => push_word(out, form, Word::NoNumber),
+        [first, others @ ..] => push_some_numbers(out, form, *first, others),
+    }
 }
 
 /// Appends the segments that a worker holds.
 #[tactic(auto, unfolding(crate::specs::Workers::held_line))]
-fn push_held(alloc: Global, out: &mut Vec<u8>, core: &Core, worker: u8) -> Result<(), AllocError>
-    ensures { OnOk result (out.new.items ≡ out.old.items ++ held_line core.now.state worker) }
+fn push_held(
+    alloc: Global,
+    out: &mut Vec<u8>,
+    form: Form,
+    core: &Core,
+    worker: u8,
+) -> Result<(), AllocError>
+    ensures { OnOk result (out.new.items ≡ out.old.items ++ held_line form core.now.state worker) }
 {
     let held = held_by(alloc, core, worker)?;
-    push_worker(out, worker, "holds")?;
-    push_numbers(out, &held)?;
-    push(out, "\n")
+    push_counted(out, form, Word::Worker, u64::from(worker))?;
+    push_word(out, form, Word::Holds)?;
+    push_numbers(out, form, &held)?;
+    push_word(out, form, Word::End)
+}
+
+/// Appends a place: its segment, page and index.
+#[tactic(auto, unfolding(crate::specs::Workers::quoted_place))]
+fn push_place(out: &mut Vec<u8>, form: Form, place: Place) -> Result<(), AllocError>
+    ensures { OnOk result (out.new.items ≡ out.old.items ++ quoted_place form (number_of place)) }
+{
+    push_word(out, form, Word::Quote)?;
+    push_count(out, "", u64::from(place.segment))?;
+    push_count(out, ".", u64::from(place.page))?;
+    push_count(out, ".", u64::from(place.index))?;
+    push_word(out, form, Word::Quote)
 }
 
 /// Appends the place that is in hand, if one is.
-fn push_hand(out: &mut Vec<u8>, hand: Option<Place>) -> Result<(), AllocError>
+fn push_hand(out: &mut Vec<u8>, form: Form, hand: Option<Place>) -> Result<(), AllocError>
     ensures { OnOk result (out.new.items
-        ≡ out.old.items ++ hand_text (option_map number_of hand)) }
+        ≡ out.old.items ++ hand_text form (option_map number_of hand)) }
 {
     match hand {
-        None => push(out, "empty"),
-        Some(place) => {
-            push_count(out, "", u64::from(place.segment))?;
-            push_count(out, ".", u64::from(place.page))?;
-            push_count(out, ".", u64::from(place.index))
-        }
+        None => push_word(out, form, Word::Empty),
+        Some(place) => push_place(out, form, place),
     }
 }
 
 /// Appends what a worker has in hand.
 #[tactic(auto, unfolding(crate::specs::Workers::hand_line))]
-fn push_in_hand(out: &mut Vec<u8>, core: &Core, worker: u8) -> Result<(), AllocError>
-    ensures { OnOk result (out.new.items ≡ out.old.items ++ hand_line core.now.state worker) }
+fn push_in_hand(out: &mut Vec<u8>, form: Form, core: &Core, worker: u8) -> Result<(), AllocError>
+    ensures { OnOk result (out.new.items ≡ out.old.items ++ hand_line form core.now.state worker) }
 {
-    push_worker(out, worker, "hand ")?;
-    push_hand(out, core.hand(worker))?;
-    push(out, "\n")
+    push_counted(out, form, Word::Worker, u64::from(worker))?;
+    push_word(out, form, Word::Hand)?;
+    push_hand(out, form, core.hand(worker))?;
+    push_word(out, form, Word::End)
 }
 
 /// Appends what counts against a tenant's limit with a worker, where something does.
 #[tactic(auto, unfolding(crate::specs::Workers::charge_line))]
-fn push_charge(out: &mut Vec<u8>, core: &Core, worker: u8, tenant: u8) -> Result<(), AllocError>
+fn push_charge(
+    out: &mut Vec<u8>,
+    form: Form,
+    core: &Core,
+    worker: u8,
+    tenant: u8,
+) -> Result<(), AllocError>
     ensures { OnOk result (out.new.items
-        ≡ out.old.items ++ charge_line core.now.state worker tenant) }
+        ≡ out.old.items ++ charge_line form core.now.state worker tenant) }
 {
     let policy = core.policy();
     let charge = core.charge(worker, tenant);
     if charge == 0 {
         return Ok(());
     }
-    push_worker(out, worker, name_of(policy, tenant))?;
-    push_count(out, " ", charge)?;
-    push_count(out, " of ", limit_of(policy, tenant))?;
-    push(out, "\n")
+    push_counted(out, form, Word::Worker, u64::from(worker))?;
+    push_named(out, form, Word::ChargedTo, name_of(policy, tenant))?;
+    push_counted(out, form, Word::Bytes, charge)?;
+    push_counted(out, form, Word::Limit, limit_of(policy, tenant))?;
+    push_word(out, form, Word::End)
 }
 
 /// Appends what counts against each tenant's limit with a worker.
-fn push_charges(out: &mut Vec<u8>, core: &Core, worker: u8) -> Result<(), AllocError>
+fn push_charges(out: &mut Vec<u8>, form: Form, core: &Core, worker: u8) -> Result<(), AllocError>
     ensures { OnOk result (out.new.items ≡ out.old.items
-        ++ flat_map (charge_line core.now.state worker) (tenants_in core.now.state.policy)) }
+        ++ flat_map (charge_line form core.now.state worker) (tenants_in core.now.state.policy)) }
 {
     for tenant in 0..core.policy().tenants() {
-        push_charge(out, core, worker, tenant)?;
+        push_charge(out, form, core, worker, tenant)?;
     }
     Ok(())
 }
@@ -148,23 +185,29 @@ fn push_charges(out: &mut Vec<u8>, core: &Core, worker: u8) -> Result<(), AllocE
 fn push_worker_text(
     alloc: Global,
     out: &mut Vec<u8>,
+    form: Form,
     core: &Core,
     worker: u8,
 ) -> Result<(), AllocError>
-    ensures { OnOk result (out.new.items ≡ out.old.items ++ worker_text core.now.state worker) }
+    ensures { OnOk result (out.new.items ≡ out.old.items ++ worker_text form core.now.state worker) }
 {
-    push_held(alloc, out, core, worker)?;
-    push_in_hand(out, core, worker)?;
-    push_charges(out, core, worker)
+    push_held(alloc, out, form, core, worker)?;
+    push_in_hand(out, form, core, worker)?;
+    push_charges(out, form, core, worker)
 }
 
 /// Appends the workers.
-pub(crate) fn push_workers(alloc: Global, out: &mut Vec<u8>, core: &Core) -> Result<(), AllocError>
+pub(crate) fn push_workers(
+    alloc: Global,
+    out: &mut Vec<u8>,
+    form: Form,
+    core: &Core,
+) -> Result<(), AllocError>
     ensures { OnOk result (out.new.items ≡ out.old.items
-        ++ flat_map (worker_text core.now.state) (workers_in core.now.state)) }
+        ++ flat_map (worker_text form core.now.state) (workers_in core.now.state)) }
 {
     for worker in 0..core.policy().workers() {
-        push_worker_text(alloc, out, core, worker)?;
+        push_worker_text(alloc, out, form, core, worker)?;
     }
     Ok(())
 }

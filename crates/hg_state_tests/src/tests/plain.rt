@@ -165,6 +165,36 @@ impl Plain {
         self.of_segment(segment, true).wrapping_sub(in_hands)
     }
 
+    /// What stands at a place: a live block, a parted one, nothing any more, or nothing yet.
+    pub fn mark(&self, place: Place) -> u8 {
+        for block in &self.blocks {
+            if block.place == place {
+                return if block.is_parted { b'o' } else { b'#' };
+            }
+        }
+        if self.given.iter().any(|given| *given == place) {
+            b'*'
+        } else {
+            b'.'
+        }
+    }
+
+    /// How many of so many places of a page have this mark.
+    pub fn marked(&self, mark: u8, segment: u8, page: u8, places: u16) -> u64 {
+        let mut count = 0u64;
+        for index in 0..places {
+            let place = Place {
+                segment,
+                page,
+                index,
+            };
+            if self.mark(place) == mark {
+                count = count.wrapping_add(1);
+            }
+        }
+        count
+    }
+
     /// How many places of a segment are worn: each was given out once, and is home.
     pub fn worn(&self, segment: u8) -> usize {
         let given = self.given.iter().filter(|place| place.segment == segment);

@@ -3,9 +3,9 @@
 use crate::tests::plain::Plain;
 use hg_core::Core;
 use hg_machine::{Answer, Event};
-use hg_place::{Actor, Handle};
+use hg_place::{Actor, Handle, Place};
 use hg_policy::read_policy;
-use hg_state::{note_orphans, stands};
+use hg_state::{View, note_orphans, stands};
 use hg_text::{push, push_count};
 use std::alloc::{AllocError, Global};
 use std::process::Abort;
@@ -165,8 +165,97 @@ fn push_workers(out: &mut Vec<u8>, plain: &Plain) -> Result<(), AllocError> {
     Ok(())
 }
 
+/// Appends the pages of a segment whose blocks have places, as the core says how many.
+fn push_pages(
+    out: &mut Vec<u8>,
+    plain: &Plain,
+    core: &Core,
+    segment: u8,
+) -> Result<(), AllocError> {
+    for page in 0..16u8 {
+        let places = core.block_places(segment, page);
+        if places > 0 {
+            push_count(out, "page ", u64::from(segment))?;
+            push_count(out, ".", u64::from(page))?;
+            push_count(out, " places ", u64::from(places))?;
+            let marked = |mark| plain.marked(mark, segment, page, places);
+            push_count(out, " live ", marked(b'#'))?;
+            push_count(out, " parted ", marked(b'o'))?;
+            push_count(out, " worn ", marked(b'*'))?;
+            push_count(out, " free ", marked(b'.'))?;
+            push(out, "\n")?;
+        }
+    }
+    Ok(())
+}
+
+/// The mark of a page in its segment's row.
+fn page_mark(plain: &Plain, core: &Core, segment: u8, page: u8) -> u8 {
+    let places = core.block_places(segment, page);
+    let free = plain.marked(b'.', segment, page, places);
+    if places == 0 {
+        b'.'
+    } else if free == u64::from(places) {
+        b'-'
+    } else if free == 0 {
+        b'#'
+    } else {
+        b'+'
+    }
+}
+
+/// Appends a segment's row of a map, and its pages.
+fn push_drawn(
+    out: &mut Vec<u8>,
+    plain: &Plain,
+    core: &Core,
+    segment: u8,
+) -> Result<(), AllocError> {
+    push_count(out, "segment ", u64::from(segment))?;
+    if plain.holder(segment).is_none() {
+        return push(out, " held by nobody\n");
+    }
+    push(out, " ")?;
+    for page in 0..16u8 {
+        out.push(page_mark(plain, core, segment, page))?;
+    }
+    push(out, "\n")?;
+    for page in 0..16u8 {
+        let places = core.block_places(segment, page);
+        if places > 0 {
+            push_count(out, "page ", u64::from(segment))?;
+            push_count(out, ".", u64::from(page))?;
+            push(out, " ")?;
+            for index in 0..places {
+                let place = Place {
+                    segment,
+                    page,
+                    index,
+                };
+                out.push(plain.mark(place))?;
+            }
+            push(out, "\n")?;
+        }
+    }
+    Ok(())
+}
+
+/// The map by the plain count.
+fn map_of(alloc: Global, plain: &Plain, core: &Core) -> Result<Vec<u8>, AllocError> {
+    let mut out = Vec::new(alloc);
+    push(
+        &mut out,
+        "pages: . no class, or behind the first of a block, - all free, + in part, # none free\n",
+    )?;
+    push(&mut out, "places: . free, # live, o parted, * worn\n")?;
+    for segment in 0..SEGMENTS {
+        push_drawn(&mut out, plain, core, segment)?;
+    }
+    Ok(out)
+}
+
 /// What stands by the plain count.
-fn text_of(alloc: Global, plain: &Plain) -> Result<Vec<u8>, AllocError> {
+fn text_of(alloc: Global, plain: &Plain, core: &Core) -> Result<Vec<u8>, AllocError> {
     let mut out = Vec::new(alloc);
     push_workers(&mut out, plain)?;
     push_left(&mut out, plain)?;
@@ -184,6 +273,7 @@ fn text_of(alloc: Global, plain: &Plain) -> Result<Vec<u8>, AllocError> {
         push_count(&mut out, " sent ", plain.sent_to(segment) as u64)?;
         push_count(&mut out, " worn ", plain.worn(segment) as u64)?;
         push(&mut out, "\n")?;
+        push_pages(&mut out, plain, core, segment)?;
     }
     Ok(out)
 }
@@ -225,11 +315,15 @@ impl Run {
     }
 }
 
-/// What stands is told as by the plain count.
+/// What stands is told and drawn as by the plain count.
 fn is_told(rt: &impl Abort, alloc: Global, run: &Run) {
     assert!(rt; run.orphans.as_slice() == run.plain.left.as_slice());
-    let told = stands(alloc, &run.core, run.orphans.as_slice()).expect(rt, "memory");
-    let counted = text_of(alloc, &run.plain).expect(rt, "memory");
+    let (core, orphans) = (&run.core, run.orphans.as_slice());
+    let told = stands(alloc, View::Text, core, orphans).expect(rt, "memory");
+    let counted = text_of(alloc, &run.plain, core).expect(rt, "memory");
+    assert!(rt; told.as_slice() == counted.as_slice());
+    let told = stands(alloc, View::Map, core, orphans).expect(rt, "memory");
+    let counted = map_of(alloc, &run.plain, core).expect(rt, "memory");
     assert!(rt; told.as_slice() == counted.as_slice());
 }
 

@@ -5,4 +5,4 @@ use Rattle.hg_state.proofs.workers.push_workers.Given as goal
 
 -- the workers so far are told
 abbrev pub invariant-loop-worker : goal.invariant-loop-worker
-invariant-loop-worker l = l.out.items ≡ l.fn.out.items ++ flat_map (worker_text l.core.state) (range_with_len 0 l.worker)
+invariant-loop-worker l = l.out.items ≡ l.fn.out.items ++ flat_map (worker_text l.form l.core.state) (range_with_len 0 l.worker)

@@ -1,0 +1,5 @@
+use Rattle.hg_job.proofs.JobLaws.{states_are_jobs as law}
+use Rattle.hg_job.proofs.laws.states_are_jobs.Goals as goal
+
+pub returns : goal.returns
+returns c = law

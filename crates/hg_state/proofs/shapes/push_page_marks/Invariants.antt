@@ -1,0 +1,8 @@
+use Rattle.std.proofs.Common.{◌≡◌, ◌++◌}
+use Rattle.std.specs.List.{flat_map, range_with_len}
+use Rattle.hg_state.specs.Shapes.{page_mark}
+use Rattle.hg_state.proofs.shapes.push_page_marks.Given as goal
+
+-- the pages so far are told
+abbrev pub invariant-loop-page : goal.invariant-loop-page
+invariant-loop-page l = l.out.items ≡ l.fn.out.items ++ flat_map (page_mark l.core.state l.segment) (range_with_len 0 l.page)
