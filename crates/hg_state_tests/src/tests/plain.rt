@@ -36,6 +36,11 @@ fn class_bytes(bytes: u64) -> u64 {
     }
 }
 
+/// Whether a place is this one.
+fn is_at(place: Place, segment: u8, page: u8, index: u16) -> bool {
+    place.segment == segment && place.page == page && place.index == index
+}
+
 impl Plain {
     pub fn new(alloc: Global) -> Plain {
         Plain {
@@ -165,30 +170,26 @@ impl Plain {
         self.of_segment(segment, true).wrapping_sub(in_hands)
     }
 
-    /// What stands at a place: a live block, a parted one, nothing any more, or nothing yet.
-    pub fn mark(&self, place: Place) -> u8 {
+    /// What stands at a place of a page: a live block, a parted one, nothing any more, or nothing yet.
+    pub fn mark(&self, segment: u8, page: u8, index: u16) -> u8 {
         for block in &self.blocks {
-            if block.place == place {
+            if is_at(block.place, segment, page, index) {
                 return if block.is_parted { b'o' } else { b'#' };
             }
         }
-        if self.given.iter().any(|given| *given == place) {
-            b'*'
-        } else {
-            b'.'
+        for place in &self.given {
+            if is_at(*place, segment, page, index) {
+                return b'*';
+            }
         }
+        b'.'
     }
 
     /// How many of so many places of a page have this mark.
     pub fn marked(&self, mark: u8, segment: u8, page: u8, places: u16) -> u64 {
         let mut count = 0u64;
         for index in 0..places {
-            let place = Place {
-                segment,
-                page,
-                index,
-            };
-            if self.mark(place) == mark {
+            if self.mark(segment, page, index) == mark {
                 count = count.wrapping_add(1);
             }
         }

@@ -3,7 +3,7 @@
 use crate::tests::plain::Plain;
 use hg_core::Core;
 use hg_machine::{Answer, Event};
-use hg_place::{Actor, Handle, Place};
+use hg_place::{Actor, Handle};
 use hg_policy::read_policy;
 use hg_state::{View, note_orphans, stands};
 use hg_text::{push, push_count};
@@ -227,12 +227,7 @@ fn push_drawn(
             push_count(out, ".", u64::from(page))?;
             push(out, " ")?;
             for index in 0..places {
-                let place = Place {
-                    segment,
-                    page,
-                    index,
-                };
-                out.push(plain.mark(place))?;
+                out.push(plain.mark(segment, page, index))?;
             }
             push(out, "\n")?;
         }
