@@ -22,6 +22,7 @@ mod Recorded
 mod Handed
 mod KindsTold
 mod PlacesTold
+mod ClassesTold
 pub mod WordWrites
 mod WrittenRuns
 mod WordReads

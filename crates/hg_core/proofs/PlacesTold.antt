@@ -39,15 +39,15 @@ on_page : (s : State) (segment page : ℕ) → page < 16
 on_page s segment page inside = rw (lt-ltb page 16 inside) refl
 
 -- what a heap tells of a page, where its segment stands
-class_told : (parts : Parts) (segment page told : ℕ) (o : Option (Kept PlainWords))
-    → segment < length parts.policy.segments → page < 16
+pub class_told : {X : Type 0} (f : Option ℕ → X) (parts : Parts) (segment page : ℕ) (told : X)
+    (o : Option (Kept PlainWords)) → segment < length parts.policy.segments → page < 16
     → plain_of parts segment ≡ option_map plain_from o
-    → option_map (λ (k : Kept PlainWords). places_by (class_in k.classes page)) o ≡ Some told
-    → places_by (class_at (state_of parts) (segment * 16 + page)) ≡ told
-class_told parts segment page told None below inside there tells = absurd (none-some told tells)
-class_told parts segment page told (Some k) below inside there tells =
-    ap places_by ((segments_are_told parts segment (plain_from k) below there).classes page inside)
-    ∙ same_Some (places_by (class_in k.classes page)) told tells
+    → option_map (λ (k : Kept PlainWords). f (class_in k.classes page)) o ≡ Some told
+    → f (class_at (state_of parts) (segment * 16 + page)) ≡ told
+class_told f parts segment page told None below inside there tells = absurd (none-some told tells)
+class_told f parts segment page told (Some k) below inside there tells =
+    ap f ((segments_are_told parts segment (plain_from k) below there).classes page inside)
+    ∙ same_Some (f (class_in k.classes page)) told tells
 
 -- the holder's heap, as it is read, has the segment, and tells the machine's number
 module _ (a : Inside) (s : Core) (segment holder : ℕ) (view : core_of a ≡ s) (stored : IsStored a)
@@ -73,21 +73,28 @@ module _ (a : Inside) (s : Core) (segment holder : ℕ) (view : core_of a ≡ s)
         ap (λ h. is_held plain_number h.segments segment) (sym heap_is)
         ∙ holder_holds s kept holder segment is
 
+    pub holder_told : {X : Type 0} (f : Option ℕ → X) (page : ℕ) (told : X) → page < 16
+        → option_map (λ (k : Kept PlainWords). f (class_in k.classes page))
+        (segment_in plain_number heap.segments segment) ≡ Some told
+        → f (class_at (state_in s) (segment * 16 + page)) ≡ told
+    holder_told f page told inside tells =
+        let below : segment < length s.policy.segments =
+        held_inside s holder segment kept.tidy (holder_holds s kept holder segment is) in
+        class_told f (parts_of s) segment page told
+        (segment_in plain_number heap.segments segment) below inside
+        (plain_held s segment holder (sym (worker_is s segment below) ∙ is)
+        ∙ ap (λ (h : Held PlainWords). option_map plain_from
+        (segment_in plain_number h.segments segment)) heap_is)
+        tells
+
     pub places_told : (page told : ℕ) → page < 16
         → option_map (λ (k : Kept PlainWords). places_by (class_in k.classes page))
         (segment_in plain_number heap.segments segment) ≡ Some told
         → told ≡ block_places (state_in s) segment page
     places_told page told inside tells =
-        let below : segment < length s.policy.segments =
-        held_inside s holder segment kept.tidy (holder_holds s kept holder segment is) in
         sym (on_page (state_in s) segment page inside
         ∙ ap (λ o. places_held o (class_at (state_in s) (segment * 16 + page))) is
-        ∙ class_told (parts_of s) segment page told (segment_in plain_number heap.segments segment)
-        below inside
-        (plain_held s segment holder (sym (worker_is s segment below) ∙ is)
-        ∙ ap (λ (h : Held PlainWords). option_map plain_from
-        (segment_in plain_number h.segments segment)) heap_is)
-        tells)
+        ∙ holder_told places_by page told inside tells)
 
 -- a place that isn't home is one of the class's
 home_by : (l : Life) → (is_home l ≡ false → ⊥) → l ≡ home

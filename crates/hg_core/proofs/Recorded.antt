@@ -158,6 +158,28 @@ pub worker_is : (core : Core) (n : ℕ) → n < length core.policy.segments
 worker_is core n lt =
     ap worker_in (holder_is (parts_of core) n lt) ∙ worker_by (worker_of (parts_of core) n) _
 
+-- and one that nobody holds stands in the pool
+module _ (a : Inside) (s : Core) (segment : ℕ) (view : core_of a ≡ s) (stored : IsStored a)
+    (lt : segment < length s.policy.segments)
+    (is : worker_in (holder_at (state_in s) segment) ≡ None) where
+  pooled_in : plain_of (parts_of (core_of a)) segment
+      ≡ option_map plain_from (pool.segment_of plain_number (core_of a).pool segment)
+  pooled_in =
+      let inside : segment < length (core_of a).policy.segments =
+      subst (λ (x : Core). segment < length x.policy.segments) (sym view) lt in
+      plain_pooled (core_of a) segment (sym (worker_is (core_of a) segment inside)
+      ∙ ap (λ (x : Core). worker_in (holder_at (state_in x) segment)) view ∙ is)
+
+  pub has_pooled : IsPooled plain_number a.pool segment
+  has_pooled =
+      there (parts_of (core_of a)) stored.kept.tidy.segments segment
+      (subst (λ (x : Core). segment < length x.policy.segments) (sym view) lt)
+      (pool.segment_of plain_number (core_of a).pool segment) pooled_in
+
+  pub plain_in_pool : plain_of (parts_of s) segment
+      ≡ option_map plain_from (pool.segment_of plain_number a.pool segment)
+  plain_in_pool = ap (λ (x : Core). plain_of (parts_of x) segment) (sym view) ∙ pooled_in
+
 -- so a place is told of by the holder's heap, else by the pool
 module _ (a : Inside) (s : Core) (place : Place) (view : core_of a ≡ s) (stored : IsStored a)
     (lt : place.segment < length s.policy.segments) where
@@ -181,19 +203,8 @@ module _ (a : Inside) (s : Core) (place : Place) (view : core_of a ≡ s) (store
     abbrev core : Core
     core = core_of a
 
-    inside : place.segment < length core.policy.segments
-    inside = subst (λ (x : Core). place.segment < length x.policy.segments) (sym view) lt
-
-    pooled : plain_of (parts_of core) place.segment
-        ≡ option_map plain_from (pool.segment_of plain_number core.pool place.segment)
-    pooled =
-        plain_pooled core place.segment (sym (worker_is core place.segment inside)
-        ∙ ap (λ (x : Core). worker_in (holder_at (state_in x) place.segment)) view ∙ is)
-
     pub is_pooled : IsPooled plain_number a.pool place.segment
-    is_pooled =
-        there (parts_of core) stored.kept.tidy.segments place.segment inside
-        (pool.segment_of plain_number core.pool place.segment) pooled
+    is_pooled = has_pooled a s place.segment view stored lt is
 
     pub told_pooled : (st : Standing) (word : ℕ)
         → pool.IsOf plain_number a.pool place.segment
@@ -203,7 +214,8 @@ module _ (a : Inside) (s : Core) (place : Place) (view : core_of a ≡ s) (store
     told_pooled st word t =
         let o = pool.segment_of plain_number core.pool place.segment in
         subst (λ (x : Core). IsKeptAt (parts_of x) place st word) view
-        (kept_by (parts_of core) place o st word pooled
+        (kept_by (parts_of core) place o st word
+        (pooled_in a s place.segment view stored lt is)
         (pool_tells o (λ (k : K). standing_at (plain_records k.slots) (slot_of place)) st
         (t.0, t.1, t.2.0))
         (pool_tells o (λ (k : K). slice_index (plain_words k.slots) (slot_of place)) word

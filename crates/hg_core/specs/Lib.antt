@@ -7,4 +7,5 @@ pub mod Opening
 pub mod Records
 pub mod Kinds
 pub mod BlockPlaces
+pub mod PageClasses
 pub mod WordEvents

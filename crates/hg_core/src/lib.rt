@@ -18,6 +18,7 @@ mod kinds;
 mod looking;
 mod many;
 mod opening;
+mod pages;
 mod places;
 mod reaching;
 mod reading;

@@ -6,6 +6,7 @@ mod changing;
 mod draws;
 mod freed_at_once;
 mod machine;
+mod page_classes;
 mod places;
 mod reached;
 mod runs;

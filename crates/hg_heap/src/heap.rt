@@ -20,7 +20,7 @@ use hg_place::{MAX_SEGMENTS, Place, SlotWords, Standing};
 use hg_policy::Policy;
 use hg_queue::PageQueues;
 use hg_segment::{Charges, Segment, TENANTS};
-use hg_size::per_page;
+use hg_size::{Class, per_page};
 use std::alloc::{AllocError, Global};
 use std::marker::Model;
 
@@ -121,6 +121,20 @@ impl<S: SlotWords> Heap<S> {
             unreachable!()
         };
         self.segments[found as usize].standing(place.page, place.index)
+    }
+
+    /// The class of a page, if it has one, of a segment that is held. A page that a block of several
+    /// pages lies over has none but at the block's first page.
+    pub fn page_class(&self, segment: u8, page: u8) -> Option<Class>
+        requires held { is_held S.number self.now.segments segment ≡ true }
+        requires page { page < SEGMENT_PAGES }
+        ensures { option_map (λ k. class_at k.classes page)
+            (segment_in S.number self.now.segments segment) ≡ Some result }
+    {
+        let Some(found) = self.found(segment) else {
+            unreachable!()
+        };
+        self.segments[found as usize].class_of(page)
     }
 
     /// How many places the blocks of a page have, of a segment that is held: those of the page's

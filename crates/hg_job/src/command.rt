@@ -103,8 +103,9 @@ const STATE_ABOUT: &str = "Prints what stands after a trace";
 const STATE_MORE: &str = "\
 Runs the trace to its end, and tells what stands then: what each worker holds, has in hand
 and charges; orphans and fresh segments; the blocks of each tenant; of each segment how many
-places are live, parted, sent or worn; and of each page with a class, in a segment that is
-held, how many are live, parted, worn or free. With --map and --svg these pages are drawn.
+places are live, parted, sent or worn; of each page with a class how many are live, parted,
+worn or free; and of each class how many blocks stand, and how many were given out, with the
+bytes asked for and the bytes given. With --map and --svg the pages are drawn.
 No answer is printed: see `heapguard replay --explain` for lines that serve nothing.
 
 Exit status:

@@ -23,7 +23,9 @@ orphans none
 fresh none
 tenant alice live 1 parted 0
 segment 0 live 1 parted 0 sent 0 worn 1
-page 0.0 places 2 live 1 parted 0 worn 1 free 0
+page 0.0 class 2048 places 2 live 1 parted 0 worn 1 free 0
+class 2048 blocks 1 asked 2000 given 2048
+class 2048 allocs 2 asked 4000 given 4096
 ";
 
 const OBJECTS: &str = "{\"worker\":0,\"holds\":[0]}
@@ -33,21 +35,23 @@ const OBJECTS: &str = "{\"worker\":0,\"holds\":[0]}
 {\"fresh\":[]}
 {\"tenant\":\"alice\",\"live\":1,\"parted\":0}
 {\"segment\":0,\"live\":1,\"parted\":0,\"sent\":0,\"worn\":1}
-{\"segment\":0,\"page\":0,\"places\":2,\"live\":1,\"parted\":0,\"worn\":1,\"free\":0}
+{\"segment\":0,\"page\":0,\"class\":2048,\"places\":2,\"live\":1,\"parted\":0,\"worn\":1,\"free\":0}
+{\"class\":2048,\"blocks\":1,\"asked\":2000,\"given\":2048}
+{\"class\":2048,\"allocs\":2,\"asked\":4000,\"given\":4096}
 ";
 
 const MAP: &str =
-    "pages: . no class, or behind the first of a block, - all free, + in part, # none free
-places: . free, # live, o parted, * worn
+    "pages: . no class, - all free, + in part, # none free, = goes with the page before
+places, behind the bytes of a block: . free, # live, o parted, * worn
 segment 0 #...............
-page 0.0 #*
+page 0.0 2048 #*
 ";
 
 const PICTURE: &str = "<svg xmlns=\"http://www.w3.org/2000/svg\" width=\"1030\" height=\"106\" \
 font-family=\"monospace\" font-size=\"12\">
-<style>.f{fill:#e6e6e6}.u{fill:none;stroke:#bbb}.l{fill:none;stroke:#bbb;stroke-dasharray:4}.w{fill:#000}.p{opacity:.4}</style>
+<style>.f{fill:#e6e6e6}.u{fill:none;stroke:#bbb}.l{fill:none;stroke:#bbb;stroke-width:3;stroke-dasharray:4}.w{fill:#000}.p{opacity:.4}</style>
 <rect width=\"100%\" height=\"100%\" fill=\"#fff\"/>
-<text x=\"60\" y=\"56\">a colour a tenant; pale: parted; black: worn; grey: free; white: no class, or behind the first page of a block; dashed: held by nobody</text>
+<text x=\"60\" y=\"56\">a colour a tenant; pale: parted; black: worn; grey: free; white: no class; dashed: held by nobody</text>
 <text x=\"8\" y=\"25\">0</text>
 <rect x=\"60\" y=\"10\" width=\"956\" height=\"22\" class=\"u\"/>
 <svg x=\"60\" y=\"10\" width=\"56\" height=\"22\" preserveAspectRatio=\"none\" viewBox=\"0 0 2 1\">

@@ -1,3 +1,5 @@
 mod CellsDrawn
+mod Coming
+mod CostsTold
 mod OrphansTold
 mod Texts

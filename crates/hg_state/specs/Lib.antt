@@ -1,6 +1,7 @@
 pub mod After
 pub mod Blocks
 pub mod Cells
+pub mod Costs
 pub mod Endings
 pub mod Orphans
 pub mod Pages

@@ -1,9 +1,10 @@
 -- Segments, pages and places, drawn.
-use Rattle.std.specs.Prelude.{ℕ, ◌+◌, ◌==◌, ◌++◌, List, []}
-use Rattle.std.specs.Prelude.{if◌then◌else◌}
+use Rattle.std.specs.Prelude.{ℕ, ◌+◌, ◌++◌, List, [], Option, Some, None}
 use Rattle.std.specs.List.{flat_map, range_with_len}
+use Rattle.hg_size.specs.Sizes.{places_of}
 use Rattle.hg_machine.specs.State.{State}
-use Rattle.hg_core.specs.BlockPlaces.{block_places, first_place}
+use Rattle.hg_core.specs.BlockPlaces.{first_place}
+use Rattle.hg_core.specs.PageClasses.{page_class}
 use Rattle.hg_show.specs.Parts.{tenants_in}
 use Rattle.hg_state.specs.Cells.{cell_at}
 use Rattle.hg_state.specs.Pages.{pages_in}
@@ -16,15 +17,17 @@ use Rattle.hg_state.specs.declared.form.Drawing.{Drawing}
 abbrev pub place_shape : Drawing → State → ℕ → ℕ → List ℕ
 place_shape drawing s first index = cell_shape drawing index (cell_at s (first + index))
 
--- a page with each place that its blocks have; nothing where there are none
-unfoldable pub page_shape : Drawing → State → ℕ → ℕ → List ℕ
-page_shape drawing s segment page =
-    if block_places s segment page == 0
-    then []
-    else page_front drawing segment page (block_places s segment page)
+-- a page with each place that its blocks have; nothing where it has no class
+abbrev pub shape_by : Drawing → State → ℕ → ℕ → Option ℕ → List ℕ
+shape_by drawing s segment page None = []
+shape_by drawing s segment page (Some class) =
+    page_front drawing segment page class
     ++ flat_map (place_shape drawing s (first_place segment page))
-    (range_with_len 0 (block_places s segment page))
+    (range_with_len 0 (places_of class))
     ++ page_back drawing
+
+unfoldable pub page_shape : Drawing → State → ℕ → ℕ → List ℕ
+page_shape drawing s segment page = shape_by drawing s segment page (page_class s segment page)
 
 -- a segment with its pages
 unfoldable pub segment_shape : Drawing → State → ℕ → List ℕ

@@ -1,15 +1,17 @@
 -- What each part of a picture begins and ends with, and what is drawn of a place: of a map a character,
 -- of an SVG file a square of one by one, where the place isn't free.
-use Rattle.std.specs.Prelude.{ℕ, ◌+◌, ◌*◌, ◌/◌, ◌%◌, ◌==◌, ◌++◌, Bool, List, [], codes, decimal}
-use Rattle.std.specs.Prelude.{is_none, length}
+use Rattle.std.specs.Prelude.{ℕ, ◌+◌, ◌-◌, ◌*◌, ◌/◌, ◌%◌, ◌==◌, ◌++◌, Bool, List, [], codes, decimal}
+use Rattle.std.specs.Prelude.{Option, Some, None, is_none, length}
 use Rattle.std.specs.Prelude.{if◌then◌else◌}
 use Rattle.std.specs.List.{flat_map}
+use Rattle.hg_place.specs.declared.geometry.TheConstants.{WORD_BYTES}
+use Rattle.hg_size.specs.Sizes.{pages_of, places_of}
 use Rattle.hg_machine.specs.Policy.{Policy}
 use Rattle.hg_machine.specs.State.{State, holder_at}
-use Rattle.hg_core.specs.BlockPlaces.{block_places}
 use Rattle.hg_core.specs.Held.{worker_in}
+use Rattle.hg_core.specs.PageClasses.{page_class}
 use Rattle.hg_show.specs.Parts.{name_of}
-use Rattle.hg_state.specs.Pages.{free_of, pages_in}
+use Rattle.hg_state.specs.Pages.{free_of, is_behind, pages_in}
 use Rattle.hg_state.specs.Pieces.{text_of}
 use Rattle.hg_state.specs.declared.cell.Cell.{Cell}
 use Rattle.hg_state.specs.declared.cell.Cell.TheVariants as cell
@@ -47,29 +49,35 @@ abbrev pub cell_shape : Drawing → ℕ → Cell → List ℕ
 cell_shape drawing.Map index c = mark_of c
 cell_shape drawing.Svg index c = square_of index c
 
--- a page in its segment's row: with no places that are told, with none free, with all free, or between
+-- a page of a class in its segment's row: with none of its places free, with all free, or between
 abbrev pub mark_by : ℕ → ℕ → List ℕ
 mark_by places free =
-    if places == 0 then codes "."
-    else (if free == 0 then codes "#" else (if free == places then codes "-" else codes "+"))
+    if free == 0 then codes "#" else (if free == places then codes "-" else codes "+")
 
+abbrev pub class_mark : State → ℕ → ℕ → Option ℕ → List ℕ
+class_mark s segment page None = codes "."
+class_mark s segment page (Some class) =
+    mark_by (places_of class) (free_of s segment page class)
+
+-- and one that lies behind the first of a block of several pages
 unfoldable pub page_mark : State → ℕ → ℕ → List ℕ
-page_mark s segment page = mark_by (block_places s segment page) (free_of s segment page)
+page_mark s segment page =
+    if is_behind s segment page
+    then codes "="
+    else class_mark s segment page (page_class s segment page)
 
-unfoldable pub held_row : State → ℕ → List ℕ
-held_row s segment =
-    text_of piece.Segment ++ decimal segment
-    ++ text_of piece.Gap ++ flat_map (page_mark s segment) pages_in ++ text_of piece.LineEnd
-
-unfoldable pub left_row : ℕ → List ℕ
-left_row segment = text_of piece.Segment ++ decimal segment ++ text_of piece.Left
-
--- nobody holds the segment, so its pages aren't told
+-- nobody holds the segment
 abbrev pub is_left : State → ℕ → Bool
 is_left s segment = is_none (worker_in (holder_at s segment))
 
-abbrev pub map_row : State → ℕ → List ℕ
-map_row s segment = if is_left s segment then left_row segment else held_row s segment
+abbrev pub map_row_end : Bool → Piece
+map_row_end is_left = if is_left then piece.Left else piece.LineEnd
+
+unfoldable pub map_row : State → ℕ → List ℕ
+map_row s segment =
+    text_of piece.Segment ++ decimal segment
+    ++ text_of piece.Gap ++ flat_map (page_mark s segment) pages_in
+    ++ text_of (map_row_end (is_left s segment))
 
 abbrev pub row_end : Bool → Piece
 row_end is_left = if is_left then piece.LeftRowEnd else piece.RowEnd
@@ -83,21 +91,23 @@ abbrev pub row_shape : Drawing → State → ℕ → List ℕ
 row_shape drawing.Map s segment = map_row s segment
 row_shape drawing.Svg s segment = svg_row segment (is_left s segment)
 
--- a page with so many places, before those
-unfoldable pub map_page : ℕ → ℕ → List ℕ
-map_page segment page =
-    codes "page " ++ decimal segment ++ codes "." ++ decimal page ++ codes " "
+-- a page of a class, before its places: as wide as all pages that its block lies over
+unfoldable pub map_page : ℕ → ℕ → ℕ → List ℕ
+map_page segment page class =
+    text_of piece.PageOf ++ decimal segment ++ text_of piece.PageDot ++ decimal page
+    ++ text_of piece.Gap ++ decimal (WORD_BYTES * class) ++ text_of piece.Gap
 
 unfoldable pub svg_page : ℕ → ℕ → ℕ → List ℕ
-svg_page segment page places =
+svg_page segment page class =
     text_of piece.PageAt ++ decimal (60 + 60 * page)
     ++ text_of piece.PageDown ++ decimal (10 + 26 * segment)
-    ++ text_of piece.PageScale ++ decimal places
-    ++ text_of piece.PageWidth ++ decimal places ++ text_of piece.PageFront
+    ++ text_of piece.PageWide ++ decimal (60 * pages_of class - 4)
+    ++ text_of piece.PageScale ++ decimal (places_of class)
+    ++ text_of piece.PageWidth ++ decimal (places_of class) ++ text_of piece.PageFront
 
 abbrev pub page_front : Drawing → ℕ → ℕ → ℕ → List ℕ
-page_front drawing.Map segment page places = map_page segment page
-page_front drawing.Svg segment page places = svg_page segment page places
+page_front drawing.Map segment page class = map_page segment page class
+page_front drawing.Svg segment page class = svg_page segment page class
 
 -- and behind those
 abbrev pub page_back : Drawing → List ℕ
@@ -120,7 +130,7 @@ head_shape drawing.Svg policy = svg_head policy
 unfoldable pub svg_colour : ℕ → List ℕ
 svg_colour tenant =
     text_of piece.Colour ++ decimal tenant ++ text_of piece.Hue ++ decimal (tenant * 137 % 360)
-    ++ text_of piece.Lightness ++ decimal (40 + 15 * (tenant / 22))
+    ++ text_of piece.Lightness ++ decimal (40 + 15 * (tenant / 21))
 
 unfoldable pub svg_name : Policy → ℕ → List ℕ
 svg_name policy tenant =

@@ -1,6 +1,8 @@
 //! Laws of what stands. Each function does nothing: what it promises is the law.
 
+ghost use Rattle.hg_state.specs.After.{ComingToReplays};
 ghost use Rattle.hg_state.specs.Cells.{CellsAreKinds};
+ghost use Rattle.hg_state.specs.Costs.{NoLessIsGiven};
 ghost use Rattle.hg_state.specs.Orphans.{FreshAreApart, StepsTellOrphans};
 
 /// The orphans of the machine after a step are those before it and what the event was answered.
@@ -16,4 +18,14 @@ pub fn fresh_are_apart()
 /// A place is drawn as live, parted or worn exactly where it counts as that.
 pub fn cells_are_kinds()
     ensures { CellsAreKinds }
+{}
+
+/// Where lines come to something one after another, that is a replay.
+pub fn coming_to_replays()
+    ensures { ComingToReplays }
+{}
+
+/// No class gives less than was asked for.
+pub fn no_less_is_given()
+    ensures { NoLessIsGiven }
 {}

@@ -4,6 +4,7 @@
 mod after;
 mod blocks;
 mod cell;
+mod costs;
 mod form;
 pub mod laws;
 mod orphans;
@@ -16,6 +17,7 @@ mod shapes;
 mod standing;
 mod workers;
 
+pub use costs::{Granted, note_granted};
 pub use form::View;
 pub use orphans::note_orphans;
 pub use run::run_state;

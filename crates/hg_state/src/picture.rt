@@ -6,7 +6,7 @@ ghost use Rattle.hg_place.specs.declared.geometry.TheConstants.{MAX_SEGMENTS, SE
 ghost use Rattle.hg_place.specs.declared.geometry.TheConstants.{SEGMENT_PLACES};
 ghost use Rattle.hg_show.specs.Parts.{tenants_in};
 ghost use Rattle.hg_state.specs.Pages.{pages_in};
-ghost use Rattle.hg_state.specs.Pictures.{page_shape, picture, place_shape, segment_shape};
+ghost use Rattle.hg_state.specs.Pictures.{page_shape, picture, place_shape, segment_shape, shape_by};
 ghost use Rattle.hg_state.specs.Shapes.{tenant_shape};
 ghost use Rattle.hg_state.specs.Workers.{segments_in};
 
@@ -18,6 +18,7 @@ use crate::shapes::{
 };
 use hg_core::Core;
 use hg_place::{SEGMENT_PAGES, place_at};
+use hg_size::{Class, per_page};
 use hg_text::push;
 use std::alloc::{AllocError, Global};
 
@@ -40,7 +41,35 @@ fn push_places(
     Ok(())
 }
 
-/// Appends a page with its places, where it has blocks.
+/// Appends a page with its places, where it has this class.
+fn push_shape_by(
+    out: &mut Vec<u8>,
+    drawing: Drawing,
+    core: &Core,
+    segment: u8,
+    page: u8,
+    class: Option<Class>,
+) -> Result<(), AllocError>
+    requires segment { segment < MAX_SEGMENTS }
+    requires page { page < SEGMENT_PAGES }
+    ensures { OnOk result (out.new.items
+        ≡ out.old.items ++ shape_by drawing core.now.state segment page class) }
+{
+    let Some(class) = class else {
+        return Ok(());
+    };
+    push_page_front(out, drawing, segment, page, class)?;
+    push_places(
+        out,
+        drawing,
+        core,
+        first_place(segment, page),
+        per_page(class),
+    )?;
+    push(out, page_back(drawing))
+}
+
+/// Appends a page with its places, where it has a class.
 #[tactic(auto, unfolding(crate::specs::Pictures::page_shape))]
 fn push_page_shape(
     out: &mut Vec<u8>,
@@ -54,13 +83,8 @@ fn push_page_shape(
     ensures { OnOk result (out.new.items
         ≡ out.old.items ++ page_shape drawing core.now.state segment page) }
 {
-    let places = core.block_places(segment, page);
-    if places == 0 {
-        return Ok(());
-    }
-    push_page_front(out, drawing, segment, page, places)?;
-    push_places(out, drawing, core, first_place(segment, page), places)?;
-    push(out, page_back(drawing))
+    let class = core.page_class(segment, page);
+    push_shape_by(out, drawing, core, segment, page, class)
 }
 
 /// Appends the pages of a segment.

@@ -12,6 +12,8 @@ pub(crate) enum Piece {
     MapPages,
     MapPlaces,
     Segment,
+    PageOf,
+    PageDot,
     Gap,
     Left,
     LineEnd,
@@ -27,6 +29,7 @@ pub(crate) enum Piece {
     RowEnd,
     PageAt,
     PageDown,
+    PageWide,
     PageScale,
     PageWidth,
     PageFront,
@@ -50,10 +53,13 @@ pub(crate) fn text_of(piece: Piece) -> &'static str
 {
     match piece {
         Piece::MapPages => {
-            "pages: . no class, or behind the first of a block, - all free, + in part, # none free\n"
+            "pages: . no class, - all free, + in part, # none free, = goes with the page before\n"
         }
-        Piece::MapPlaces => "places: . free, # live, o parted, * worn\n",
+        Piece::MapPlaces =>
+            "places, behind the bytes of a block: . free, # live, o parted, * worn\n",
         Piece::Segment => "segment ",
+        Piece::PageOf => "page ",
+        Piece::PageDot => ".",
         Piece::Gap => " ",
         Piece::Left => " held by nobody\n",
         Piece::LineEnd => "\n",
@@ -69,9 +75,8 @@ pub(crate) fn text_of(piece: Piece) -> &'static str
         Piece::RowEnd => "\" width=\"956\" height=\"22\" class=\"u\"/>\n",
         Piece::PageAt => "<svg x=\"",
         Piece::PageDown => "\" y=\"",
-        Piece::PageScale => {
-            "\" width=\"56\" height=\"22\" preserveAspectRatio=\"none\" viewBox=\"0 0 "
-        }
+        Piece::PageWide => "\" width=\"",
+        Piece::PageScale => "\" height=\"22\" preserveAspectRatio=\"none\" viewBox=\"0 0 ",
         Piece::PageWidth => " 1\">\n<rect width=\"",
         Piece::PageFront => "\" height=\"1\" class=\"f\"/>\n",
         Piece::PageBack => "</svg>\n",
@@ -79,12 +84,12 @@ pub(crate) fn text_of(piece: Piece) -> &'static str
         Piece::Style => {
             "\" font-family=\"monospace\" font-size=\"12\">\n\
              <style>.f{fill:#e6e6e6}.u{fill:none;stroke:#bbb}\
-             .l{fill:none;stroke:#bbb;stroke-dasharray:4}.w{fill:#000}.p{opacity:.4}</style>\n\
+             .l{fill:none;stroke:#bbb;stroke-width:3;stroke-dasharray:4}.w{fill:#000}.p{opacity:.4}</style>\n\
              <rect width=\"100%\" height=\"100%\" fill=\"#fff\"/>\n<text x=\"60\" y=\""
         }
         Piece::Meaning => {
             "\">a colour a tenant; pale: parted; black: worn; grey: free; \
-             white: no class, or behind the first page of a block; dashed: held by nobody</text>\n"
+             white: no class; dashed: held by nobody</text>\n"
         }
         Piece::Colour => "<style>.t",
         Piece::Hue => "{fill:hsl(",

@@ -21,8 +21,8 @@ fn left_by(alloc: Global, view: View, policy: Policy, trace: &Trace) -> Result<V
     requires { All (λ line. line.worker < policy.workers) (lines_in trace.now) }
     ensures { IfOk result (λ text. LeavesText view policy (lines_in trace.now) text.items) }
 {
-    let (core, orphans) = after(alloc, policy, trace)?;
-    stands(alloc, view, &core, &orphans)
+    let left = after(alloc, policy, trace)?;
+    stands(alloc, view, &left.core, &left.orphans, &left.blocks)
 }
 
 /// The same, unless some worker is unknown.

@@ -42,7 +42,7 @@ fn is_sent(core: &Core, place: Place) -> bool
 }
 
 /// One for what is so.
-fn bit(is: bool) -> usize
+pub(crate) fn bit(is: bool) -> usize
     ensures bit { result ≡ cond is 1 0 }
     ensures few { result ≤ 1 }
 {

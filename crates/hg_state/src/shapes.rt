@@ -4,21 +4,22 @@ ghost use Rattle.std.specs.Prelude.{◌≡◌, ◌<◌, ◌++◌, OnOk};
 ghost use Rattle.std.specs.List.{flat_map};
 ghost use Rattle.hg_place.specs.declared.geometry.TheConstants.{MAX_SEGMENTS, SEGMENT_PAGES};
 ghost use Rattle.hg_state.specs.Pages.{pages_in};
-ghost use Rattle.hg_state.specs.Shapes.{cell_shape, head_shape, held_row, is_left, left_row, map_page};
-ghost use Rattle.hg_state.specs.Shapes.{map_row, mark_by, mark_of};
+ghost use Rattle.hg_state.specs.Shapes.{cell_shape, class_mark, head_shape, is_left, map_page};
+ghost use Rattle.hg_state.specs.Shapes.{map_row, map_row_end, mark_by, mark_of};
 ghost use Rattle.hg_state.specs.Shapes.{owned_square, page_back, page_front, page_mark};
 ghost use Rattle.hg_state.specs.Shapes.{picture_back, row_end, row_shape, square, square_of, svg_head};
 ghost use Rattle.hg_state.specs.Shapes.{svg_colour, svg_name, svg_page, svg_row, svg_tenant, tenant_shape};
 
 use crate::cell::Cell;
 use crate::form::Drawing;
-use crate::pages::free_of;
+use crate::pages::{class_bytes, free_of, is_behind};
 use crate::pieces::{Piece, push_numbered, push_piece, text_of};
 use crate::workers::name_of;
 use hg_core::Core;
 use hg_place::SEGMENT_PAGES;
 use hg_policy::Policy;
-use hg_text::{push, push_count};
+use hg_size::{Class, pages_of, per_page};
+use hg_text::push;
 use std::alloc::AllocError;
 
 /// The character of a place.
@@ -85,14 +86,27 @@ pub(crate) fn push_cell(
 fn mark_by(places: usize, free: usize) -> &'static str
     ensures { result.now ≡ mark_by places free }
 {
-    if places == 0 {
-        "."
-    } else if free == 0 {
+    if free == 0 {
         "#"
     } else if free == places {
         "-"
     } else {
         "+"
+    }
+}
+
+/// The character of a page of this class, if it has one.
+fn class_mark(core: &Core, segment: u8, page: u8, class: Option<Class>) -> &'static str
+    requires segment { segment < MAX_SEGMENTS }
+    requires page { page < SEGMENT_PAGES }
+    ensures { result.now ≡ class_mark core.now.state segment page class }
+{
+    match class {
+        Some(class) => mark_by(
+            usize::from(per_page(class)),
+            free_of(core, segment, page, class),
+        ),
+        None => ".",
     }
 }
 
@@ -103,8 +117,10 @@ fn page_mark(core: &Core, segment: u8, page: u8) -> &'static str
     requires page { page < SEGMENT_PAGES }
     ensures { result.now ≡ page_mark core.now.state segment page }
 {
-    let places = usize::from(core.block_places(segment, page));
-    mark_by(places, free_of(core, segment, page))
+    if is_behind(core, segment, page) {
+        return "=";
+    }
+    class_mark(core, segment, page, core.page_class(segment, page))
 }
 
 /// Appends it.
@@ -135,36 +151,23 @@ fn is_left(core: &Core, segment: u8) -> bool
     core.holder(segment).is_none()
 }
 
-/// Appends the row of a map for a segment that nobody holds.
-#[tactic(auto, unfolding(crate::specs::Shapes::left_row))]
-fn push_left_row(out: &mut Vec<u8>, segment: u8) -> Result<(), AllocError>
-    ensures { OnOk result (out.new.items ≡ out.old.items ++ left_row segment) }
+/// What a row of a map ends with.
+fn map_row_end(is_left: bool) -> Piece
+    ensures { result ≡ map_row_end is_left }
 {
-    push_numbered(out, Piece::Segment, u64::from(segment))?;
-    push_piece(out, Piece::Left)
+    if is_left { Piece::Left } else { Piece::LineEnd }
 }
 
 /// Appends a segment's row of a map.
+#[tactic(auto, unfolding(crate::specs::Shapes::map_row))]
 fn push_map_row(out: &mut Vec<u8>, core: &Core, segment: u8) -> Result<(), AllocError>
     requires { segment < MAX_SEGMENTS }
     ensures { OnOk result (out.new.items ≡ out.old.items ++ map_row core.now.state segment) }
 {
-    if is_left(core, segment) {
-        return push_left_row(out, segment);
-    }
-    push_held_row(out, core, segment)
-}
-
-/// Appends the row of a map for a segment that a worker holds.
-#[tactic(auto, unfolding(crate::specs::Shapes::held_row))]
-fn push_held_row(out: &mut Vec<u8>, core: &Core, segment: u8) -> Result<(), AllocError>
-    requires { segment < MAX_SEGMENTS }
-    ensures { OnOk result (out.new.items ≡ out.old.items ++ held_row core.now.state segment) }
-{
     push_numbered(out, Piece::Segment, u64::from(segment))?;
     push_piece(out, Piece::Gap)?;
     push_page_marks(out, core, segment)?;
-    push_piece(out, Piece::LineEnd)
+    push_piece(out, map_row_end(is_left(core, segment)))
 }
 
 /// What a row ends with.
@@ -208,23 +211,26 @@ pub(crate) fn push_row(
 
 /// Appends what a page of a map begins with.
 #[tactic(auto, unfolding(crate::specs::Shapes::map_page))]
-fn push_map_page(out: &mut Vec<u8>, segment: u8, page: u8) -> Result<(), AllocError>
-    ensures { OnOk result (out.new.items ≡ out.old.items ++ map_page segment page) }
+fn push_map_page(out: &mut Vec<u8>, segment: u8, page: u8, class: Class) -> Result<(), AllocError>
+    ensures { OnOk result (out.new.items ≡ out.old.items ++ map_page segment page class) }
 {
-    push_count(out, "page ", u64::from(segment))?;
-    push_count(out, ".", u64::from(page))?;
-    push(out, " ")
+    push_numbered(out, Piece::PageOf, u64::from(segment))?;
+    push_numbered(out, Piece::PageDot, u64::from(page))?;
+    push_numbered(out, Piece::Gap, class_bytes(class))?;
+    push_piece(out, Piece::Gap)
 }
 
 /// Appends what a page of an SVG file begins with.
 #[tactic(auto, unfolding(crate::specs::Shapes::svg_page))]
-fn push_svg_page(out: &mut Vec<u8>, segment: u8, page: u8, places: u16) -> Result<(), AllocError>
-    ensures { OnOk result (out.new.items ≡ out.old.items ++ svg_page segment page places) }
+fn push_svg_page(out: &mut Vec<u8>, segment: u8, page: u8, class: Class) -> Result<(), AllocError>
+    ensures { OnOk result (out.new.items ≡ out.old.items ++ svg_page segment page class) }
 {
+    let places = u64::from(per_page(class));
     push_numbered(out, Piece::PageAt, 60 + 60 * u64::from(page))?;
     push_numbered(out, Piece::PageDown, 10 + 26 * u64::from(segment))?;
-    push_numbered(out, Piece::PageScale, u64::from(places))?;
-    push_numbered(out, Piece::PageWidth, u64::from(places))?;
+    push_numbered(out, Piece::PageWide, 60 * u64::from(pages_of(class)) - 4)?;
+    push_numbered(out, Piece::PageScale, places)?;
+    push_numbered(out, Piece::PageWidth, places)?;
     push_piece(out, Piece::PageFront)
 }
 
@@ -234,14 +240,14 @@ pub(crate) fn push_page_front(
     drawing: Drawing,
     segment: u8,
     page: u8,
-    places: u16,
+    class: Class,
 ) -> Result<(), AllocError>
     ensures { OnOk result (out.new.items
-        ≡ out.old.items ++ page_front drawing segment page places) }
+        ≡ out.old.items ++ page_front drawing segment page class) }
 {
     match drawing {
-        Drawing::Map => push_map_page(out, segment, page),
-        Drawing::Svg => push_svg_page(out, segment, page, places),
+        Drawing::Map => push_map_page(out, segment, page, class),
+        Drawing::Svg => push_svg_page(out, segment, page, class),
     }
 }
 
@@ -292,7 +298,7 @@ fn push_svg_colour(out: &mut Vec<u8>, tenant: u8) -> Result<(), AllocError>
     let number = u64::from(tenant);
     push_numbered(out, Piece::Colour, number)?;
     push_numbered(out, Piece::Hue, number * 137 % 360)?;
-    push_numbered(out, Piece::Lightness, 40 + 15 * (number / 22))
+    push_numbered(out, Piece::Lightness, 40 + 15 * (number / 21))
 }
 
 /// Appends a tenant's name, behind its colour.

@@ -31,7 +31,7 @@ static SIZES: [(u16, u16); 9] = [
 ];
 
 /// A core whose first worker holds segment 0.
-fn opened(rt: &impl Abort, alloc: Global) -> Core {
+pub fn opened(rt: &impl Abort, alloc: Global) -> Core {
     let policy = read_policy(alloc, THREE_SEGMENTS.as_bytes()).expect(rt, "a policy");
     let mut core = Core::open(alloc, policy).expect(rt, "memory");
     let refill = Event::Refill { arena: 0 };
@@ -40,7 +40,7 @@ fn opened(rt: &impl Abort, alloc: Global) -> Core {
 }
 
 /// A block of so many words, given out by a worker.
-fn block(rt: &impl Abort, core: &mut Core, worker: u8, words: u16) -> Handle {
+pub fn block(rt: &impl Abort, core: &mut Core, worker: u8, words: u16) -> Handle {
     let event = Event::Alloc {
         actor: ALICE,
         arena: 0,

@@ -1,5 +1,6 @@
 //! What stands by a plain count of answers.
 
+use hg_core::Core;
 use hg_machine::{Answer, Event};
 use hg_place::Place;
 use hg_size::{block_words, class_of, words_of};
@@ -10,7 +11,10 @@ use std::alloc::{AllocError, Global};
 struct Block {
     place: Place,
     owner: u8,
+    /// The bytes of its class.
     bytes: u64,
+    /// The bytes that it was asked for.
+    asked: u64,
     is_parted: bool,
 }
 
@@ -18,6 +22,8 @@ struct Block {
 #[derive(Drop)]
 pub struct Plain {
     blocks: Vec<Block>,
+    /// The bytes that blocks were asked for.
+    requests: Vec<u64>,
     /// Each place that was given out.
     given: Vec<Place>,
     /// Segments, and the workers that hold them.
@@ -45,6 +51,7 @@ impl Plain {
     pub fn new(alloc: Global) -> Plain {
         Plain {
             blocks: Vec::new(alloc),
+            requests: Vec::new(alloc),
             given: Vec::new(alloc),
             held: Vec::new(alloc),
             left: Vec::new(alloc),
@@ -78,10 +85,12 @@ impl Plain {
         match (event, answer) {
             (Event::Alloc { actor, bytes, .. }, Answer::Block(handle)) => {
                 self.given.push(handle.place)?;
+                self.requests.push(bytes)?;
                 self.blocks.push(Block {
                     place: handle.place,
                     owner: actor.0,
                     bytes: class_bytes(bytes),
+                    asked: bytes,
                     is_parted: false,
                 })?;
             }
@@ -102,6 +111,41 @@ impl Plain {
             _ => {}
         }
         Ok(())
+    }
+
+    /// How many blocks of so many bytes were given out, and the bytes that they were asked for.
+    pub fn granted(&self, size: u64) -> (u64, u64) {
+        let mut granted = (0u64, 0u64);
+        for bytes in &self.requests {
+            if class_bytes(*bytes) == size {
+                granted = (granted.0.wrapping_add(1), granted.1.wrapping_add(*bytes));
+            }
+        }
+        granted
+    }
+
+    /// The same of the blocks that stand.
+    pub fn standing(&self, size: u64) -> (u64, u64) {
+        let mut standing = (0u64, 0u64);
+        for block in &self.blocks {
+            if block.bytes == size {
+                standing = (
+                    standing.0.wrapping_add(1),
+                    standing.1.wrapping_add(block.asked),
+                );
+            }
+        }
+        standing
+    }
+
+    /// Whether the page of each block has its class.
+    pub fn are_classed(&self, core: &Core) -> bool {
+        self.blocks.iter().all(|block| {
+            match core.page_class(block.place.segment, block.place.page) {
+                Some(class) => u64::from(block_words(class)) * 8 == block.bytes,
+                None => false,
+            }
+        })
     }
 
     /// The worker that holds a segment.

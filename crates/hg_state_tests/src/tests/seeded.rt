@@ -5,7 +5,8 @@ use hg_core::Core;
 use hg_machine::{Answer, Event};
 use hg_place::{Actor, Handle};
 use hg_policy::read_policy;
-use hg_state::{View, note_orphans, stands};
+use hg_size::{block_words, class_of, pages_of, per_page};
+use hg_state::{Granted, View, note_granted, note_orphans, stands};
 use hg_text::{push, push_count};
 use std::alloc::{AllocError, Global};
 use std::process::Abort;
@@ -57,6 +58,12 @@ impl Draws {
         self.handles.get(at % count).copied()
     }
 
+    /// Bytes to ask for: one in eight is a block of several pages.
+    fn bytes(&mut self) -> u64 {
+        let most = if self.next() % 8 == 0 { 20000 } else { 3000 };
+        self.next() % most
+    }
+
     /// An event of some worker.
     fn event(&mut self) -> Event {
         let actor = Actor((self.next() % 2) as u8);
@@ -66,7 +73,7 @@ impl Draws {
             0..=5 => Event::Alloc {
                 actor,
                 arena,
-                bytes: self.next() % 3000,
+                bytes: self.bytes(),
             },
             6..=10 => match self.handle() {
                 Some(handle) => Event::Free { actor, handle },
@@ -165,7 +172,7 @@ fn push_workers(out: &mut Vec<u8>, plain: &Plain) -> Result<(), AllocError> {
     Ok(())
 }
 
-/// Appends the pages of a segment whose blocks have places, as the core says how many.
+/// Appends the pages of a segment that have a class, as the core says which.
 fn push_pages(
     out: &mut Vec<u8>,
     plain: &Plain,
@@ -173,10 +180,11 @@ fn push_pages(
     segment: u8,
 ) -> Result<(), AllocError> {
     for page in 0..16u8 {
-        let places = core.block_places(segment, page);
-        if places > 0 {
+        if let Some(class) = core.page_class(segment, page) {
+            let places = per_page(class);
             push_count(out, "page ", u64::from(segment))?;
             push_count(out, ".", u64::from(page))?;
+            push_count(out, " class ", u64::from(block_words(class)) * 8)?;
             push_count(out, " places ", u64::from(places))?;
             let marked = |mark| plain.marked(mark, segment, page, places);
             push_count(out, " live ", marked(b'#'))?;
@@ -189,13 +197,17 @@ fn push_pages(
     Ok(())
 }
 
-/// The mark of a page in its segment's row.
-fn page_mark(plain: &Plain, core: &Core, segment: u8, page: u8) -> u8 {
-    let places = core.block_places(segment, page);
+/// The mark of a page in its segment's row, where so many pages from it on are a block's before it.
+fn page_mark(plain: &Plain, core: &Core, segment: u8, page: u8, covered: u8) -> u8 {
+    if covered > 0 {
+        return b'=';
+    }
+    let Some(class) = core.page_class(segment, page) else {
+        return b'.';
+    };
+    let places = per_page(class);
     let free = plain.marked(b'.', segment, page, places);
-    if places == 0 {
-        b'.'
-    } else if free == u64::from(places) {
+    if free == u64::from(places) {
         b'-'
     } else if free == 0 {
         b'#'
@@ -212,25 +224,52 @@ fn push_drawn(
     segment: u8,
 ) -> Result<(), AllocError> {
     push_count(out, "segment ", u64::from(segment))?;
-    if plain.holder(segment).is_none() {
-        return push(out, " held by nobody\n");
-    }
     push(out, " ")?;
+    let mut covered = 0u8;
     for page in 0..16u8 {
-        out.push(page_mark(plain, core, segment, page))?;
+        out.push(page_mark(plain, core, segment, page, covered))?;
+        covered = match core.page_class(segment, page) {
+            Some(class) => pages_of(class).wrapping_sub(1),
+            None => covered.saturating_sub(1),
+        };
+    }
+    if plain.holder(segment).is_none() {
+        push(out, " held by nobody")?;
     }
     push(out, "\n")?;
     for page in 0..16u8 {
-        let places = core.block_places(segment, page);
-        if places > 0 {
+        if let Some(class) = core.page_class(segment, page) {
             push_count(out, "page ", u64::from(segment))?;
             push_count(out, ".", u64::from(page))?;
+            push_count(out, " ", u64::from(block_words(class)) * 8)?;
             push(out, " ")?;
-            for index in 0..places {
+            for index in 0..per_page(class) {
                 out.push(plain.mark(segment, page, index))?;
             }
             push(out, "\n")?;
         }
+    }
+    Ok(())
+}
+
+/// Appends the classes of all blocks that were given out, or of those that stand.
+fn push_classes(out: &mut Vec<u8>, plain: &Plain, all: bool) -> Result<(), AllocError> {
+    let mut words = 1;
+    while let Some(class) = class_of(words) {
+        let size = u64::from(block_words(class));
+        let (blocks, asked) = if all {
+            plain.granted(size * 8)
+        } else {
+            plain.standing(size * 8)
+        };
+        if blocks > 0 {
+            push_count(out, "class ", size * 8)?;
+            push_count(out, if all { " allocs " } else { " blocks " }, blocks)?;
+            push_count(out, " asked ", asked)?;
+            push_count(out, " given ", size.wrapping_mul(8).wrapping_mul(blocks))?;
+            push(out, "\n")?;
+        }
+        words = size + 1;
     }
     Ok(())
 }
@@ -240,9 +279,12 @@ fn map_of(alloc: Global, plain: &Plain, core: &Core) -> Result<Vec<u8>, AllocErr
     let mut out = Vec::new(alloc);
     push(
         &mut out,
-        "pages: . no class, or behind the first of a block, - all free, + in part, # none free\n",
+        "pages: . no class, - all free, + in part, # none free, = goes with the page before\n",
     )?;
-    push(&mut out, "places: . free, # live, o parted, * worn\n")?;
+    push(
+        &mut out,
+        "places, behind the bytes of a block: . free, # live, o parted, * worn\n",
+    )?;
     for segment in 0..SEGMENTS {
         push_drawn(&mut out, plain, core, segment)?;
     }
@@ -270,6 +312,8 @@ fn text_of(alloc: Global, plain: &Plain, core: &Core) -> Result<Vec<u8>, AllocEr
         push(&mut out, "\n")?;
         push_pages(&mut out, plain, core, segment)?;
     }
+    push_classes(&mut out, plain, false)?;
+    push_classes(&mut out, plain, true)?;
     Ok(out)
 }
 
@@ -278,6 +322,7 @@ fn text_of(alloc: Global, plain: &Plain, core: &Core) -> Result<Vec<u8>, AllocEr
 struct Run {
     core: Core,
     orphans: Vec<u8>,
+    granted: Vec<Granted>,
     plain: Plain,
     draws: Draws,
 }
@@ -288,6 +333,7 @@ impl Run {
         Run {
             core: Core::open(alloc, policy).expect(rt, "memory"),
             orphans: Vec::new(alloc),
+            granted: Vec::new(alloc),
             plain: Plain::new(alloc),
             draws: Draws {
                 random: seed,
@@ -303,6 +349,7 @@ impl Run {
         assert!(rt; worker < self.core.policy().workers());
         let answer = self.core.step(worker, event);
         note_orphans(&mut self.orphans, event, answer).expect(rt, "memory");
+        note_granted(&mut self.granted, event, answer).expect(rt, "memory");
         self.plain.note(worker, event, answer).expect(rt, "memory");
         if let Answer::Block(handle) = answer {
             self.draws.handles.push(handle).expect(rt, "memory");
@@ -310,14 +357,16 @@ impl Run {
     }
 }
 
-/// What stands is told and drawn as by the plain count.
+/// What stands is told and drawn as by the plain count, and each block's page has its class.
 fn is_told(rt: &impl Abort, alloc: Global, run: &Run) {
+    assert!(rt; run.plain.are_classed(&run.core));
     assert!(rt; run.orphans.as_slice() == run.plain.left.as_slice());
     let (core, orphans) = (&run.core, run.orphans.as_slice());
-    let told = stands(alloc, View::Text, core, orphans).expect(rt, "memory");
+    let granted = run.granted.as_slice();
+    let told = stands(alloc, View::Text, core, orphans, granted).expect(rt, "memory");
     let counted = text_of(alloc, &run.plain, core).expect(rt, "memory");
     assert!(rt; told.as_slice() == counted.as_slice());
-    let told = stands(alloc, View::Map, core, orphans).expect(rt, "memory");
+    let told = stands(alloc, View::Map, core, orphans, granted).expect(rt, "memory");
     let counted = map_of(alloc, &run.plain, core).expect(rt, "memory");
     assert!(rt; told.as_slice() == counted.as_slice());
 }

@@ -47,12 +47,17 @@ fresh 2
 tenant alice live 2 parted 2
 tenant bob live 0 parted 0
 segment 0 live 2 parted 2 sent 1 worn 2
-page 0.0 places 170 live 1 parted 2 worn 0 free 167
-page 0.1 places 4 live 1 parted 0 worn 0 free 3
-page 0.2 places 512 live 0 parted 0 worn 2 free 510
+page 0.0 class 24 places 170 live 1 parted 2 worn 0 free 167
+page 0.1 class 1024 places 4 live 1 parted 0 worn 0 free 3
+page 0.2 class 8 places 512 live 0 parted 0 worn 2 free 510
 segment 1 live 0 parted 0 sent 0 worn 0
 segment 2 live 0 parted 0 sent 0 worn 0
 segment 3 live 0 parted 0 sent 0 worn 0
+class 24 blocks 3 asked 68 given 72
+class 1024 blocks 1 asked 1000 given 1024
+class 8 allocs 2 asked 16 given 16
+class 24 allocs 3 asked 68 given 72
+class 1024 allocs 1 asked 1000 given 1024
 ";
 
 /// Few places a page: blocks live, in hand, worn and of a run, and a segment that was given up.
@@ -94,30 +99,38 @@ const LARGE_LINES: &str = "{\"worker\":0,\"holds\":[0]}
 {\"tenant\":\"alice\",\"live\":3,\"parted\":1}
 {\"tenant\":\"bob\",\"live\":1,\"parted\":0}
 {\"segment\":0,\"live\":4,\"parted\":1,\"sent\":0,\"worn\":1}
-{\"segment\":0,\"page\":0,\"places\":4,\"live\":1,\"parted\":1,\"worn\":1,\"free\":1}
-{\"segment\":0,\"page\":1,\"places\":2,\"live\":2,\"parted\":0,\"worn\":0,\"free\":0}
-{\"segment\":0,\"page\":2,\"places\":1,\"live\":1,\"parted\":0,\"worn\":0,\"free\":0}
+{\"segment\":0,\"page\":0,\"class\":1024,\"places\":4,\"live\":1,\"parted\":1,\"worn\":1,\"free\":1}
+{\"segment\":0,\"page\":1,\"class\":2048,\"places\":2,\"live\":2,\"parted\":0,\"worn\":0,\"free\":0}
+{\"segment\":0,\"page\":2,\"class\":16384,\"places\":1,\"live\":1,\"parted\":0,\"worn\":0,\"free\":0}
 {\"segment\":1,\"live\":0,\"parted\":0,\"sent\":0,\"worn\":0}
 {\"segment\":2,\"live\":0,\"parted\":0,\"sent\":0,\"worn\":1}
+{\"segment\":2,\"page\":0,\"class\":1024,\"places\":4,\"live\":0,\"parted\":0,\"worn\":1,\"free\":3}
+{\"class\":1024,\"blocks\":2,\"asked\":2000,\"given\":2048}
+{\"class\":2048,\"blocks\":2,\"asked\":4000,\"given\":4096}
+{\"class\":16384,\"blocks\":1,\"asked\":9000,\"given\":16384}
+{\"class\":1024,\"allocs\":4,\"asked\":4000,\"given\":4096}
+{\"class\":2048,\"allocs\":2,\"asked\":4000,\"given\":4096}
+{\"class\":16384,\"allocs\":1,\"asked\":9000,\"given\":16384}
 ";
 
 const LARGE_MAP: &str =
-    "pages: . no class, or behind the first of a block, - all free, + in part, # none free
-places: . free, # live, o parted, * worn
-segment 0 +##.............
-page 0.0 #o*.
-page 0.1 ##
-page 0.2 #
+    "pages: . no class, - all free, + in part, # none free, = goes with the page before
+places, behind the bytes of a block: . free, # live, o parted, * worn
+segment 0 +##===..........
+page 0.0 1024 #o*.
+page 0.1 2048 ##
+page 0.2 16384 #
 segment 1 ................
-segment 2 held by nobody
+segment 2 +............... held by nobody
+page 2.0 1024 *...
 ";
 
 const LARGE_PICTURE: &str =
     "<svg xmlns=\"http://www.w3.org/2000/svg\" width=\"1030\" height=\"178\" \
 font-family=\"monospace\" font-size=\"12\">
-<style>.f{fill:#e6e6e6}.u{fill:none;stroke:#bbb}.l{fill:none;stroke:#bbb;stroke-dasharray:4}.w{fill:#000}.p{opacity:.4}</style>
+<style>.f{fill:#e6e6e6}.u{fill:none;stroke:#bbb}.l{fill:none;stroke:#bbb;stroke-width:3;stroke-dasharray:4}.w{fill:#000}.p{opacity:.4}</style>
 <rect width=\"100%\" height=\"100%\" fill=\"#fff\"/>
-<text x=\"60\" y=\"108\">a colour a tenant; pale: parted; black: worn; grey: free; white: no class, or behind the first page of a block; dashed: held by nobody</text>
+<text x=\"60\" y=\"108\">a colour a tenant; pale: parted; black: worn; grey: free; white: no class; dashed: held by nobody</text>
 <text x=\"8\" y=\"25\">0</text>
 <rect x=\"60\" y=\"10\" width=\"956\" height=\"22\" class=\"u\"/>
 <svg x=\"60\" y=\"10\" width=\"56\" height=\"22\" preserveAspectRatio=\"none\" viewBox=\"0 0 4 1\">
@@ -131,7 +144,7 @@ font-family=\"monospace\" font-size=\"12\">
 <rect x=\"0\" width=\"1\" height=\"1\" class=\"t1\"/>
 <rect x=\"1\" width=\"1\" height=\"1\" class=\"t0\"/>
 </svg>
-<svg x=\"180\" y=\"10\" width=\"56\" height=\"22\" preserveAspectRatio=\"none\" viewBox=\"0 0 1 1\">
+<svg x=\"180\" y=\"10\" width=\"236\" height=\"22\" preserveAspectRatio=\"none\" viewBox=\"0 0 1 1\">
 <rect width=\"1\" height=\"1\" class=\"f\"/>
 <rect x=\"0\" width=\"1\" height=\"1\" class=\"t0\"/>
 </svg>
@@ -139,6 +152,10 @@ font-family=\"monospace\" font-size=\"12\">
 <rect x=\"60\" y=\"36\" width=\"956\" height=\"22\" class=\"u\"/>
 <text x=\"8\" y=\"77\">2</text>
 <rect x=\"60\" y=\"62\" width=\"956\" height=\"22\" class=\"l\"/>
+<svg x=\"60\" y=\"62\" width=\"56\" height=\"22\" preserveAspectRatio=\"none\" viewBox=\"0 0 4 1\">
+<rect width=\"4\" height=\"1\" class=\"f\"/>
+<rect x=\"0\" width=\"1\" height=\"1\" class=\"w\"/>
+</svg>
 <style>.t0{fill:hsl(0,65%,40%)}</style>
 <rect x=\"60\" y=\"118\" width=\"14\" height=\"14\" class=\"t0\"/>
 <text x=\"80\" y=\"130\">alice</text>

@@ -1,13 +1,16 @@
-use Rattle.std.proofs.Common.{◌+◌, ◌++◌, ◌<◌, take, sym, ap, subst, ◌∙◌, arith}
+use Rattle.std.proofs.Common.{◌+◌, [], ◌∷◌, ◌++◌, ◌<◌, take, sym, ap, subst, ◌∙◌, arith}
 use Rattle.std.specs.Prelude.{if◌then◌else◌}
 use Rattle.hg_trace.specs.Labels.{label_count}
 use Rattle.hg_trace.specs.Stored.{line_in, lines_in}
 use Rattle.hg_replay.specs.KnownNames.{meanings}
 use Rattle.hg_replay.specs.StoredLabels.{binds}
-use Rattle.hg_replay.proofs.GoingOn.{replays_next, answered_keeps_policy}
+use Rattle.hg_replay.proofs.GoingOn.{answered_keeps_policy}
 use Rattle.hg_replay.proofs.LinesSaid.{label_count_more, label_within, binds_said, said_within}
 use Rattle.hg_replay.proofs.LinesSaid.{said_here, numbered_here}
+use Rattle.hg_text.proofs.Texts.{flat_one}
+use Rattle.hg_state.specs.Costs.{granted_in}
 use Rattle.hg_state.specs.Orphans.{orphans_after}
+use Rattle.hg_state.proofs.Coming.{comes_next}
 use Rattle.hg_state.proofs.OrphansTold.{told_orphans}
 use Rattle.hg_state.proofs.after.answer_all.Goals as goal
 
@@ -48,12 +51,16 @@ loop-line-preserved c =
     let there = said_here store lines same i line c.loop-line-test.true c.line-item.is in
     let meant = ap (λ m. m.items) c.loop-line.invariant.meant ∙ c.requires.meant ∙ ap (λ p. meanings p store.names) (sym c.loop-line.invariant.policy) in
     let numbered = numbered_here store lines same i line c.loop-line-test.true c.line-item.is c.stored-line-items.ensures.numbered in
-    let (text, so_far) = c.loop-line.invariant.replayed in
+    let (told, so_far, blocks) = c.loop-line.invariant.replayed in
     let (here, answered, comes_to) = c.in_ok-told.ensures.told store.names store.labels meant numbered in
     record {
       policy = answered_keeps_policy _ _ says here answered ∙ c.loop-line.invariant.policy;
       meant = c.answer_next.ensures.meant ∙ c.loop-line.invariant.meant;
-      replayed = (text ++ here, replays_next c.args.ready.now.core (lines_in store) i says _ _ text here within there so_far answered);
+      replayed = (
+        told ++ c.in_ok-told.told ∷ [],
+        comes_next c.args.ready.now.core (lines_in store) i says _ _ told c.in_ok-told.told here within there so_far answered comes_to,
+        c.in_ok-note_told.ensures ∙ ap (λ b. b ++ granted_in c.in_ok-told.told) blocks ∙ sym (flat_one granted_in told c.in_ok-told.told),
+      );
       count =
           c.answer_next.ensures.count ∙ ap (λ n. n + (if binds line.command then 1 else 0)) c.loop-line.invariant.count
           ∙ (ap (λ b. label_count (take i (lines_in store)) + (if b then 1 else 0)) (sym (binds_said store.names store.labels line.command))
