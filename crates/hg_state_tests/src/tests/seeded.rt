@@ -5,7 +5,7 @@ use hg_core::Core;
 use hg_machine::{Answer, Event};
 use hg_place::{Actor, Handle};
 use hg_policy::read_policy;
-use hg_size::{block_words, class_of, pages_of, per_page};
+use hg_size::{CLASSES, block_words, class_of, pages_of, per_page};
 use hg_state::{Granted, View, note_granted, note_orphans, stands};
 use hg_text::{push, push_count};
 use std::alloc::{AllocError, Global};
@@ -255,7 +255,10 @@ fn push_drawn(
 /// Appends the classes of all blocks that were given out, or of those that stand.
 fn push_classes(out: &mut Vec<u8>, plain: &Plain, all: bool) -> Result<(), AllocError> {
     let mut words = 1;
-    while let Some(class) = class_of(words) {
+    for _ in 0..CLASSES {
+        let Some(class) = class_of(words) else {
+            break;
+        };
         let size = u64::from(block_words(class));
         let (blocks, asked) = if all {
             plain.granted(size * 8)
