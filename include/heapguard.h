@@ -1,13 +1,16 @@
-/* heapguard.h: heapguard's core in a program in C11 or C++17. docs/EMBEDDING.md has how to link it.
+/* heapguard.h: heapguard's cores and banks in a program in C11 or C++17. docs/EMBEDDING.md has how to
+ * link it.
  *
  * A core hands out blocks of a memory of its own to tenants, under a written policy. A block is
  * named by a handle and never by an address: one that was freed, forged, or is another tenant's is
- * answered, and never followed.
+ * answered, and never followed. A bank is many cores under one policy: what is said here of a core
+ * holds of a bank too, and its calls stand below those of a core.
  *
  * No call has a condition on what its numbers, texts and handles are. A core that is closed, or
  * open already, a worker, tenant, arena, segment or place that isn't there, and a word that is no
- * handle's are answered by a status, and nothing changes. No call but hg_open takes memory. What
- * each call promises, and what of it is proved, is in crates/hg_c/README.md.
+ * handle's are answered by a status, and nothing changes. No call but hg_open, hg_bank_open and
+ * hg_bank_grow takes memory. What each call promises, and what of it is proved, is in
+ * crates/hg_c/README.md.
  *
  * What the caller owes, which nothing checks:
  *  1. One call at a time on a core, but for the questions: those take a const core, and several
@@ -15,7 +18,8 @@
  *     reader's lock. A core may go to another thread. Other calls of several threads, and a
  *     question and another call, are ordered by a lock, by starting or joining a thread, or by
  *     sequentially consistent atomics.
- *  2. A core is 16 bytes of the caller, aligned to 8, and begins as HG_CORE_INIT, which is zeros.
+ *  2. A core is 16 bytes of the caller, aligned to 8, and begins as HG_CORE_INIT, which is zeros,
+ *     and a bank as HG_BANK_INIT.
  *     Left without that it compiles all the same, and is what stood there before: mostly a closed
  *     core; but where an open one was copied from or forgotten there, its memory may be gone, and a
  *     call follows it. Only the calls write a core's fields. It may be moved: copied, and the old
@@ -72,8 +76,24 @@ typedef struct hg_core {
 /* A core that is closed. */
 #define HG_CORE_INIT {0, 0}
 
+/* A bank. Its fields are the library's. */
+typedef struct hg_bank {
+    void *at;
+    uint64_t mark;
+} hg_bank;
+
+/* A bank that is closed. */
+#define HG_BANK_INIT {0, 0}
+
 /* A handle, never 0: the number of its place in bits 32 to 50, and its generation below. */
 typedef uint64_t hg_handle;
+
+/* A block of a bank: the number of its core, and its handle there. Two cores have blocks of one
+ * handle. */
+typedef struct hg_bank_handle {
+    uint64_t core;
+    hg_handle handle;
+} hg_bank_handle;
 
 /* What came of a call. No number is changed, or used again for something else: later releases only
  * add some, so a program takes one that it doesn't know as not served. A rule's number says nothing
@@ -97,6 +117,7 @@ enum hg_status {
     HG_NOTHING_IN_HAND = 21,
     HG_NOT_HELD = 22,
     HG_NO_SEGMENT = 23,
+    HG_FULL = 24,            /* all cores of the bank are open that there may be */
     /* denied, by the first rule that refuses */
     HG_STRANGER = 32,
     HG_STALE = 33,           /* detail: the generation that is there, 0 where none is */
@@ -120,12 +141,13 @@ enum hg_status {
     HG_NO_WORKER = 65,
     HG_NO_BLOCK = 66,        /* no handle's word, or no place's number */
     HG_HELD = 67,            /* to be opened, and open already */
-    HG_NO_NAME = 68          /* nothing has the name, or no tenant the number */
+    HG_NO_NAME = 68,         /* nothing has the name, or no tenant the number */
+    HG_NO_COUNT = 69         /* a bank has 1 to 16384 cores */
 };
 
-/* An answer. What isn't said of a status is 0, but for hg_tenant, hg_arena and hg_holder: with each
- * status but HG_VALUE their value is 255, which no tenant, arena and worker has, so that every call
- * refuses it. */
+/* An answer. What isn't said of a status is 0, but for hg_tenant, hg_arena and hg_holder, and their
+ * like of a bank: with each status but HG_VALUE their value is 255, which no tenant, arena and worker
+ * has, so that every call refuses it. */
 typedef struct hg_reply {
     uint16_t status;
     uint16_t owner;
@@ -195,9 +217,86 @@ HG_MUST_USE hg_reply hg_arena(const hg_core *core, const char *name, size_t name
 HG_MUST_USE hg_reply hg_tenant_name(const hg_core *core, uint32_t tenant, char *room,
                                     size_t room_length);
 
+/* A bank: up to 16384 cores under one policy, as one service, each with the segments of all arenas.
+ * The calls are those of a core, and answered as they are; what differs is said here. Each that
+ * names a block, a place, a segment or a hand names its core too, by a number below that of
+ * hg_bank_cores; one of a core that isn't open is answered as one of a segment that isn't there, and
+ * hg_bank_collect and hg_bank_free_all find nothing in it. A worker has a hand in each core. */
+
+/* Opens a bank with room for so many cores, of which the first is open: as hg_open; or HG_NO_COUNT. */
+HG_MUST_USE hg_reply hg_bank_open(hg_bank *bank, const char *policy, size_t policy_length,
+                                  uint32_t cores, char *room, size_t room_length);
+HG_MUST_USE hg_reply hg_bank_close(hg_bank *bank);
+
+/* Opens one core more: HG_VALUE with its number; HG_FULL; or HG_NO_MEMORY, and the bank is as it
+ * was. Nobody holds its segments: hg_bank_refill comes next, or there is no more room than before. */
+HG_MUST_USE hg_reply hg_bank_grow(hg_bank *bank);
+
+/* For each worker and arena one core is current. These ask from it on, round and round, and the
+ * first core that has room, or a segment, serves and is current from then on: HG_BLOCK and
+ * HG_REFILLED have its number in `detail`. HG_NO_ROOM and HG_NO_SEGMENT only where no core has any.
+ * A tenant's limit with a worker counts over all cores. */
+HG_MUST_USE hg_reply hg_bank_alloc(hg_bank *bank, uint32_t worker, uint32_t actor, uint32_t arena,
+                                   uint64_t bytes);
+HG_MUST_USE hg_reply hg_bank_refill(hg_bank *bank, uint32_t worker, uint32_t arena);
+
+HG_MUST_USE hg_reply hg_bank_free(hg_bank *bank, uint32_t worker, uint32_t actor,
+                                  hg_bank_handle block);
+HG_MUST_USE hg_reply hg_bank_deliver(hg_bank *bank, uint32_t worker, uint32_t core);
+HG_MUST_USE hg_reply hg_bank_take(hg_bank *bank, uint32_t worker, uint32_t core, uint32_t segment);
+HG_MUST_USE hg_reply hg_bank_collect(hg_bank *bank, uint32_t worker, uint32_t core);
+HG_MUST_USE hg_reply hg_bank_read(hg_bank *bank, uint32_t worker, uint32_t actor,
+                                  hg_bank_handle block, uint32_t index);
+HG_MUST_USE hg_reply hg_bank_write(hg_bank *bank, uint32_t worker, uint32_t actor,
+                                   hg_bank_handle block, uint32_t index, uint64_t value);
+HG_MUST_USE hg_reply hg_bank_look(hg_bank *bank, uint32_t worker, uint32_t actor, uint32_t core,
+                                  uint32_t place);
+HG_MUST_USE hg_reply hg_bank_abandon(hg_bank *bank, uint32_t worker, uint32_t core,
+                                     uint32_t segment);
+
+HG_MUST_USE hg_reply hg_bank_read_words(hg_bank *bank, uint32_t worker, uint32_t actor,
+                                        hg_bank_handle block, uint32_t first, uint64_t *room,
+                                        size_t count);
+HG_MUST_USE hg_reply hg_bank_write_words(hg_bank *bank, uint32_t worker, uint32_t actor,
+                                         hg_bank_handle block, uint32_t first,
+                                         const uint64_t *words, size_t count);
+/* All blocks of an owner that the worker holds in one core. */
+HG_MUST_USE hg_reply hg_bank_free_all(hg_bank *bank, uint32_t worker, uint32_t actor, uint32_t core,
+                                      uint32_t owner);
+
+/* Questions, which only read the bank. */
+HG_MUST_USE hg_reply hg_bank_cores(const hg_bank *bank); /* that are open */
+HG_MUST_USE hg_reply hg_bank_workers(const hg_bank *bank);
+HG_MUST_USE hg_reply hg_bank_segments(const hg_bank *bank); /* of each core */
+HG_MUST_USE hg_reply hg_bank_holds(const hg_bank *bank, uint32_t worker, uint32_t core,
+                                   uint32_t segment);
+HG_MUST_USE hg_reply hg_bank_holder(const hg_bank *bank, uint32_t core, uint32_t segment);
+HG_MUST_USE hg_reply hg_bank_charge(const hg_bank *bank, uint32_t worker, uint32_t tenant);
+HG_MUST_USE hg_reply hg_bank_tenant(const hg_bank *bank, const char *name, size_t name_length);
+HG_MUST_USE hg_reply hg_bank_arena(const hg_bank *bank, const char *name, size_t name_length);
+HG_MUST_USE hg_reply hg_bank_tenant_name(const hg_bank *bank, uint32_t tenant, char *room,
+                                         size_t room_length);
+
 #ifdef __cplusplus
 }
 #endif
+
+/* The block that hg_bank_alloc answered with HG_BLOCK; of any other reply one that is no block. */
+static inline hg_bank_handle hg_bank_handle_of(hg_reply made)
+{
+    hg_bank_handle block = {0, 0};
+    if (made.status == HG_BLOCK) {
+        block.core = made.detail;
+        block.handle = made.value;
+    }
+    return block;
+}
+
+/* The core of a block, as the calls take it. One above 65535, which no bank has, is that one. */
+static inline uint32_t hg_bank_core_of(hg_bank_handle block)
+{
+    return block.core < 65535 ? HG_AS(uint32_t, block.core) : 65535;
+}
 
 /* The place of a block, which hg_look takes. */
 static inline uint32_t hg_place_of(hg_handle block) { return HG_AS(uint32_t, block >> 32); }
@@ -239,6 +338,7 @@ static inline const char *hg_status_text(unsigned status)
     case HG_NOTHING_IN_HAND: return "empty";
     case HG_NOT_HELD: return "notheld";
     case HG_NO_SEGMENT: return "nosegment";
+    case HG_FULL: return "full";
     case HG_STRANGER: return "denied stranger";
     case HG_STALE: return "denied stale";
     case HG_ALREADY_FREED: return "denied freed";
@@ -260,6 +360,7 @@ static inline const char *hg_status_text(unsigned status)
     case HG_NO_BLOCK: return "no handle";
     case HG_HELD: return "open already";
     case HG_NO_NAME: return "no such name or number";
+    case HG_NO_COUNT: return "no bank of so many cores";
     default: return "unknown status";
     }
 }

@@ -1,6 +1,6 @@
-// heapguard.hpp: heapguard's core as a class of C++17 that closes what it opened. The duties at the
-// head of heapguard.h are its caller's too, but for those on the 16 bytes of a core: a moved-from
-// Core is a closed one.
+// heapguard.hpp: heapguard's core and bank as classes of C++17 that close what they opened. The
+// duties at the head of heapguard.h are their caller's too, but for those on the 16 bytes of a core
+// or a bank: a moved-from Core is a closed one, and so is a moved-from Bank.
 #ifndef HEAPGUARD_HPP
 #define HEAPGUARD_HPP
 
@@ -12,15 +12,44 @@
 
 #include <cstddef>
 #include <cstdint>
+#include <functional>
 #include <optional>
 #include <stdexcept>
 #include <string>
 #include <string_view>
 #include <utility>
 
+/// Two are one where core and handle are. These stand beside the struct of C, where maps look for
+/// them.
+constexpr bool operator==(const hg_bank_handle &one, const hg_bank_handle &other) noexcept
+{
+    return one.core == other.core && one.handle == other.handle;
+}
+
+constexpr bool operator!=(const hg_bank_handle &one, const hg_bank_handle &other) noexcept
+{
+    return !(one == other);
+}
+
+/// By cores, and in a core by places and generations: for the keys of a std::map.
+constexpr bool operator<(const hg_bank_handle &one, const hg_bank_handle &other) noexcept
+{
+    return one.core != other.core ? one.core < other.core : one.handle < other.handle;
+}
+
+/// For the keys of a std::unordered_map. The core's number is spread over all bits.
+template <>
+struct std::hash<hg_bank_handle> {
+    std::size_t operator()(const hg_bank_handle &block) const noexcept
+    {
+        return std::hash<std::uint64_t>()(block.core * 0x9e3779b97f4a7c15u ^ block.handle);
+    }
+};
+
 namespace heapguard {
 
 using Handle = hg_handle;
+using BankHandle = hg_bank_handle;
 using Reply = hg_reply;
 
 /// Who serves, who asks, and where: numbers, each of a type of its own, so that none stands for
@@ -31,8 +60,31 @@ enum class Arena : std::uint32_t {};
 enum class Segment : std::uint32_t {};
 enum class Place : std::uint32_t {};
 
+/// A core of a bank: a number below that of Bank::cores.
+enum class CoreNumber : std::uint32_t {};
+
 /// The place of a block.
 inline Place place_of(Handle block) { return Place{hg_place_of(block)}; }
+
+/// The place of a block in its core.
+inline Place place_of(BankHandle block) { return place_of(block.handle); }
+
+/// The core of a block. Of a number above 65535 it is that one, which no bank has.
+constexpr CoreNumber core_of(BankHandle block)
+{
+    return CoreNumber{static_cast<std::uint32_t>(block.core < 65535 ? block.core : 65535)};
+}
+
+/// The block that Bank::alloc answered with HG_BLOCK; of any other reply one that is no block.
+inline BankHandle block_of(Reply made) { return hg_bank_handle_of(made); }
+
+/// The core that gave a block or a segment, by the reply of Bank::alloc or Bank::refill; nothing
+/// where none did.
+inline std::optional<CoreNumber> core_of(Reply made)
+{
+    if (made.status != HG_BLOCK && made.status != HG_REFILLED) return std::nullopt;
+    return CoreNumber{made.detail};
+}
 
 /// The handle as it is written, `@segment.page.index.generation`.
 inline std::string to_string(Handle block)
@@ -40,6 +92,12 @@ inline std::string to_string(Handle block)
     return "@" + std::to_string(hg_segment_of(block)) + "."
         + std::to_string(hg_page_of(block)) + "." + std::to_string(hg_index_of(block)) + "."
         + std::to_string(hg_generation_of(block));
+}
+
+/// The same of a bank, `@core/segment.page.index.generation`.
+inline std::string to_string(BankHandle block)
+{
+    return "@" + std::to_string(block.core) + "/" + to_string(block.handle).substr(1);
 }
 
 #ifdef __cpp_exceptions
@@ -56,9 +114,56 @@ private:
 };
 #endif
 
+namespace detail {
+
+/// What Core and Bank share.
+struct Shared {
+    template <typename Numbered>
+    static constexpr std::uint32_t number(Numbered it)
+    {
+        return static_cast<std::uint32_t>(it);
+    }
+
+    /// What a question told, if it told a number.
+    static std::optional<std::uint64_t> value(Reply told)
+    {
+        if (told.status != HG_VALUE) return std::nullopt;
+        return told.value;
+    }
+
+    template <typename Numbered>
+    static std::optional<Numbered> found(Reply told)
+    {
+        if (told.status != HG_VALUE) return std::nullopt;
+        return Numbered{static_cast<std::uint32_t>(told.value)};
+    }
+
+    /// Makes a call that writes a text into room of so many bytes, and gives its reply; `text` is
+    /// what stands there then.
+    template <std::size_t size, typename Call>
+    static Reply written(std::string &text, Call call)
+    {
+        char room[size];
+        Reply told = call(room, sizeof room);
+        text.assign(room, static_cast<std::size_t>(told.value));
+        return told;
+    }
+
+    /// The name that a call writes, of 16 bytes at most.
+    template <typename Call>
+    static std::optional<std::string> named(Call call)
+    {
+        std::string name;
+        if (written<16>(name, call).status != HG_VALUE) return std::nullopt;
+        return name;
+    }
+};
+
+} // namespace detail
+
 /// A core. One call at a time may be made on it, but for its const ones: several threads may make
 /// those at once, while no other runs.
-class Core {
+class Core : detail::Shared {
 public:
     /// A closed one, which answers HG_CLOSED.
     Core() noexcept = default;
@@ -93,10 +198,9 @@ public:
     /// as far as 1,024 bytes go.
     [[nodiscard]] Reply open(std::string_view policy, std::string &line)
     {
-        char room[1024];
-        Reply opened = hg_open(&core_, policy.data(), policy.size(), room, sizeof room);
-        line.assign(room, static_cast<std::size_t>(opened.value));
-        return opened;
+        return written<1024>(line, [&](char *room, std::size_t length) {
+            return hg_open(&core_, policy.data(), policy.size(), room, length);
+        });
     }
 
     [[nodiscard]] Reply close() noexcept { return hg_close(&core_); }
@@ -190,9 +294,7 @@ public:
     /// tenant that isn't there.
     std::optional<std::uint64_t> charge(Worker worker, Tenant tenant) const
     {
-        Reply told = hg_charge(&core_, number(worker), number(tenant));
-        if (told.status != HG_VALUE) return std::nullopt;
-        return told.value;
+        return value(hg_charge(&core_, number(worker), number(tenant)));
     }
 
     std::optional<Tenant> tenant(std::string_view name) const
@@ -207,27 +309,192 @@ public:
 
     std::optional<std::string> tenant_name(Tenant tenant) const
     {
-        char room[16];
-        Reply told = hg_tenant_name(&core_, number(tenant), room, sizeof room);
-        if (told.status != HG_VALUE) return std::nullopt;
-        return std::string(room, static_cast<std::size_t>(told.value));
+        return named([&](char *room, std::size_t length) {
+            return hg_tenant_name(&core_, number(tenant), room, length);
+        });
     }
 
 private:
-    template <typename Numbered>
-    static constexpr std::uint32_t number(Numbered it)
-    {
-        return static_cast<std::uint32_t>(it);
-    }
-
-    template <typename Numbered>
-    static std::optional<Numbered> found(Reply told)
-    {
-        if (told.status != HG_VALUE) return std::nullopt;
-        return Numbered{static_cast<std::uint32_t>(told.value)};
-    }
-
     hg_core core_ HG_CORE_INIT;
+};
+
+/// A bank: many cores under one policy. Its calls are those of a core; where they name a block, a
+/// place, a segment or a hand, they name its core too. Which may be made at once is as of a Core.
+class Bank : detail::Shared {
+public:
+    /// A closed one, which answers HG_CLOSED.
+    Bank() noexcept = default;
+
+#ifdef __cpp_exceptions
+    /// Opens by the text of a policy with room for so many cores, of which the first is open; or
+    /// throws the policy's first fault, or std::invalid_argument where no bank has so many cores.
+    Bank(std::string_view policy, std::uint32_t cores)
+    {
+        std::string line;
+        Reply opened = open(policy, cores, line);
+        if (opened.status == HG_NO_COUNT) throw std::invalid_argument(hg_status_text(HG_NO_COUNT));
+        if (opened.status != HG_DONE) throw PolicyFault(opened.status, line);
+    }
+#endif
+
+    Bank(const Bank &) = delete;
+    Bank &operator=(const Bank &) = delete;
+
+    Bank(Bank &&other) noexcept : bank_(std::exchange(other.bank_, hg_bank HG_BANK_INIT)) {}
+
+    Bank &operator=(Bank &&other) noexcept
+    {
+        if (this != &other) {
+            (void)hg_bank_close(&bank_);
+            bank_ = std::exchange(other.bank_, hg_bank HG_BANK_INIT);
+        }
+        return *this;
+    }
+
+    ~Bank() { (void)hg_bank_close(&bank_); }
+
+    /// Opens a closed one by the text of a policy, with room for 1 to 16384 cores, of which the
+    /// first is open; with a fault, `line` is the line that tells it, as far as 1,024 bytes go.
+    [[nodiscard]] Reply open(std::string_view policy, std::uint32_t cores, std::string &line)
+    {
+        return written<1024>(line, [&](char *room, std::size_t length) {
+            return hg_bank_open(&bank_, policy.data(), policy.size(), cores, room, length);
+        });
+    }
+
+    [[nodiscard]] Reply close() noexcept { return hg_bank_close(&bank_); }
+
+    /// Opens one core more; the value is its number. Nobody holds a segment of it yet.
+    [[nodiscard]] Reply grow() { return hg_bank_grow(&bank_); }
+
+    /// A block of the first core with room, from the current one on: block_of its reply.
+    [[nodiscard]] Reply alloc(Worker worker, Tenant actor, Arena arena, std::uint64_t bytes)
+    {
+        return hg_bank_alloc(&bank_, number(worker), number(actor), number(arena), bytes);
+    }
+
+    [[nodiscard]] Reply free(Worker worker, Tenant actor, BankHandle block)
+    {
+        return hg_bank_free(&bank_, number(worker), number(actor), block);
+    }
+
+    [[nodiscard]] Reply deliver(Worker worker, CoreNumber core)
+    {
+        return hg_bank_deliver(&bank_, number(worker), number(core));
+    }
+
+    [[nodiscard]] Reply take(Worker worker, CoreNumber core, Segment segment)
+    {
+        return hg_bank_take(&bank_, number(worker), number(core), number(segment));
+    }
+
+    [[nodiscard]] Reply collect(Worker worker, CoreNumber core)
+    {
+        return hg_bank_collect(&bank_, number(worker), number(core));
+    }
+
+    [[nodiscard]] Reply read(Worker worker, Tenant actor, BankHandle block, std::uint32_t index)
+    {
+        return hg_bank_read(&bank_, number(worker), number(actor), block, index);
+    }
+
+    [[nodiscard]] Reply write(Worker worker, Tenant actor, BankHandle block, std::uint32_t index,
+                std::uint64_t value)
+    {
+        return hg_bank_write(&bank_, number(worker), number(actor), block, index, value);
+    }
+
+    [[nodiscard]] Reply look(Worker worker, Tenant actor, CoreNumber core, Place place)
+    {
+        return hg_bank_look(&bank_, number(worker), number(actor), number(core), number(place));
+    }
+
+    [[nodiscard]] Reply abandon(Worker worker, CoreNumber core, Segment segment)
+    {
+        return hg_bank_abandon(&bank_, number(worker), number(core), number(segment));
+    }
+
+    /// A segment of the first core that has one, from the current one on: the value is its number,
+    /// and its core is core_of its reply.
+    [[nodiscard]] Reply refill(Worker worker, Arena arena)
+    {
+        return hg_bank_refill(&bank_, number(worker), number(arena));
+    }
+
+    /// As Core::read_words.
+    [[nodiscard]] Reply read_words(Worker worker, Tenant actor, BankHandle block,
+                     std::uint32_t first, std::uint64_t *room, std::size_t count)
+    {
+        return hg_bank_read_words(&bank_, number(worker), number(actor), block, first, room, count);
+    }
+
+    /// As Core::write_words.
+    [[nodiscard]] Reply write_words(Worker worker, Tenant actor, BankHandle block,
+                      std::uint32_t first, const std::uint64_t *words, std::size_t count)
+    {
+        return hg_bank_write_words(&bank_, number(worker), number(actor), block, first, words,
+                                   count);
+    }
+
+    /// Frees all blocks of the owner in one core that the worker holds and the actor may free; the
+    /// value is how many.
+    [[nodiscard]] Reply free_all(Worker worker, Tenant actor, CoreNumber core, Tenant owner)
+    {
+        return hg_bank_free_all(&bank_, number(worker), number(actor), number(core), number(owner));
+    }
+
+    /// How many cores are open, 0 where it is closed.
+    std::uint32_t cores() const { return static_cast<std::uint32_t>(hg_bank_cores(&bank_).value); }
+
+    /// How many workers there are, 0 where it is closed.
+    std::uint32_t workers() const
+    {
+        return static_cast<std::uint32_t>(hg_bank_workers(&bank_).value);
+    }
+
+    /// How many segments each core has, 0 where it is closed.
+    std::uint32_t segments() const
+    {
+        return static_cast<std::uint32_t>(hg_bank_segments(&bank_).value);
+    }
+
+    bool holds(Worker worker, CoreNumber core, Segment segment) const
+    {
+        return hg_bank_holds(&bank_, number(worker), number(core), number(segment)).value == 1;
+    }
+
+    /// Who holds the segment, if somebody does.
+    std::optional<Worker> holder(CoreNumber core, Segment segment) const
+    {
+        return found<Worker>(hg_bank_holder(&bank_, number(core), number(segment)));
+    }
+
+    /// What counts against the tenant's limit with the worker over all cores, in bytes; nothing of a
+    /// worker or a tenant that isn't there.
+    std::optional<std::uint64_t> charge(Worker worker, Tenant tenant) const
+    {
+        return value(hg_bank_charge(&bank_, number(worker), number(tenant)));
+    }
+
+    std::optional<Tenant> tenant(std::string_view name) const
+    {
+        return found<Tenant>(hg_bank_tenant(&bank_, name.data(), name.size()));
+    }
+
+    std::optional<Arena> arena(std::string_view name) const
+    {
+        return found<Arena>(hg_bank_arena(&bank_, name.data(), name.size()));
+    }
+
+    std::optional<std::string> tenant_name(Tenant tenant) const
+    {
+        return named([&](char *room, std::size_t length) {
+            return hg_bank_tenant_name(&bank_, number(tenant), room, length);
+        });
+    }
+
+private:
+    hg_bank bank_ HG_BANK_INIT;
 };
 
 } // namespace heapguard

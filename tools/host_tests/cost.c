@@ -9,7 +9,7 @@ enum { CALLS = 2000, ROUNDS = 200 };
 static const char POLICY[] =
     "version = 1\n"
     "workers = 2\n"
-    "tenant = [ {name = \"ann\", limit = 4194304}, {name = \"bob\", limit = 64} ]\n"
+    "tenant = [ {name = \"ann\", limit = 4294967295}, {name = \"bob\", limit = 64} ]\n"
     "arena = [ {name = \"main\", segments = 1} ]\n";
 
 static hg_core core = HG_CORE_INIT, closed = HG_CORE_INIT;
@@ -42,6 +42,32 @@ static double now(void)
         }                                                     \
         printf("%-34s %8.1f\n", what, best);                  \
     } while (0)
+
+/* A bank of so many cores, of which all but the last are full. */
+static void cost_of_bank(uint32_t cores)
+{
+    static hg_bank bank = HG_BANK_INIT;
+    if (hg_bank_open(&bank, POLICY, sizeof POLICY - 1, cores, NULL, 0).status != HG_DONE) return;
+    for (uint32_t core = 0; core < cores; core++) {
+        drop(hg_bank_refill(&bank, 0, 0));
+        if (core + 1 < cores) drop(hg_bank_alloc(&bank, 0, 0, 0, 65536));
+        drop(hg_bank_grow(&bank));
+    }
+    hg_bank_handle block = hg_bank_handle_of(hg_bank_alloc(&bank, 0, 0, 0, 24));
+    printf("a bank of %u cores\n", (unsigned)cores);
+    COST("misuse: no such core", hg_bank_deliver(&bank, 0, (uint32_t)n | 16384));
+    COST("read, not granted", hg_bank_read(&bank, 0, 1, block, n & 1));
+    COST("read, served", hg_bank_read(&bank, 0, 0, block, n & 1));
+    COST("write, served", hg_bank_write(&bank, 0, 0, block, 1, n));
+    COST("question: who holds", hg_bank_holder(&bank, 0, n & 1));
+    COST("question: what a tenant is charged", hg_bank_charge(&bank, 0, n & 1));
+    COST("alloc and free of the block",
+         hg_bank_free(&bank, 0, 0, hg_bank_handle_of(hg_bank_alloc(&bank, 0, 0, 0, 24))));
+    COST_OF("alloc, with no room in any core", 20, hg_bank_alloc(&bank, 0, 0, 0, 65536));
+    COST_OF("refill, with no segment in any core", 20, hg_bank_refill(&bank, 0, 0));
+    COST_OF("grow, full", 20, hg_bank_grow(&bank));
+    drop(hg_bank_close(&bank));
+}
 
 int main(void)
 {
@@ -83,5 +109,7 @@ int main(void)
     COST("alloc and free of 64 KiB",
          hg_free(&core, 0, 0, hg_alloc(&core, 0, 0, 0, 65536).value));
     drop(hg_close(&core));
+    cost_of_bank(1);
+    cost_of_bank(256);
     return 0;
 }

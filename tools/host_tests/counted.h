@@ -1,5 +1,6 @@
 /* Counts requests for memory and what is given back, where a test is linked with --wrap for malloc,
- * realloc and free. Only hg_open may ask, and only hg_close may give back.
+ * realloc and free. Only hg_open, hg_bank_open and hg_bank_grow may ask, and of what stays then only
+ * hg_close and hg_bank_close may give back.
  */
 #ifndef COUNTED_H
 #define COUNTED_H

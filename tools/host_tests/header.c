@@ -1,4 +1,5 @@
-/* What heapguard.h says by itself, with no core: handles of four numbers, and statuses. */
+/* What heapguard.h says by itself, with no core: handles of four numbers, a bank's handles of
+ * replies, and statuses. */
 #include "heapguard.h"
 
 #include <stdio.h>
@@ -23,6 +24,15 @@ int main(void)
     so(hg_handle_of(0, 0, 512, 1) == 0, "no index 512");
     so(hg_handle_of(524288, 0, 0, 1) == 0, "a segment doesn't wrap");
     so(hg_handle_of(0, 0, 0, 0) == 0, "no generation 0");
+    hg_reply made = {HG_BLOCK, 0, 16383, last};
+    so(hg_bank_handle_of(made).core == 16383, "the core of a bank's block");
+    so(hg_bank_handle_of(made).handle == last, "and its handle there");
+    for (unsigned status = 0; status < 80; status++) {
+        made.status = (uint16_t)status;
+        hg_bank_handle block = hg_bank_handle_of(made);
+        if (status != HG_BLOCK) so(block.core == 0 && block.handle == 0, "of no other reply");
+    }
+    so(sizeof(hg_bank_handle) == 16 && sizeof(hg_bank) == 16, "16 bytes");
     for (unsigned status = 0; status < 80; status++)
         so(hg_is_served(status) == (status != 0 && status < HG_TOO_LARGE), "what is served");
     so(HG_VERSION_MAJOR == 0 && HG_VERSION == 56, "HG_VERSION is a status");

@@ -5,6 +5,7 @@
 #define HOLDING_H
 
 #include "heapguard.h"
+#include "sizes.h"
 
 enum { SEGMENTS_MOST = 64, TENANTS_MOST = 255, PLACES_MOST = SEGMENTS_MOST * 8192, NOBODY = 255 };
 
@@ -23,17 +24,6 @@ static hg_handle hands[256]; /* by worker; 0 where it is empty */
 static void nobody_holds(void)
 {
     for (uint32_t segment = 0; segment < SEGMENTS_MOST; segment++) holder[segment] = NOBODY;
-}
-
-/* The bytes of the least class that holds a request: up to 8 words each number of them, then four
- * classes between two powers of two up to 512 words, then the powers alone. */
-static uint32_t class_bytes(uint64_t bytes)
-{
-    uint32_t words = bytes ? (uint32_t)((bytes + 7) / 8) : 1, power = 1;
-    if (words <= 8) return 8 * words;
-    while (2 * power < words) power *= 2;
-    uint32_t step = words > 512 ? power : power / 4;
-    return 8 * ((words + step - 1) / step * step);
 }
 
 static hg_reply given(uint32_t actor, uint64_t bytes, hg_reply told)

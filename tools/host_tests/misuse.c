@@ -3,10 +3,10 @@
  * block that nothing of it may touch is there at the end, as it was written. No call but hg_open
  * asks for memory, and none but hg_close gives some back.
  */
-#include "heapguard.h"
+#define TEST "misuse"
+#include "checked.h"
 #include "counted.h"
-#include "seeded.h"
-#include <stdio.h>
+#include "garbage.h"
 #include <string.h>
 
 enum { ROUNDS = 200000, ROOM = 64, WORDS = 12 };
@@ -16,46 +16,6 @@ static const char POLICY[] =
     "workers = 2\n"
     "tenant = [ {name = \"ann\", limit = 4096}, {name = \"bob\", limit = 4096} ]\n"
     "arena = [ {name = \"main\", segments = 2} ]\n";
-
-static unsigned checks, failed;
-
-#define CHECK(holds)                                               \
-    do {                                                           \
-        checks++;                                                  \
-        if (!(holds)) {                                            \
-            failed++;                                              \
-            printf("misuse: not so, line %d: %s\n", __LINE__, #holds); \
-        }                                                          \
-    } while (0)
-
-static int is_plain(hg_reply reply, unsigned status)
-{
-    return reply.status == status && !reply.owner && !reply.detail && !reply.value;
-}
-
-/* What a look-up is answered that finds no number. */
-static int is_nobody(hg_reply reply, unsigned status)
-{
-    return reply.status == status && !reply.owner && !reply.detail && reply.value == 255;
-}
-
-/* One that may be right, one of 8 bits, one that would be right if it wrapped, or any. */
-static uint32_t number(void)
-{
-    switch (below(4)) {
-    case 0: return below(3);
-    case 1: return below(256);
-    case 2: return (1 + below(1 << 24)) * 256 + below(3);
-    default: return (uint32_t)next();
-    }
-}
-
-/* Tenant 0 asks for none of it, so that its block stays. */
-static uint32_t stranger(void)
-{
-    uint32_t actor = number();
-    return actor ? actor : 1;
-}
 
 /* One call of each kind, with garbage or with numbers that may be right. */
 static hg_reply any_call(hg_core *core, unsigned kind, char *room)

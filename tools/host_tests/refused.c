@@ -3,6 +3,7 @@
  * is told. Linked with --wrap for malloc, realloc and free.
  */
 #include "heapguard.h"
+#include "refusing.h"
 #include <stdio.h>
 #include <string.h>
 
@@ -14,38 +15,6 @@ static const char POLICY[] =
     "grant = [ {owner = \"ann\", to = \"bob\", rights = [\"read\", \"free\"]} ]\n";
 
 static const char FAULTY[] = "version = 1\ncolour = 3\n";
-
-static long left = -1; /* requests that are still served; below 0: all are */
-static long live;
-
-void *__real_malloc(size_t size);
-void *__real_realloc(void *old, size_t size);
-void __real_free(void *old);
-void *__wrap_malloc(size_t size);
-void *__wrap_realloc(void *old, size_t size);
-void __wrap_free(void *old);
-
-static int is_refused(void) { return left == 0 || (left > 0 && left-- == 0); }
-
-void *__wrap_malloc(size_t size)
-{
-    void *given = is_refused() ? NULL : __real_malloc(size);
-    live += given != NULL;
-    return given;
-}
-
-void *__wrap_realloc(void *old, size_t size)
-{
-    void *given = is_refused() ? NULL : __real_realloc(old, size);
-    live += old == NULL && given != NULL;
-    return given;
-}
-
-void __wrap_free(void *old)
-{
-    live -= old != NULL;
-    __real_free(old);
-}
 
 /* How many requests an opening makes, each refused in turn; -1 where one ended otherwise. */
 static long refuse_each(const char *policy, size_t length, unsigned status)

@@ -68,19 +68,38 @@ impl Handle {
     pub fn generation(self) -> u32 {
         self.to_u64() as u32
     }
-}
 
-impl fmt::Display for Handle {
-    fn fmt(&self, f: &mut fmt::Formatter<'_>) -> fmt::Result {
+    /// Writes `segment.page.index.generation`.
+    pub(crate) fn write_numbers(self, f: &mut fmt::Formatter<'_>) -> fmt::Result {
         let place = self.place();
         write!(
             f,
-            "@{}.{}.{}.{}",
+            "{}.{}.{}.{}",
             place.segment().0,
             place.page(),
             place.index(),
             self.generation()
         )
+    }
+
+    /// Reads what `write_numbers` writes.
+    pub(crate) fn of_numbers(text: &str) -> Option<Handle> {
+        let mut parts = text.split('.');
+        let place = Place::new(
+            Segment(number(parts.next()?)?),
+            number(parts.next()?)?,
+            number(parts.next()?)?,
+        )?;
+        let generation = number(parts.next()?)?;
+        parts.next().is_none().then_some(())?;
+        Handle::new(place, generation)
+    }
+}
+
+impl fmt::Display for Handle {
+    fn fmt(&self, f: &mut fmt::Formatter<'_>) -> fmt::Result {
+        f.write_str("@")?;
+        self.write_numbers(f)
     }
 }
 
@@ -103,7 +122,7 @@ impl fmt::Display for NoHandle {
 impl std::error::Error for NoHandle {}
 
 /// Decimal digits without a sign and without leading zeros.
-fn number<N: FromStr>(digits: &str) -> Option<N> {
+pub(crate) fn number<N: FromStr>(digits: &str) -> Option<N> {
     let is_plain =
         digits.bytes().all(|b| b.is_ascii_digit()) && (digits == "0" || !digits.starts_with('0'));
     is_plain.then(|| digits.parse().ok()).flatten()
@@ -113,18 +132,8 @@ impl FromStr for Handle {
     type Err = NoHandle;
 
     fn from_str(text: &str) -> Result<Handle, NoHandle> {
-        let read = || {
-            let mut parts = text.strip_prefix('@')?.split('.');
-            let place = Place::new(
-                Segment(number(parts.next()?)?),
-                number(parts.next()?)?,
-                number(parts.next()?)?,
-            )?;
-            let generation = number(parts.next()?)?;
-            parts.next().is_none().then_some(())?;
-            Handle::new(place, generation)
-        };
-        read().ok_or(NoHandle)
+        let numbers = text.strip_prefix('@').and_then(Handle::of_numbers);
+        numbers.ok_or(NoHandle)
     }
 }
 

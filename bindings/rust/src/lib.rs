@@ -1,5 +1,5 @@
-//! heapguard's core in a Rust program: blocks of a memory of its own that tenants share under a
-//! written policy, named by handles and never by addresses.
+//! heapguard's cores and banks in a Rust program: blocks of a memory of its own that tenants share
+//! under a written policy, named by handles and never by addresses.
 //!
 //! ```
 //! use heapguard::{Core, Refusal, Rule, Worker};
@@ -20,15 +20,22 @@
 //! # Ok::<(), heapguard::OpenError>(())
 //! ```
 //!
+//! A [`Core`] has 4 MiB of blocks; a [`Bank`] is many cores under one policy.
+//!
 //! All calls are safe. What the library proves of each is in `crates/hg_c/README.md`.
 
+mod bank;
+mod bank_handle;
 mod handle;
 mod number;
 mod raw;
 mod refusal;
+mod told;
 
+pub use bank::Bank;
+pub use bank_handle::{BankHandle, NoBankHandle};
 pub use handle::{Handle, NoHandle, Place};
-pub use number::{Arena, Segment, Tenant, Worker};
+pub use number::{Arena, CoreNumber, Segment, Tenant, Worker};
 pub use refusal::{FaultKind, OpenError, PolicyFault, Refusal, Rule};
 
 use raw::{RawCore, RawReply};
@@ -36,6 +43,9 @@ use std::fmt;
 
 /// Room for the line that tells a policy's fault; a longer one is cut.
 const LINE_ROOM: usize = 1024;
+
+/// Room for a tenant's name, which is never longer.
+const NAME_ROOM: usize = 16;
 
 /// The release of the library that is linked: its major, minor and patch number.
 pub fn version() -> (u32, u32, u32) {
@@ -125,18 +135,13 @@ impl Core {
         bytes: u64,
     ) -> Result<Handle, Refusal> {
         let call = |core| unsafe { raw::hg_alloc(core, worker.0, actor.0, arena.0, bytes) };
-        handle_of(self.serve(raw::BLOCK, call)?)
+        told::handle(self.serve(raw::BLOCK, call)?)
     }
 
     /// Frees a block.
     pub fn free(&mut self, worker: Worker, actor: Tenant, block: Handle) -> Result<Freed, Refusal> {
         let call = |core| unsafe { raw::hg_free(core, worker.0, actor.0, block.to_u64()) };
-        let reply = call(&mut self.raw);
-        match reply.status {
-            raw::DONE => Ok(Freed::Here),
-            raw::PARTED => Ok(Freed::InHand),
-            _ => Err(Refusal::of(reply)),
-        }
+        told::freed(call(&mut self.raw))
     }
 
     /// Sends what the worker has in hand to those who hold its segment.
@@ -186,12 +191,7 @@ impl Core {
     /// Looks at the block that stands at a place.
     pub fn look(&mut self, worker: Worker, actor: Tenant, place: Place) -> Result<Row, Refusal> {
         let call = |core| unsafe { raw::hg_look(core, worker.0, actor.0, place.number()) };
-        let reply = self.serve(raw::LISTED, call)?;
-        Ok(Row {
-            handle: handle_of(reply)?,
-            owner: Tenant(u32::from(reply.owner)),
-            bytes: reply.detail,
-        })
+        told::row(call(&mut self.raw))
     }
 
     /// Gives up a segment that the worker holds.
@@ -219,7 +219,7 @@ impl Core {
         let (word, count) = (block.to_u64(), room.len());
         // SAFETY: the core is open and this call's alone; pointer and length are those of a slice
         // that is borrowed for the call. So in the next.
-        progress(unsafe {
+        told::progress(unsafe {
             raw::hg_read_words(
                 &mut self.raw,
                 worker.0,
@@ -242,7 +242,7 @@ impl Core {
         words: &[u64],
     ) -> Progress {
         let (word, count) = (block.to_u64(), words.len());
-        progress(unsafe {
+        told::progress(unsafe {
             raw::hg_write_words(
                 &mut self.raw,
                 worker.0,
@@ -285,33 +285,31 @@ impl Core {
 
     /// Who holds the segment, if somebody does.
     pub fn holder(&self, segment: Segment) -> Option<Worker> {
-        named(unsafe { raw::hg_holder(&self.raw, segment.0) }).map(Worker)
+        told::number(unsafe { raw::hg_holder(&self.raw, segment.0) }).map(Worker)
     }
 
     /// What counts against the tenant's limit with the worker, in bytes; nothing of a worker or a
     /// tenant that isn't there.
     pub fn charge(&self, worker: Worker, tenant: Tenant) -> Option<u64> {
-        let told = unsafe { raw::hg_charge(&self.raw, worker.0, tenant.0) };
-        (told.status == raw::VALUE).then_some(told.value)
+        told::value(unsafe { raw::hg_charge(&self.raw, worker.0, tenant.0) })
     }
 
     /// The tenant of this name.
     pub fn tenant(&self, name: &str) -> Option<Tenant> {
-        named(unsafe { raw::hg_tenant(&self.raw, name.as_ptr(), name.len()) }).map(Tenant)
+        told::number(unsafe { raw::hg_tenant(&self.raw, name.as_ptr(), name.len()) }).map(Tenant)
     }
 
     /// The arena of this name.
     pub fn arena(&self, name: &str) -> Option<Arena> {
-        named(unsafe { raw::hg_arena(&self.raw, name.as_ptr(), name.len()) }).map(Arena)
+        told::number(unsafe { raw::hg_arena(&self.raw, name.as_ptr(), name.len()) }).map(Arena)
     }
 
     /// The name of a tenant.
     pub fn tenant_name(&self, tenant: Tenant) -> Option<String> {
-        let mut room = [0; 16];
+        let mut room = [0; NAME_ROOM];
         let told =
             unsafe { raw::hg_tenant_name(&self.raw, tenant.0, room.as_mut_ptr(), room.len()) };
-        let length = named(told)?;
-        Some(String::from_utf8_lossy(&room[..length as usize]).into_owned())
+        told::name(told, &room)
     }
 
     /// Makes an event's call, and gives its reply where it has that status. The core is open and
@@ -321,12 +319,7 @@ impl Core {
         status: u16,
         call: impl FnOnce(*mut RawCore) -> RawReply,
     ) -> Result<RawReply, Refusal> {
-        let reply = call(&mut self.raw);
-        if reply.status == status {
-            Ok(reply)
-        } else {
-            Err(Refusal::of(reply))
-        }
+        told::served(status, call(&mut self.raw))
     }
 }
 
@@ -335,21 +328,6 @@ impl Drop for Core {
         // SAFETY: the core is this value's alone, and isn't used again.
         unsafe { raw::hg_close(&mut self.raw) };
     }
-}
-
-fn handle_of(raw: RawReply) -> Result<Handle, Refusal> {
-    Handle::from_u64(raw.value).ok_or(Refusal::Other(raw.status))
-}
-
-fn progress(told: RawReply) -> Progress {
-    Progress {
-        done: told.value as usize,
-        refused: (told.status != raw::DONE).then(|| Refusal::of(told)),
-    }
-}
-
-fn named(told: RawReply) -> Option<u32> {
-    (told.status == raw::VALUE).then_some(told.value as u32)
 }
 
 #[cfg(test)]

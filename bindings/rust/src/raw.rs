@@ -16,6 +16,30 @@ impl RawCore {
     }
 }
 
+/// The 16 bytes of a bank, which the library alone looks into.
+#[repr(C)]
+pub struct RawBank {
+    at: *mut u8,
+    mark: u64,
+}
+
+impl RawBank {
+    pub fn closed() -> RawBank {
+        RawBank {
+            at: std::ptr::null_mut(),
+            mark: 0,
+        }
+    }
+}
+
+/// A block of a bank.
+#[repr(C)]
+#[derive(Clone, Copy)]
+pub struct RawBankHandle {
+    pub core: u64,
+    pub handle: u64,
+}
+
 #[repr(C)]
 #[derive(Clone, Copy)]
 pub struct RawReply {
@@ -96,6 +120,95 @@ extern "C" {
     pub fn hg_arena(core: *const RawCore, name: *const u8, name_length: usize) -> RawReply;
     pub fn hg_tenant_name(
         core: *const RawCore,
+        tenant: u32,
+        room: *mut u8,
+        room_length: usize,
+    ) -> RawReply;
+    pub fn hg_bank_open(
+        bank: *mut RawBank,
+        policy: *const u8,
+        policy_length: usize,
+        cores: u32,
+        room: *mut u8,
+        room_length: usize,
+    ) -> RawReply;
+    pub fn hg_bank_close(bank: *mut RawBank) -> RawReply;
+    pub fn hg_bank_grow(bank: *mut RawBank) -> RawReply;
+    pub fn hg_bank_alloc(
+        bank: *mut RawBank,
+        worker: u32,
+        actor: u32,
+        arena: u32,
+        bytes: u64,
+    ) -> RawReply;
+    pub fn hg_bank_refill(bank: *mut RawBank, worker: u32, arena: u32) -> RawReply;
+    pub fn hg_bank_free(
+        bank: *mut RawBank,
+        worker: u32,
+        actor: u32,
+        block: RawBankHandle,
+    ) -> RawReply;
+    pub fn hg_bank_deliver(bank: *mut RawBank, worker: u32, core: u32) -> RawReply;
+    pub fn hg_bank_take(bank: *mut RawBank, worker: u32, core: u32, segment: u32) -> RawReply;
+    pub fn hg_bank_collect(bank: *mut RawBank, worker: u32, core: u32) -> RawReply;
+    pub fn hg_bank_read(
+        bank: *mut RawBank,
+        worker: u32,
+        actor: u32,
+        block: RawBankHandle,
+        index: u32,
+    ) -> RawReply;
+    pub fn hg_bank_write(
+        bank: *mut RawBank,
+        worker: u32,
+        actor: u32,
+        block: RawBankHandle,
+        index: u32,
+        value: u64,
+    ) -> RawReply;
+    pub fn hg_bank_look(
+        bank: *mut RawBank,
+        worker: u32,
+        actor: u32,
+        core: u32,
+        place: u32,
+    ) -> RawReply;
+    pub fn hg_bank_abandon(bank: *mut RawBank, worker: u32, core: u32, segment: u32) -> RawReply;
+    pub fn hg_bank_read_words(
+        bank: *mut RawBank,
+        worker: u32,
+        actor: u32,
+        block: RawBankHandle,
+        first: u32,
+        room: *mut u64,
+        count: usize,
+    ) -> RawReply;
+    pub fn hg_bank_write_words(
+        bank: *mut RawBank,
+        worker: u32,
+        actor: u32,
+        block: RawBankHandle,
+        first: u32,
+        words: *const u64,
+        count: usize,
+    ) -> RawReply;
+    pub fn hg_bank_free_all(
+        bank: *mut RawBank,
+        worker: u32,
+        actor: u32,
+        core: u32,
+        owner: u32,
+    ) -> RawReply;
+    pub fn hg_bank_cores(bank: *const RawBank) -> RawReply;
+    pub fn hg_bank_workers(bank: *const RawBank) -> RawReply;
+    pub fn hg_bank_segments(bank: *const RawBank) -> RawReply;
+    pub fn hg_bank_holds(bank: *const RawBank, worker: u32, core: u32, segment: u32) -> RawReply;
+    pub fn hg_bank_holder(bank: *const RawBank, core: u32, segment: u32) -> RawReply;
+    pub fn hg_bank_charge(bank: *const RawBank, worker: u32, tenant: u32) -> RawReply;
+    pub fn hg_bank_tenant(bank: *const RawBank, name: *const u8, name_length: usize) -> RawReply;
+    pub fn hg_bank_arena(bank: *const RawBank, name: *const u8, name_length: usize) -> RawReply;
+    pub fn hg_bank_tenant_name(
+        bank: *const RawBank,
         tenant: u32,
         room: *mut u8,
         room_length: usize,

@@ -51,6 +51,10 @@ pub enum Refusal {
     NothingInHand,
     NotHeld,
     NoSegment,
+    /// All cores of the bank are open that there may be.
+    Full,
+    /// Memory for one core more was refused.
+    NoMemory,
     NoWorker,
     /// A status that this crate doesn't know, of a later library.
     Other(u16),
@@ -67,6 +71,7 @@ impl Refusal {
             21 => Refusal::NothingInHand,
             22 => Refusal::NotHeld,
             23 => Refusal::NoSegment,
+            24 => Refusal::Full,
             32 => Refusal::Denied(Rule::Stranger),
             33 => Refusal::Denied(Rule::Stale {
                 generation: raw.detail,
@@ -76,6 +81,7 @@ impl Refusal {
             36 => Refusal::Denied(Rule::NotGranted),
             37 => Refusal::Denied(Rule::OverLimit),
             38 => Refusal::Denied(Rule::Forbidden),
+            57 => Refusal::NoMemory,
             65 => Refusal::NoWorker,
             other => Refusal::Other(other),
         }
@@ -94,6 +100,8 @@ impl fmt::Display for Refusal {
             Refusal::NothingInHand => f.write_str("empty"),
             Refusal::NotHeld => f.write_str("notheld"),
             Refusal::NoSegment => f.write_str("nosegment"),
+            Refusal::Full => f.write_str("full"),
+            Refusal::NoMemory => f.write_str("no memory"),
             Refusal::NoWorker => f.write_str("no such worker"),
             Refusal::Other(status) => write!(f, "status {status}"),
         }
@@ -131,12 +139,14 @@ impl fmt::Display for PolicyFault {
 
 impl std::error::Error for PolicyFault {}
 
-/// Why no core was opened.
+/// Why no core, or no bank, was opened.
 #[derive(Clone, Debug, PartialEq, Eq)]
 #[non_exhaustive]
 pub enum OpenError {
     Policy(PolicyFault),
     Memory,
+    /// A bank has 1 to 16,384 cores.
+    NoCount,
     /// A status that this crate doesn't know, of a later library.
     Other(u16),
 }
@@ -153,6 +163,7 @@ impl OpenError {
             55 => FaultKind::TooMany,
             56 => FaultKind::Version,
             57 => return OpenError::Memory,
+            69 => return OpenError::NoCount,
             other => return OpenError::Other(other),
         };
         let line = String::from_utf8_lossy(line).into_owned();
@@ -165,6 +176,7 @@ impl fmt::Display for OpenError {
         match self {
             OpenError::Policy(fault) => fault.fmt(f),
             OpenError::Memory => f.write_str("no memory"),
+            OpenError::NoCount => f.write_str("no bank of so many cores"),
             OpenError::Other(status) => write!(f, "status {status}"),
         }
     }

@@ -2,6 +2,7 @@ pub mod ChargeLemmas
 pub mod SumLemmas
 pub mod BankLemmas
 pub mod OpeningLemmas
+pub mod RunLemmas
 pub mod CallLemmas
 pub mod AllocLemmas
 pub mod AskedLemmas

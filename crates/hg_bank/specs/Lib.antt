@@ -12,3 +12,4 @@ pub mod Histories
 pub mod Laws
 pub mod Limits
 pub mod Hidden
+pub mod AtOnce

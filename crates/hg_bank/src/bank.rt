@@ -1,7 +1,7 @@
 //! The bank, and what it is made of.
 
 ghost use Rattle.std.specs.Prelude.{◌≡◌, ◌+◌, ◌<◌, ◌≤◌, ◌&&◌, IfOk, OnOk, OnErr, length, nat_lt};
-ghost use Rattle.std.specs.Prelude.{if◌then◌else◌, Some, None, IsTrue, ◌↔◌};
+ghost use Rattle.std.specs.Prelude.{if◌then◌else◌, Some, None, IsTrue, ◌↔◌, MatchOption, slice_get};
 ghost use Rattle.hg_machine.specs.Policy.{is_tenant};
 ghost use Rattle.hg_bank.specs.Opening.{opened_bank, grown};
 ghost use Rattle.hg_bank.specs.Sound.{IsSoundBank};
@@ -108,6 +108,15 @@ impl Bank {
         ensures kept { IsSoundBank self.now }
     {
         self.cores.len() >= usize::from(self.room)
+    }
+
+    /// The core of this number, to be asked what it holds. `None` where it isn't open.
+    pub fn core(&self, number: u16) -> Option<&Core>
+        ensures core { MatchOption result (length self.now.cores ≤ number)
+            (λ core. slice_get self.now.cores number ≡ Some core.now) }
+        ensures kept { IsSoundBank self.now }
+    {
+        self.cores.get(usize::from(number))
     }
 
     /// Opens one more core, and tells its number. A want of memory leaves the bank as it was.

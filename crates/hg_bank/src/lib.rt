@@ -3,6 +3,7 @@
 #![tactic(auto)]
 
 mod allocating;
+mod at_once;
 mod bank;
 pub mod laws;
 mod naming;

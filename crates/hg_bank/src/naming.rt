@@ -17,7 +17,7 @@ use hg_place::{Actor, Place};
 use hg_policy::Policy;
 
 /// Why a block of a core that isn't there is denied.
-fn missing_rule(policy: &Policy, actor: Actor) -> Rule
+pub(crate) fn missing_rule(policy: &Policy, actor: Actor) -> Rule
     ensures { missing policy.now actor.0 ≡ Answer.Denied result }
 {
     if policy.limit(actor.0).is_some() {

@@ -1,3 +1,5 @@
 mod asked;
+mod at_once;
 mod refused;
+mod replies;
 mod worked;

@@ -5,11 +5,17 @@ use Rattle.hg_place.specs.declared.Handle.{Handle}
 use Rattle.hg_place.specs.declared.Place.{Place}
 use Rattle.hg_place.specs.Places.{number_of}
 use Rattle.hg_place.specs.HandleWords.{handle_word, is_handle, is_place}
-use Rattle.hg_c.specs.declared.reply.Reply.{Reply}
+use Rattle.hg_reply.specs.declared.reply.Reply.{Reply}
 use Rattle.hg_c.specs.declared.host_core.HostCore.{HostCore}
 use Rattle.hg_machine.specs.Lists.{Kept}
 use Rattle.hg_c.specs.Calls.{Serves, ServesOn, ServesAt}
 use Rattle.hg_c.specs.AtOnce.{DoesAtOnce, DoesOn}
+use Rattle.hg_bank_replies.specs.declared.block.BankBlock.{BankBlock}
+use Rattle.hg_bank_replies.specs.Blocks.{core_of}
+use Rattle.hg_c.specs.declared.host_bank.HostBank.{HostBank}
+use Rattle.hg_bank.specs.State.{BankState}
+use Rattle.hg_c.specs.Banks as banks
+use Rattle.hg_c.specs.BankAtOnce as many
 
 both_ways : {X : Type 0} {b : Bool} → b ≡ true → b ≡ false → X
 both_ways is isnt = absurd (subst T (sym is ∙ isnt) tt)
@@ -31,6 +37,28 @@ at_place place is serves = record {
 pub on_handle_at_once : {old new : HostCore} {worker word : ℕ} {does : Handle → Kept → Kept → Type 0} {stays : Type 0} {reply : Reply} (handle : Handle)
     → (is_handle word ≡ true) × (word ≡ handle_word handle) → DoesAtOnce old worker (does handle) stays reply new → DoesOn old worker word does stays reply new
 on_handle_at_once handle is done = record {
+  named = λ _. (handle, is.1, done);
+  unnamed = λ no. both_ways is.0 no;
+}
+
+-- the same on a bank
+pub on_bank_handle : {old new : HostBank} {worker : ℕ} {block : BankBlock} {event : Handle → Event} {reply : Reply} (handle : Handle)
+    → (is_handle block.handle ≡ true) × (block.handle ≡ handle_word handle) → banks.Serves old worker (core_of block.core) (event handle) reply new → banks.ServesOn old worker block event reply new
+on_bank_handle handle is serves = record {
+  named = λ _. (handle, is.1, serves);
+  unnamed = λ no. both_ways is.0 no;
+}
+
+pub at_bank_place : {old new : HostBank} {worker core number : ℕ} {event : Place → Event} {reply : Reply} (place : Place)
+    → (is_place number ≡ true) × (number ≡ number_of place) → banks.Serves old worker (core_of core) (event place) reply new → banks.ServesAt old worker core number event reply new
+at_bank_place place is serves = record {
+  named = λ _. (place, is.1, serves);
+  unnamed = λ no. both_ways is.0 no;
+}
+
+pub on_bank_at_once : {old new : HostBank} {worker word : ℕ} {does : Handle → BankState → BankState → Type 0} {stays : Type 0} {reply : Reply} (handle : Handle)
+    → (is_handle word ≡ true) × (word ≡ handle_word handle) → many.DoesAtOnce old worker (does handle) stays reply new → many.DoesOn old worker word does stays reply new
+on_bank_at_once handle is done = record {
   named = λ _. (handle, is.1, done);
   unnamed = λ no. both_ways is.0 no;
 }

@@ -3,12 +3,12 @@ use Rattle.std.specs.Prelude.{◌≡◌, ◌≢◌, length}
 use Rattle.hg_machine.specs.Lists.{Kept}
 use Rattle.hg_machine.specs.Holders.{holds}
 use Rattle.hg_place.specs.Words.{bit_of}
-use Rattle.hg_c.specs.declared.reply.Reply.{Reply}
+use Rattle.hg_reply.specs.declared.reply.Reply.{Reply}
 use Rattle.hg_c.specs.declared.lent_core.LentCore.{LentCore}
 use Rattle.hg_c.specs.declared.asking.Question.{Question}
 use Rattle.hg_c.specs.declared.asking.Question.TheVariants as question
 use Rattle.hg_c.specs.Owning.{open_mark}
-use Rattle.hg_c.specs.Replies.{closed, valued}
+use Rattle.hg_reply.specs.Replies.{closed, valued}
 
 -- an open core is answered by its state, and a closed one as closed
 pub record Tells (host : LentCore) (answer : Kept → Reply) (reply : Reply) : Type 0 where

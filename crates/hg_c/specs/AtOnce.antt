@@ -1,25 +1,19 @@
 -- What calls for many words, and for many blocks, do.
-use Rattle.std.specs.Prelude.{◌≡◌, ◌≢◌, ℕ, ◌<◌, ◌≤◌, true, false, List, Option, None, Some}
+use Rattle.std.specs.Prelude.{◌≡◌, ◌≢◌, ℕ, ◌<◌, ◌≤◌, true, false, List}
 use Rattle.hg_machine.specs.Lists.{Kept, IsPartition}
 use Rattle.hg_machine.specs.Soundness.{IsSound}
 use Rattle.hg_place.specs.declared.Actor.{Actor}
 use Rattle.hg_place.specs.declared.Handle.{Handle}
 use Rattle.hg_place.specs.HandleWords.{handle_word, is_handle}
-use Rattle.hg_heap.specs.declared.refused.Refused.{Refused}
-use Rattle.hg_heap.specs.Answers.{refused_answer}
 use Rattle.hg_bulk.specs.declared.progress.Progress.{Progress}
 use Rattle.hg_bulk.specs.Words.{ReadsWords, WritesWords}
 use Rattle.hg_bulk.specs.Freeing.{FreesAll}
-use Rattle.hg_c.specs.declared.reply.Reply.{Reply}
+use Rattle.hg_reply.specs.declared.reply.Reply.{Reply}
 use Rattle.hg_c.specs.declared.host_core.HostCore.{HostCore}
 use Rattle.hg_c.specs.Calls.{IsSame}
 use Rattle.hg_c.specs.Owning.{open_mark}
-use Rattle.hg_c.specs.Replies.{closed, no_worker, no_block, reply_of, valued}
-
--- all was done, or the reply to what was refused; the value is how many were done
-abbrev pub count_reply : ℕ → Option Refused → Reply
-count_reply done None = valued 2 done
-count_reply done (Some why) = record (reply_of (refused_answer why)) { value = done }
+use Rattle.hg_reply.specs.Counts.{count_reply}
+use Rattle.hg_reply.specs.Replies.{closed, no_worker, no_block, valued}
 
 -- A worker that the policy lacks is answered so, and the core stays; else the core does what is said
 -- of it, and stays sound. What else there is stays as it is where the worker is unknown

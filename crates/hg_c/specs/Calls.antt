@@ -9,10 +9,10 @@ use Rattle.hg_place.specs.declared.Handle.{Handle}
 use Rattle.hg_place.specs.declared.Place.{Place}
 use Rattle.hg_place.specs.Places.{number_of}
 use Rattle.hg_place.specs.HandleWords.{handle_word, is_handle, is_place}
-use Rattle.hg_c.specs.declared.reply.Reply.{Reply}
+use Rattle.hg_reply.specs.declared.reply.Reply.{Reply}
 use Rattle.hg_c.specs.declared.host_core.HostCore.{HostCore}
 use Rattle.hg_c.specs.Owning.{open_mark}
-use Rattle.hg_c.specs.Replies.{reply_of, plain, closed, no_worker, no_block}
+use Rattle.hg_reply.specs.Replies.{reply_of, plain, closed, no_worker, no_block}
 
 -- it is open or closed as it was, with the same core
 abbrev pub IsSame : HostCore → HostCore → Type 0

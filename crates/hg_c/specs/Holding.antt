@@ -4,16 +4,12 @@ use Rattle.hg_machine.specs.Charge.{charge}
 use Rattle.hg_machine.specs.Lists.{Kept}
 use Rattle.hg_machine.specs.State.{holder_at}
 use Rattle.hg_core.specs.Held.{worker_in}
-use Rattle.hg_c.specs.declared.reply.Reply.{Reply}
+use Rattle.hg_reply.specs.declared.reply.Reply.{Reply}
 use Rattle.hg_c.specs.declared.lent_core.LentCore.{LentCore}
-use Rattle.hg_c.specs.Naming.{nobody}
+use Rattle.hg_reply.specs.Holding.{holding}
+use Rattle.hg_reply.specs.Naming.{nobody}
 use Rattle.hg_c.specs.Owning.{open_mark}
-use Rattle.hg_c.specs.Replies.{closed, no_worker, no_name, valued}
-
--- the worker, or that nobody holds the segment
-abbrev pub holding : Option ℕ → Reply
-holding (Some worker) = valued 4 worker
-holding None = valued 22 nobody
+use Rattle.hg_reply.specs.Replies.{closed, no_worker, no_name, valued}
 
 -- Where nobody holds the segment, or the core is closed, the value is nobody's
 pub record TellsHolder (host : LentCore) (segment : ℕ) (reply : Reply) : Type 0 where

@@ -1,8 +1,4 @@
 pub mod Owning
-pub mod Numbers
-pub mod Replies
-pub mod ReplyLaws
-pub mod Telling
 pub mod Calls
 pub mod Opening
 pub mod Asking
@@ -10,3 +6,6 @@ pub mod Naming
 pub mod Holding
 pub mod Version
 pub mod AtOnce
+pub mod Banks
+pub mod BankOpening
+pub mod BankAtOnce

@@ -9,12 +9,12 @@ use Rattle.hg_policy.specs.declared.fault.PolicyFault.TheVariants as fault
 use Rattle.hg_policy.specs.Document.{document_of}
 use Rattle.hg_policy.specs.Faults.{FailsAs, fault_of}
 use Rattle.hg_policy.specs.FaultLines.{fault_line}
-use Rattle.hg_c.specs.declared.reply.Reply.{Reply}
+use Rattle.hg_reply.specs.declared.reply.Reply.{Reply}
 use Rattle.hg_c.specs.declared.host_core.HostCore.{HostCore}
 use Rattle.hg_c.specs.Calls.{IsSame}
 use Rattle.hg_c.specs.Owning.{open_mark}
-use Rattle.hg_c.specs.Replies.{valued, held}
-use Rattle.hg_c.specs.Telling.{IsToldOrNot}
+use Rattle.hg_reply.specs.Replies.{valued, held}
+use Rattle.hg_reply.specs.Telling.{IsToldOrNot}
 
 -- 48 and the number that the fault has in its line; 57 is want of memory
 abbrev pub fault_status : PolicyFault → ℕ

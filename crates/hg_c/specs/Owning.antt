@@ -1,7 +1,9 @@
--- What a core in a host's hands owns.
+-- What a core and a bank in a host's hands own.
 use Rattle.std.specs.Prelude.{ℕ, ◌==◌, Bool, true, false, []}
 use Rattle.hg_machine.specs.Lists.{Kept}
+use Rattle.hg_machine.specs.Policy.{Policy}
 use Rattle.hg_machine.specs.State.{opening}
+use Rattle.hg_bank.specs.State.{BankState}
 use base.Fml.{Lft, Share, Fml, ftrue, fsep, fex, flft}
 use denote.RattleType.{RattleType}
 use denote.RawPtr.{Ptr}
@@ -11,9 +13,12 @@ use Rattle.std.specs.Global.{Global}
 use Rattle.std.specs.contracts.impls.GlobalAllocator.TheImpl.{ghosts}
 use Rattle.std.specs.Box.Ownership.{box_owns}
 
--- the mark of one that is open
+-- the mark of a core that is open, and of a bank: so neither is taken for the other
 abbrev pub open_mark : ℕ
 open_mark = 3550334381634438984
+
+abbrev pub bank_mark : ℕ
+bank_mark = 3552018773301872456
 
 -- the program's one heap: its handle holds nothing
 abbrev pub heap : Global
@@ -31,6 +36,9 @@ when false owned = ftrue
 abbrev pub owns_if_open : (R : RattleType) → ℕ → Ptr → R.Denot → Fml
 owns_if_open R mark at value = when (mark == open_mark) (box_owns may_free R at value)
 
+abbrev pub owns_if_bank : (R : RattleType) → ℕ → Ptr → R.Denot → Fml
+owns_if_bank R mark at value = when (mark == bank_mark) (box_owns may_free R at value)
+
 -- a value that may be read for a lifetime, and some part of what keeps that from ending: both can be
 -- had twice, so this can
 abbrev pub lent_for : (R : RattleType) → Ptr → R.Denot → Lft → Fml
@@ -40,19 +48,28 @@ lent_for R at value life = fsep (fex Share (λ q. flft life q)) (lent_at R at va
 abbrev pub lent_if_open : (R : RattleType) → ℕ → Ptr → R.Denot → Lft → Fml
 lent_if_open R mark at value life = when (mark == open_mark) (lent_for R at value life)
 
--- what stands for the core of one that is closed
+abbrev pub lent_if_bank : (R : RattleType) → ℕ → Ptr → R.Denot → Lft → Fml
+lent_if_bank R mark at value life = when (mark == bank_mark) (lent_for R at value life)
+
+-- what stands for the core of one that is closed, and for the bank
+abbrev pub no_policy : Policy
+no_policy = record {
+  workers = 0;
+  max_generation = 0;
+  tenants = [];
+  arenas = [];
+  segments = [];
+  admitted = [];
+  granted = [];
+  forbidden = [];
+}
+
 abbrev pub no_core : Kept
 no_core = record {
-  state = opening (record {
-    workers = 0;
-    max_generation = 0;
-    tenants = [];
-    arenas = [];
-    segments = [];
-    admitted = [];
-    granted = [];
-    forbidden = [];
-  });
+  state = opening no_policy;
   lists = record { free = []; local_free = []; thread_free = []; delayed = [] };
   queues = [];
 }
+
+abbrev pub no_bank : BankState
+no_bank = record { policy = no_policy; room = 0; cores = []; currents = [] }

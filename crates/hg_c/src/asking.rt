@@ -4,12 +4,9 @@ ghost use Rattle.std.specs.Prelude.{◌≡◌};
 ghost use Rattle.hg_c.specs.Asking.{Tells, answer_to};
 
 use crate::lent_core::LentCore;
-use crate::reply::Reply;
-use crate::serving::CLOSED;
 use hg_core::Core;
-
-/// A number is told, or a word.
-pub const VALUE: u16 = 4;
+use hg_reply::Reply;
+use hg_reply::status::{CLOSED, VALUE};
 
 /// A question that changes nothing.
 #[derive(Clone, Copy)]

@@ -2,36 +2,15 @@
 
 ghost use Rattle.std.specs.Prelude.{◌≡◌};
 ghost use Rattle.hg_c.specs.AtOnce.{Does, DoesAtOnce, ReadsInto, Unloads, WritesFrom};
-ghost use Rattle.hg_c.specs.AtOnce.{count_reply};
 
 use crate::host_core::HostCore;
-use crate::opening::DONE;
-use crate::reply::{Reply, reply_of};
-use crate::serving::{CLOSED, NO_WORKER, taken, worker_of};
-use hg_bulk::{Progress, free_all, read_words, write_words};
+use crate::serving::{taken, worker_of};
+use hg_bulk::{free_all, read_words, write_words};
 use hg_core::Core;
-use hg_heap::refused_answer;
 use hg_place::{Actor, Handle};
+use hg_reply::status::{CLOSED, DONE, NO_WORKER};
+use hg_reply::{Reply, count_reply};
 use std::alloc::Global;
-
-/// How many were done, and why no more were, if any was refused.
-fn count_reply(made: Progress) -> Reply
-    ensures { result ≡ count_reply made.done made.refused }
-{
-    let value = made.done as u64;
-    match made.refused {
-        None => Reply::valued(DONE, value),
-        Some(why) => {
-            let told = reply_of(refused_answer(why));
-            Reply {
-                status: told.status,
-                owner: told.owner,
-                detail: told.detail,
-                value,
-            }
-        }
-    }
-}
 
 /// Reads words for a worker, if there is such a worker.
 fn read(

@@ -2,14 +2,13 @@
 
 ghost use Rattle.std.specs.Prelude.{◌≡◌};
 ghost use Rattle.hg_c.specs.AtOnce.{DoesAtOnce, DoesOn, ReadsInto, Unloads, WritesFrom};
-ghost use Rattle.hg_c.specs.Numbers.{actor_of, byte_of};
+ghost use Rattle.hg_reply.specs.Numbers.{actor_of, byte_of};
 
 use crate::at_once::{serve_free_all, serve_read_words, serve_write_words};
 use crate::host_core::HostCore;
-use crate::numbers::{actor_of, byte_of};
-use crate::reply::Reply;
-use crate::serving::NO_BLOCK;
 use hg_place::Handle;
+use hg_reply::status::NO_BLOCK;
+use hg_reply::{Reply, actor_of, byte_of};
 use std::alloc::Global;
 
 /// Reads as many words of a block as the room has, from the word of an index on, until one is

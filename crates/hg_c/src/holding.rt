@@ -1,26 +1,13 @@
 //! Who holds a segment, and what a tenant is charged.
 
 ghost use Rattle.std.specs.Prelude.{◌≡◌};
-ghost use Rattle.hg_c.specs.Holding.{IsCharged, TellsCharge, TellsHolder, holding};
+ghost use Rattle.hg_c.specs.Holding.{IsCharged, TellsCharge, TellsHolder};
 
-use crate::asking::VALUE;
 use crate::lent_core::LentCore;
-use crate::naming::{NO_NAME, NOBODY};
-use crate::reply::Reply;
-use crate::serving::{CLOSED, NO_WORKER, worker_of};
+use crate::serving::worker_of;
 use hg_core::Core;
-
-/// Nobody holds the segment.
-const NOT_HELD: u16 = 22;
-
-fn holding(worker: Option<u8>) -> Reply
-    ensures { result ≡ holding worker }
-{
-    match worker {
-        Some(worker) => Reply::valued(VALUE, u64::from(worker)),
-        None => Reply::valued(NOT_HELD, NOBODY),
-    }
-}
+use hg_reply::status::{CLOSED, NO_NAME, NO_WORKER, VALUE};
+use hg_reply::{NOBODY, Reply, holding};
 
 /// Tells who holds a segment.
 pub fn tell_holder(host: &LentCore, segment: u8) -> Reply

@@ -5,21 +5,15 @@ ghost use Rattle.hg_policy.specs.Document.{document_of};
 ghost use Rattle.hg_policy.specs.Faults.{FailsAs, fault_of};
 ghost use Rattle.hg_policy.specs.FaultLines.{fault_line};
 ghost use Rattle.hg_c.specs.Opening.{IsOpening, Opens, fault_status};
-ghost use Rattle.hg_c.specs.Telling.{IsToldOrNot};
+ghost use Rattle.hg_reply.specs.Telling.{IsToldOrNot};
 
 use crate::host_core::HostCore;
-use crate::reply::Reply;
-use crate::telling::tell;
 use hg_core::Core;
 use hg_policy::{PolicyFault, read_policy};
+use hg_reply::status::{DONE, HELD};
+use hg_reply::{Reply, tell};
 use std::alloc::Global;
 use std::mem;
-
-/// Done, which is also what an opening is answered.
-pub const DONE: u16 = 2;
-
-/// What was to be opened is open.
-pub const HELD: u16 = 67;
 
 /// A core of the policy that a text is.
 fn open_core(alloc: Global, text: &[u8]) -> Result<Box<Core, Global>, PolicyFault>
@@ -33,7 +27,7 @@ fn open_core(alloc: Global, text: &[u8]) -> Result<Box<Core, Global>, PolicyFaul
 }
 
 /// The status that tells a fault.
-fn status_of(fault: &PolicyFault) -> u16
+pub fn status_of(fault: &PolicyFault) -> u16
     ensures status { result ≡ fault_status fault.now }
     ensures refused { result ≢ 2 }
 {
@@ -52,7 +46,7 @@ fn status_of(fault: &PolicyFault) -> u16
 
 /// Writes a fault's line, as far as there is room for it, and answers how many bytes of it were
 /// written: none where there is no memory for it.
-fn tell_fault(alloc: Global, fault: &PolicyFault, room: &mut [u8]) -> usize
+pub fn tell_fault(alloc: Global, fault: &PolicyFault, room: &mut [u8]) -> usize
     ensures { IsToldOrNot (fault_line fault.now) room.old result room.new }
 {
     match format!(in alloc; "{fault}") {

@@ -5,23 +5,14 @@ ghost use Rattle.hg_machine.specs.declared.Event.TheVariants as Event;
 ghost use Rattle.hg_c.specs.Calls.{IsSame, Steps, Serves};
 ghost use Rattle.hg_c.specs.Owning.{open_mark};
 
-use crate::answering::{look_reply, read_reply, write_reply};
 use crate::host_core::HostCore;
-use crate::reply::{Reply, reply_of};
 use hg_core::Core;
 use hg_machine::Event;
 use hg_place::{Actor, Handle, Place};
+use hg_reply::status::{CLOSED, NO_WORKER};
+use hg_reply::{Reply, look_reply, read_reply, reply_of, write_reply};
 use std::alloc::Global;
 use std::mem;
-
-/// The core isn't open.
-pub const CLOSED: u16 = 64;
-
-/// The policy has no such worker.
-pub const NO_WORKER: u16 = 65;
-
-/// The number is no handle's, or no place's.
-pub const NO_BLOCK: u16 = 66;
 
 /// The worker of a number, if the core's policy has one.
 #[inline(always)]
