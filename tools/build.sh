@@ -1,9 +1,9 @@
 # For bin/heapguard and bin/build-lib, after tools/words.sh. They set `root`, `called` (the script),
 # `crate` (what it builds) and `program` (the file that comes of it), and have `finish`, which puts
 # that file in its place. Here: whether it is built from the sources and the kit as they stand, and
-# proving it in a copy of the crates that it stands on: by the kit's gate, `rt ci`, unless the script
-# has a `prove` and a `progress` of its own. The gate proves crates side by side, and keeps each on
-# this machine as soon as it is proved.
+# proving it in a copy of the crates that it stands on, or in the tree itself where the script sets
+# `here`: by the kit's gate, `rt ci`, unless the script has a `prove` and a `progress` of its own. The
+# gate proves crates side by side, and keeps each on this machine as soon as it is proved.
 # shellcheck shell=sh disable=SC2154
 # shellcheck disable=SC2034 # for tools/unproved.sh
 folder=$root/crates/$crate
@@ -182,12 +182,14 @@ progress() {
 # Says what failed, by the gate's log, and ends: where the crate isn't proved and why, or what else
 # was said of it last. The log then names files as they stand in the tree.
 failed() {
-    awk -v copy="$copy/" -v root="$root/" '
-        {
-            while (at = index($0, copy))
-                $0 = substr($0, 1, at - 1) root substr($0, at + length(copy))
-            print
-        }' "$log" >"$scratch/log" && cat "$scratch/log" >"$log"
+    if [ "$copy" != "$root" ]; then
+        awk -v copy="$copy/" -v root="$root/" '
+            {
+                while (at = index($0, copy))
+                    $0 = substr($0, 1, at - 1) root substr($0, at + length(copy))
+                print
+            }' "$log" >"$scratch/log" && cat "$scratch/log" >"$log"
+    fi
     # (`rt lib` begins what it says of a crate by one of the first two, and ends with the one that failed)
     name=$(awk '
         $1 " " $2 " " $3 == "rt: chose --jobs" { name = $NF }
@@ -228,9 +230,13 @@ build() {
     true >"$log"
     scratch=$(mktemp -d "${TMPDIR:-/tmp}/heapguard.XXXXXX" 2>>"$log") \
         || stop 126 "cannot write in ${TMPDIR:-/tmp}"
-    copy=$scratch/copy
     for it in $(crates); do echo "$it $(weight "$it")"; done >"$scratch/weights"
-    copy_crates 2>>"$log" || stop 126 "cannot copy the crates to $copy; $log says why"
+    if [ -n "${here-}" ]; then
+        copy=$root
+    else
+        copy=$scratch/copy
+        copy_crates 2>>"$log" || stop 126 "cannot copy the crates to $copy; $log says why"
+    fi
     watch progress prove || failed
     finish
     mv "$record.$$" "$record"
