@@ -149,11 +149,16 @@ copy_crates() {
 
 # COMMAND: becomes it, in a session of its own, so that what it starts can be ended with it, and
 # with a folder for what is temporary, of which a command that was ended leaves much. (As root the
-# gate runs the program as nobody, who has to get there.)
+# gate runs the program as nobody, who has to get there.) With GIVE_WAY, 1 to 19, it gives way to what
+# else runs: the session is what Linux shares the processor out to, where it goes by sessions.
 become() {
     mkdir -p "$scratch/tmp" || exit
     chmod 711 "$scratch" "$scratch/tmp" || exit
-    exec env TMPDIR="$scratch/tmp" setsid "$@" </dev/null >>"$log" 2>&1
+    [ -n "${GIVE_WAY-}" ] || exec env TMPDIR="$scratch/tmp" setsid "$@" </dev/null >>"$log" 2>&1
+    # shellcheck disable=SC2016 # of the shell that it begins
+    exec env TMPDIR="$scratch/tmp" setsid nice -n "$GIVE_WAY" sh -c '
+        { echo "$GIVE_WAY" >/proc/self/autogroup; } 2>/dev/null || true
+        exec "$@"' sh "$@" </dev/null >>"$log" 2>&1
 }
 
 prove() {
