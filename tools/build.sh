@@ -1,8 +1,8 @@
 # For bin/heapguard and bin/build-lib, after tools/words.sh. They set `root`, `called` (the script),
 # `crate` (what it builds) and `program` (the file that comes of it), and have `finish`, which puts
 # that file in its place. Here: whether it is built from the sources and the kit as they stand, and
-# proving it in a copy of the crates that it stands on, or in the tree itself where the script sets
-# `here`: by the kit's gate, `rt ci`, unless the script has a `prove` and a `progress` of its own. The
+# proving it in a copy of the crates that it stands on, or in the tree itself where the script then
+# sets `here`: by the kit's gate, `rt ci`, unless the script has a `prove` and a `progress` of its own. The
 # gate proves crates side by side, and keeps each on this machine as soon as it is proved.
 # shellcheck shell=sh disable=SC2154
 # shellcheck disable=SC2034 # for tools/unproved.sh
@@ -11,6 +11,7 @@ made=$(dirname -- "$program")
 record=$made/made_from # what the program was made from; its time is that before the build
 log=$made/log          # what the last build said
 job='' clock='' scratch='' copy='' began=''
+here='' # whether to prove in the tree itself
 takes='25 to 30 minutes on quiet cores, and longer on busy ones'
 again='only what is new or has changed is proved'
 
@@ -236,7 +237,7 @@ build() {
     scratch=$(mktemp -d "${TMPDIR:-/tmp}/heapguard.XXXXXX" 2>>"$log") \
         || stop 126 "cannot write in ${TMPDIR:-/tmp}"
     for it in $(crates); do echo "$it $(weight "$it")"; done >"$scratch/weights"
-    if [ -n "${here-}" ]; then
+    if [ -n "$here" ]; then
         copy=$root
     else
         copy=$scratch/copy
