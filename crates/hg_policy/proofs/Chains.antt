@@ -27,3 +27,12 @@ module _ {A X : Type 0} (step : A → X → Read A) where
 pub bind-fails : {A B : Type 0} (o : Option Fault) (r : Read A) (next : A → Read B) → FailsAs o r → FailsAs o (r >>= next)
 bind-fails None r next e = tt
 bind-fails (Some f) r next e = rw e refl
+
+-- what is next may be put together first
+pub bind_assoc : {A B C : Type 0} (r : Read A) (f : A → Read B) (g : B → Read C) → ((r >>= f) >>= g) ≡ (r >>= λ x. f x >>= g)
+bind_assoc (Ok x) f g = refl
+bind_assoc (Err fault) f g = refl
+
+pub bind_cong : {A B : Type 0} (r : Read A) (f g : A → Read B) → ((x : A) → f x ≡ g x) → (r >>= f) ≡ (r >>= g)
+bind_cong (Ok x) f g same = same x
+bind_cong (Err fault) f g same = refl

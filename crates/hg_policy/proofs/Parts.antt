@@ -1,5 +1,5 @@
 -- The parts of a policy that was read.
-use Rattle.std.proofs.Common.{◌≡◌, ℕ, ◌≤◌, ◌<◌, List, length, Ok, Err, refl, ◌+◌, inl, inr, All, map, arith}
+use Rattle.std.proofs.Common.{◌≡◌, ℕ, ◌≤◌, ◌<◌, List, length, Ok, Err, refl, sym, ◌∙◌, ◌+◌, inl, inr, All, map, arith}
 use Rattle.std.specs.List.{range_with_len}
 use Rattle.std.proofs.lemmas.Bool.{cases_Bool, ltb-false}
 use Rattle.std.proofs.Common.{nat_lt}
@@ -17,13 +17,13 @@ use Rattle.hg_policy.specs.Tenants.{tenants_in, tenant_names}
 use Rattle.hg_policy.specs.Arenas.{Arenas, arenas_in}
 use Rattle.hg_policy.specs.Rights.{all_rights}
 use Rattle.hg_policy.specs.Groups.{Group, groups_in}
-use Rattle.hg_policy.specs.Lines.{Line, lines_in, rights_by, table_by}
+use Rattle.hg_policy.specs.Lines.{Line, lines_in, rights_by, table_by, granted_by, forbidden_by}
 use Rattle.hg_policy.specs.Heads.{Heads, AreHeads, workers_at, max_generation_at, group_entries_at, line_entries_at, heads_at}
-use Rattle.hg_policy.specs.Document.{top_at, policy_from, tables_of, policy_at, tree_of, document_of}
+use Rattle.hg_policy.specs.Document.{Names, Said, policy_with, names_in, said_in, top_at, policy_from, tables_of, policy_at, tree_of, document_of}
 use Rattle.hg_policy.specs.DocumentLaws.{AreNames, HasWholeTables}
 use Rattle.hg_policy.specs.Kept.{Named, tenants_of}
 use Rattle.hg_policy.proofs.Names.{length-tenants}
-use Rattle.hg_policy.proofs.Chains.{bind_at}
+use Rattle.hg_policy.proofs.Chains.{bind_at, bind_assoc, bind_cong}
 use Rattle.hg_policy.proofs.Wholes.{workers_at-range, max_generation_at-range}
 use Rattle.hg_policy.proofs.TenantEntries.{tenants_in-length, tenants_in-limits, tenants_in-names}
 use Rattle.hg_policy.proofs.ArenaEntries.{arenas_in-length, arenas_in-holds}
@@ -155,6 +155,47 @@ pub tables_of-Ok : (heads : Heads) (tenants : List Tenant) (groups : List Group)
     → tables_of heads ≡ Ok (policy_from heads tenants arenas grants denies)
 unfolding tables_of
 tables_of-Ok heads tenants groups arenas grants denies a b c d e = rw (a, b, c, d, e) refl
+
+-- whom and what was named, by the tables that were read
+pub names_in-are : (heads : Heads) (names : Names) → names_in heads ≡ Ok names → (tenants_in heads.tenants ≡ Ok names.tenants) × (arenas_in names.tenants names.groups heads.arenas ≡ Ok names.arenas)
+unfolding names_in
+names_in-are heads names e =
+    let (tenants, at1, e1) = bind_at (tenants_in heads.tenants) _ names e in
+    let (groups, at2, e2) = bind_at (groups_in tenants heads.groups) _ names e1 in
+    let all : Arenas → Names = λ arenas. record { tenants = tenants; groups = groups; arenas = arenas } in
+    let (arenas, at3, e3) = bind_at (arenas_in tenants groups heads.arenas) (λ arenas. Ok (all arenas)) names e2 in
+    rw (same_Ok (all arenas) names e3) (at1, at3)
+
+-- what was said, by the lines that were read
+pub said_in-is : (names : Names) (heads : Heads) (said : Said) → said_in names heads ≡ Ok said
+    → (grants : List Line) × (denies : List Line) × (said ≡ record { granted = granted_by grants (length names.tenants); forbidden = forbidden_by denies (length names.tenants) })
+unfolding said_in
+said_in-is names heads said e =
+    let (grants, at1, e1) = bind_at (lines_in names.tenants names.groups heads.grants) _ said e in
+    let all : List Line → Said = λ denies. record { granted = granted_by grants (length names.tenants); forbidden = forbidden_by denies (length names.tenants) } in
+    let (denies, at2, e2) = bind_at (lines_in names.tenants names.groups heads.denies) (λ denies. Ok (all denies)) said e1 in
+    (grants, denies, same_Ok (all denies) said e2)
+
+-- a document's tables are whom and what it names, and what it says of these
+pub tables_of-parts : (heads : Heads) → tables_of heads ≡ (names_in heads >>= λ names. said_in names heads >>= λ said. Ok (policy_with heads names said))
+unfolding tables_of names_in said_in
+tables_of-parts heads =
+    let all : List Tenant → List Group → Arenas → Names = λ tenants groups arenas. record { tenants = tenants; groups = groups; arenas = arenas } in
+    let of_said : Names → Said → Read Policy = λ names said. Ok (policy_with heads names said) in
+    let rest : Names → Read Policy = λ names. said_in names heads >>= of_said names in
+    let by_lines : Names → List Line → List Line → Said = λ names grants denies. record { granted = granted_by grants (length names.tenants); forbidden = forbidden_by denies (length names.tenants) } in
+    sym (
+    bind_assoc (tenants_in heads.tenants) (λ tenants. groups_in tenants heads.groups >>= λ groups. arenas_in tenants groups heads.arenas >>= λ arenas. Ok (all tenants groups arenas)) rest
+    ∙ bind_cong (tenants_in heads.tenants) _ _ (λ tenants.
+    bind_assoc (groups_in tenants heads.groups) (λ groups. arenas_in tenants groups heads.arenas >>= λ arenas. Ok (all tenants groups arenas)) rest
+    ∙ bind_cong (groups_in tenants heads.groups) _ _ (λ groups.
+    bind_assoc (arenas_in tenants groups heads.arenas) (λ arenas. Ok (all tenants groups arenas)) rest
+    ∙ bind_cong (arenas_in tenants groups heads.arenas) _ _ (λ arenas.
+    let names = all tenants groups arenas in
+    bind_assoc (lines_in tenants groups heads.grants) (λ grants. lines_in tenants groups heads.denies >>= λ denies. Ok (by_lines names grants denies)) (of_said names)
+    ∙ bind_cong (lines_in tenants groups heads.grants) _ _ (λ grants.
+    bind_assoc (lines_in tenants groups heads.denies) (λ denies. Ok (by_lines names grants denies)) (of_said names)))))
+    )
 
 -- the entries that were kept of tenants are few
 pub few_entries : (heads : Heads) (named : Named ℕ) → AreHeads heads → tenants_in heads.tenants ≡ Ok (tenants_of named) → length named ≤ 64

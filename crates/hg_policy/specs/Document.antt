@@ -4,7 +4,7 @@ use Rattle.std.specs.Prelude.{Ok, Err, if◌then◌else◌}
 use Rattle.std.specs.Str.{is_utf8}
 use Rattle.toml.specs.Data.{Data, Members, integer}
 use Rattle.toml.specs.Parse.{parse_document}
-use Rattle.hg_machine.specs.Policy.{Policy, Tenant}
+use Rattle.hg_machine.specs.Policy.{Policy, Tenant, Rights}
 use Rattle.hg_policy.specs.declared.key.Key.TheVariants as key
 use Rattle.hg_policy.specs.declared.key.Level.{Level}
 use Rattle.hg_policy.specs.declared.key.Level.TheVariants as level
@@ -12,7 +12,7 @@ use Rattle.hg_policy.specs.Faults.{Read, ◌>>=◌, or_fault, not_toml, kind, ve
 use Rattle.hg_policy.specs.Values.{value_at, known_keys}
 use Rattle.hg_policy.specs.Heads.{Heads, heads_at}
 use Rattle.hg_policy.specs.Tenants.{tenants_in}
-use Rattle.hg_policy.specs.Groups.{groups_in}
+use Rattle.hg_policy.specs.Groups.{Group, groups_in}
 use Rattle.hg_policy.specs.Arenas.{Arenas, arenas_in}
 use Rattle.hg_policy.specs.Lines.{Line, lines_in, granted_by, forbidden_by}
 
@@ -36,6 +36,46 @@ policy_from heads tenants arenas grants denies = record {
   admitted = arenas.admitted;
   granted = granted_by grants (length tenants);
   forbidden = forbidden_by denies (length tenants);
+}
+
+-- whom and what a document names: tenants, groups, and arenas with their segments
+pub record Names : Type 0 where
+  pub tenants : List Tenant
+  pub groups : List Group
+  pub arenas : Arenas
+
+unfoldable pub names_in : Heads → Read Names
+names_in heads = do
+  tenants ← tenants_in heads.tenants
+  groups ← groups_in tenants heads.groups
+  arenas ← arenas_in tenants groups heads.arenas
+  Ok (record { tenants = tenants; groups = groups; arenas = arenas })
+
+-- what its lines say of these: what is granted, and what is forbidden
+pub record Said : Type 0 where
+  pub granted : List (List Rights)
+  pub forbidden : List (List Rights)
+
+unfoldable pub said_in : Names → Heads → Read Said
+said_in names heads = do
+  grants ← lines_in names.tenants names.groups heads.grants
+  denies ← lines_in names.tenants names.groups heads.denies
+  Ok (record {
+    granted = granted_by grants (length names.tenants);
+    forbidden = forbidden_by denies (length names.tenants);
+  })
+
+-- the policy of these
+abbrev pub policy_with : Heads → Names → Said → Policy
+policy_with heads names said = record {
+  workers = heads.workers;
+  max_generation = heads.greatest;
+  tenants = names.tenants;
+  arenas = names.arenas.names;
+  segments = names.arenas.segments;
+  admitted = names.arenas.admitted;
+  granted = said.granted;
+  forbidden = said.forbidden;
 }
 
 unfoldable pub tables_of : Heads → Read Policy

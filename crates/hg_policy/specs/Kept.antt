@@ -15,6 +15,8 @@ use Rattle.hg_policy.specs.Heads as heads
 use Rattle.hg_policy.specs.declared.heads.Heads.{Heads}
 use Rattle.hg_policy.specs.Arenas.{Arenas}
 use Rattle.hg_policy.specs.declared.arenas.ArenaTables.{ArenaTables}
+use Rattle.hg_policy.specs.Document.{Names, Said}
+use Rattle.hg_policy.specs.declared.document.Named as document
 use Rattle.hg_policy.specs.declared.policy.Policy.TheInside.{Inside}
 
 -- names with something beside each, by number
@@ -60,6 +62,23 @@ line_of tenants line = record {
   owners = flags_of tenants line.owners;
   to = flags_of tenants line.to;
   rights = rights_of line.rights;
+}
+
+-- whom and what is named
+abbrev pub all_named_of : document.Named → Names
+all_named_of named =
+    let tenants = length named.tenants.entries in
+    record {
+      tenants = tenants_of named.tenants.entries;
+      groups = groups_of tenants named.groups.entries;
+      arenas = arenas_of tenants named.arenas;
+    }
+
+-- what is granted, and what is forbidden
+abbrev pub said_of : ℕ → List (List Standing) → Said
+said_of tenants table = record {
+  granted = granted_of tenants table;
+  forbidden = forbidden_of tenants table;
 }
 
 abbrev pub heads_of : Heads → heads.Heads

@@ -1,22 +1,26 @@
 //! The policy document.
 
-ghost use Rattle.std.specs.Prelude.{IfOk};
+ghost use Rattle.std.specs.Prelude.{◌≡◌, ◌≤◌, length, IfOk};
 ghost use Rattle.toml.specs.View.{table_view};
 ghost use Rattle.hg_policy.specs.Faults.{Gives, or_fault, not_toml};
-ghost use Rattle.hg_policy.specs.Kept.{heads_of};
+ghost use Rattle.hg_policy.specs.Kept.{heads_of, all_named_of, said_of};
 ghost use Rattle.hg_policy.specs.Heads.{AreHeads};
 ghost use Rattle.hg_policy.specs.Document.{top_at, tables_of, policy_at, heads_in, tree_of};
-ghost use Rattle.hg_policy.specs.Document.{document_of};
+ghost use Rattle.hg_policy.specs.Document.{document_of, names_in, said_in, policy_with};
+ghost use Rattle.hg_machine.specs.SoundPolicy.{IsSoundPolicy};
 
-use crate::arenas::arenas;
+use crate::arenas::{ArenaTables, arenas};
 use crate::fault::PolicyFault;
+use crate::granted::Standings;
 use crate::groups::groups;
 use crate::heads::{Heads, read_heads};
 use crate::key::{Key, Level};
 use crate::lines::{lines, standings};
 use crate::policy::Policy;
+use crate::tenant_set::TenantSet;
 use crate::tenants::tenants;
 use crate::values::{known, value_at};
+use indexmap::IndexMap;
 use std::alloc::Global;
 use toml::Table;
 
@@ -62,25 +66,76 @@ pub(crate) fn heads<'a>(alloc: Global, table: &'a Table) -> Result<Heads<'a>, Po
     read_heads(alloc, table)
 }
 
-#[tactic(auto, unfolding(crate::specs::Document::tables_of))]
 fn tables(alloc: Global, heads: &Heads<'_>) -> Result<Policy, PolicyFault>
     requires { AreHeads (heads_of heads.now) }
     ensures { Gives (λ policy. policy) result (tables_of (heads_of heads.now)) }
 {
+    let named = names(alloc, heads)?;
+    let standings = said(alloc, heads, &named)?;
+    Ok(policy_with(heads, named, standings))
+}
+
+fn policy_with(heads: &Heads<'_>, named: Named, standings: Vec<Standings>) -> Policy
+    requires { IsSoundPolicy (policy_with (heads_of heads.now) (all_named_of named)
+        (said_of (length named.tenants.entries) standings.items)) }
+    ensures { result ≡ policy_with (heads_of heads.now) (all_named_of named)
+        (said_of (length named.tenants.entries) standings.items) }
+{
+    Policy {
+        workers: heads.workers,
+        max_generation: heads.max_generation,
+        tenants: named.tenants,
+        arenas: named.arenas.named,
+        segments: named.arenas.segments,
+        standings,
+    }
+}
+
+/// Whom and what a document names: tenants with their limits, groups, and arenas with their
+/// segments. It is a type of its own so that it is let go in one place.
+#[derive(Drop)]
+pub(crate) struct Named {
+    tenants: IndexMap<String, u32>,
+    groups: IndexMap<String, TenantSet>,
+    arenas: ArenaTables,
+}
+
+#[tactic(auto, unfolding(crate::specs::Document::names_in))]
+fn names(alloc: Global, heads: &Heads<'_>) -> Result<Named, PolicyFault>
+    requires { AreHeads (heads_of heads.now) }
+    ensures { Gives all_named_of result (names_in (heads_of heads.now)) }
+{
     let tenants = tenants(alloc, heads.tenants.as_slice())?;
     let groups = groups(alloc, &tenants, heads.groups.as_slice())?;
     let arenas = arenas(alloc, &tenants, &groups, heads.arenas.as_slice())?;
-    let grants = lines(alloc, &tenants, &groups, heads.grants.as_slice())?;
-    let denies = lines(alloc, &tenants, &groups, heads.denies.as_slice())?;
-    let standings = standings(alloc, &tenants, grants.as_slice(), denies.as_slice())?;
-    Ok(Policy {
-        workers: heads.workers,
-        max_generation: heads.max_generation,
+    Ok(Named {
         tenants,
-        arenas: arenas.named,
-        segments: arenas.segments,
-        standings,
+        groups,
+        arenas,
     })
+}
+
+/// What the lines of a document say of those that it names.
+#[tactic(auto, unfolding(crate::specs::Document::said_in))]
+fn said(alloc: Global, heads: &Heads<'_>, named: &Named) -> Result<Vec<Standings>, PolicyFault>
+    requires { length named.now.tenants.entries ≤ 64 }
+    ensures { Gives (λ table. said_of (length named.now.tenants.entries) table.items) result
+        (said_in (all_named_of named.now) (heads_of heads.now)) }
+{
+    let grants = lines(
+        alloc,
+        &named.tenants,
+        &named.groups,
+        heads.grants.as_slice(),
+    )?;
+    let denies = lines(
+        alloc,
+        &named.tenants,
+        &named.groups,
+        heads.denies.as_slice(),
+    )?;
+    let standings = standings(alloc, &named.tenants, grants.as_slice(), denies.as_slice())?;
+    Ok(standings)
 }
 
 /// Which keys the document may have, by its version.
