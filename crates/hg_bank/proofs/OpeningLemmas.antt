@@ -17,6 +17,7 @@ use Rattle.hg_machine.proofs.Opening.{all_same}
 use Rattle.hg_machine.proofs.Times.{sum_by_none}
 use Rattle.hg_bank.specs.Kept.{AreSums}
 use Rattle.hg_bank.specs.Opening.{IsOpenCore, opened_bank, grown}
+use Rattle.hg_bank.specs.Parts.{AreParts, bank_from}
 use Rattle.hg_bank.specs.Sound.{IsCoreOf, IsSoundBank}
 use Rattle.hg_bank.specs.State.{BankState}
 use Rattle.hg_bank.proofs.ChargeLemmas.{home_share}
@@ -43,16 +44,28 @@ nothing_charged policy worker tenant =
 open_core : (policy : Policy) → IsOpenCore policy → IsCoreOf policy (opened policy)
 open_core policy is = record { policy = refl; sound = is.sound; lists = is.lists }
 
+-- a bank of parts is sound, as its first core is the current one everywhere
+pub made_sound : (policy : Policy) (room : ℕ) (cores : List Kept) → AreParts policy room cores
+    → IsSoundBank (bank_from policy room cores)
+made_sound policy room cores are = record {
+  some = are.some;
+  within = are.within;
+  most = are.most;
+  cores = are.each;
+  currents = λ worker arena.
+      let e = zero_rows policy.workers 256 worker arena in omega (arith, are.some);
+}
+
 pub opened_sound : (policy : Policy) (room : ℕ) → IsOpenCore policy → 1 ≤ room → room ≤ 16384
     → IsSoundBank (opened_bank policy room)
-opened_sound policy room is some most = record {
-  some = omega arith;
-  within = some;
-  most = most;
-  cores = All-cons (IsCoreOf policy) (opened policy) [] (open_core policy is)
-      (All-nil (IsCoreOf policy));
-  currents = λ worker arena. let e = zero_rows policy.workers 256 worker arena in omega arith;
-}
+opened_sound policy room is some most =
+    made_sound policy room (opened policy ∷ []) record {
+      some = omega arith;
+      within = some;
+      most = most;
+      each = All-cons (IsCoreOf policy) (opened policy) [] (open_core policy is)
+          (All-nil (IsCoreOf policy));
+    }
 
 pub opened_sums : (policy : Policy)
     → AreSums policy (replicate policy.workers (replicate 64 0)) (opened policy ∷ [])

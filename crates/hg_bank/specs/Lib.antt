@@ -1,5 +1,6 @@
 pub mod State
 pub mod Order
+pub mod Parts
 pub mod Requests
 pub mod Steps
 pub mod Sound

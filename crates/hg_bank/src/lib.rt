@@ -8,7 +8,9 @@ mod bank;
 pub mod laws;
 mod naming;
 mod opening;
+mod parts;
 mod refilling;
 mod sums;
 
 pub use bank::{Bank, BankHandle, BankSegment, MAX_CORES};
+pub use parts::BankParts;

@@ -1,3 +1,4 @@
+mod apart;
 mod asked;
 mod at_once;
 mod refused;

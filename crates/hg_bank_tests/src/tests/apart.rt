@@ -1,0 +1,81 @@
+//! Banks that are taken apart, and made again.
+
+use crate::tests::asked::{ALICE, BOB, MAIN, alloc, grow, opened, refill};
+use hg_bank::{Bank, BankHandle, BankParts};
+use hg_core::Refused;
+use hg_machine::Rule;
+use std::alloc::Global;
+use std::process::Abort;
+
+/// The number of the core that a new block of Bob's is of.
+fn next_core(rt: &impl Abort, bank: &mut Bank) -> Option<u16> {
+    let told = alloc(rt, bank, 0, BOB, MAIN, 8);
+    told.ok().map(|block| block.core)
+}
+
+/// A bank of two cores, of which the second is current and has a block of Alice's with a word, and
+/// one of Bob's; the first is empty. And her block.
+fn in_second(rt: &impl Abort, memory: Global) -> (Bank, BankHandle) {
+    let mut bank = opened(memory, 3).expect(rt, "a bank");
+    assert!(rt; refill(rt, &mut bank, 0, MAIN).is_ok());
+    assert_eq!(rt; grow(rt, &mut bank, memory), Some(1));
+    assert!(rt; refill(rt, &mut bank, 0, MAIN).is_ok());
+    let block = alloc(rt, &mut bank, 0, ALICE, MAIN, 8).expect(rt, "a block");
+    assert!(rt; 0 < bank.policy().workers());
+    assert!(rt; bank.write(0, ALICE, block, 0, 7).is_ok());
+    assert_eq!(rt; next_core(rt, &mut bank), Some(1));
+    (bank, block)
+}
+
+/// What is made of counts as it did, core by core.
+fn are_parts(rt: &impl Abort, parts: &BankParts) {
+    assert_eq!(rt; parts.room, 3);
+    assert_eq!(rt; parts.cores.len(), 2);
+    assert_eq!(rt; parts.cores[0].charge(0, 0), 0);
+    assert_eq!(rt; parts.cores[1].charge(0, 0), 8);
+    assert_eq!(rt; parts.cores[1].charge(0, 1), 8);
+}
+
+// A bank that is made again goes on where it was: words, charges, one limit over all cores, and room
+// for the next core; the first core is asked first.
+#[test]
+fn made_again(rt: HostRuntime) {
+    let (bank, block) = in_second(&rt, rt.alloc());
+    let parts = bank.into_parts();
+    are_parts(&rt, &parts);
+    let Ok(mut bank) = Bank::from_parts(rt.alloc(), parts) else {
+        panic!(&rt; "no memory");
+    };
+    assert_eq!(&rt; bank.charge(0, 0), Some(8));
+    assert!(&rt; 0 < bank.policy().workers());
+    assert_eq!(&rt; bank.read(0, ALICE, block, 0), Ok(7));
+    assert_eq!(&rt; next_core(&rt, &mut bank), Some(0));
+    assert_eq!(&rt; bank.charge(0, 1), Some(16));
+    // Bob may have 64 bytes: of the first core alone these would fit.
+    assert_eq!(&rt;
+        alloc(&rt, &mut bank, 0, BOB, MAIN, 56),
+        Err(Refused::Denied(Rule::OverLimit))
+    );
+    assert_eq!(&rt; grow(&rt, &mut bank, rt.alloc()), Some(2));
+    assert!(&rt; bank.is_full());
+    drop(bank);
+}
+
+// A bank is made again, or memory was refused and its parts are as they were: for a run in which
+// requests are refused in turn.
+#[test]
+fn made_again_refused_in_turn(rt: HostRuntime) {
+    let Ok(mut bank) = opened(rt.alloc(), 2) else {
+        return;
+    };
+    assert!(&rt; refill(&rt, &mut bank, 0, MAIN).is_ok());
+    assert!(&rt; alloc(&rt, &mut bank, 0, ALICE, MAIN, 8).is_ok());
+    match Bank::from_parts(rt.alloc(), bank.into_parts()) {
+        Ok(bank) => assert_eq!(&rt; bank.charge(0, 0), Some(8)),
+        Err(parts) => {
+            assert_eq!(&rt; parts.room, 2);
+            assert_eq!(&rt; parts.cores.len(), 1);
+            assert_eq!(&rt; parts.cores[0].charge(0, 0), 8);
+        }
+    }
+}
