@@ -1,5 +1,5 @@
 -- What the fields of a bank stand for, and what holds of them.
-use Rattle.std.specs.Prelude.{◌≡◌, ℕ, ◌<◌, ◌≤◌, List, [], length, slice_index_or, vec_capacity}
+use Rattle.std.specs.Prelude.{◌≡◌, ℕ, ◌<◌, List, [], length, slice_index_or, vec_capacity}
 use Rattle.hg_machine.specs.Lists.{Kept}
 use Rattle.hg_machine.specs.Policy.{Policy}
 use Rattle.hg_bank.specs.declared.bank.Bank.TheInside.{Inside}
@@ -24,6 +24,6 @@ pub record AreSums (policy : Policy) (rows : List (List ℕ)) (cores : List Kept
 -- the bank is sound, there is room for all cores in their list, and the sums are theirs
 pub record IsKept (a : Inside) : Type 0 where
   pub sound : IsSoundBank (bank_of a)
-  pub room : a.room ≤ vec_capacity a.cores
+  pub room : vec_capacity a.cores ≡ a.room
   pub rows : length a.currents.items ≡ a.policy.workers
   pub sums : AreSums a.policy a.sums.items a.cores.items

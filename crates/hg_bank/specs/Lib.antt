@@ -1,9 +1,9 @@
 pub mod State
 pub mod Order
-pub mod Parts
 pub mod Requests
 pub mod Steps
 pub mod Sound
+pub mod Parts
 pub mod Opening
 pub mod Kept
 pub mod Choosing

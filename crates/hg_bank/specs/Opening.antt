@@ -1,10 +1,10 @@
 -- What a bank opens with, and how it grows.
-use Rattle.std.specs.Prelude.{ℕ, [], ◌∷◌, ◌++◌, replicate, slice_index_or}
+use Rattle.std.specs.Prelude.{ℕ, [], ◌∷◌, ◌++◌, slice_index_or}
 use Rattle.hg_core.specs.Opening.{opened}
 use Rattle.hg_machine.specs.Lists.{Kept, IsPartition}
 use Rattle.hg_machine.specs.Policy.{Policy}
 use Rattle.hg_machine.specs.Soundness.{IsSound}
-use Rattle.hg_bank.specs.declared.bank.TheConstants.{ARENAS}
+use Rattle.hg_bank.specs.Parts.{bank_from}
 use Rattle.hg_bank.specs.State.{BankState}
 
 -- a core of the policy that opens is sound, with lists that are a partition
@@ -14,12 +14,7 @@ pub record IsOpenCore (p : Policy) : Type 0 where
 
 -- one core, which is the current one of each worker in each arena
 abbrev pub opened_bank : Policy → ℕ → BankState
-opened_bank policy room = record {
-  policy = policy;
-  room = room;
-  cores = opened policy ∷ [];
-  currents = replicate policy.workers (replicate ARENAS 0);
-}
+opened_bank policy room = bank_from policy room (opened policy ∷ [])
 
 -- one more core, the last
 abbrev pub grown : BankState → BankState

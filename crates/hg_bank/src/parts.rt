@@ -15,21 +15,26 @@ use hg_core::Core;
 use hg_policy::Policy;
 use std::alloc::{AllocError, Global};
 
-/// All that a bank is made of, as a host has it that took one apart or is to make one. A core of
-/// them may be taken apart and audited by itself (`Core::into_parts`, `Core::audit`).
+/// All that a bank is made of, as a host has it that took one apart or is to make one.
+///
+/// A core's place in the list is its number in each handle that was given out. So who makes a bank
+/// again keeps the order, and puts no other core where one was: there an old handle may name
+/// another's block. What was done to a core meanwhile counts as the bank finds it, also above a
+/// limit.
 #[derive(Drop)]
 pub struct BankParts {
     /// By which each core serves.
     pub policy: Policy,
     /// How many cores there may be, 1 to 16,384.
     pub room: u16,
-    /// By number, one or more.
+    /// By number, one or more, in a list that has room for all that there may be and no more, as
+    /// `Vec::with_capacity` makes it.
     pub cores: Vec<Core>,
 }
 
 /// What a bank keeps beside its parts.
 #[derive(Drop)]
-struct Tables {
+struct Rows {
     currents: Vec<[u16; ARENAS]>,
     sums: Vec<[u64; TENANTS]>,
 }
@@ -41,6 +46,7 @@ impl Bank {
         ensures policy { result.policy ≡ self.policy }
         ensures room { result.room ≡ self.room }
         ensures cores { result.cores.items ≡ self.cores }
+        ensures list { vec_capacity result.cores ≡ result.room }
         ensures parts { AreParts result.policy result.room result.cores.items }
     {
         let Bank {
@@ -59,31 +65,29 @@ impl Bank {
 
     /// A bank of these parts: its cores as they are, and the first is current for each worker in
     /// each arena. What counts over all of them is added up. Its one error is want of memory, and
-    /// hands the parts back.
+    /// hands the parts back: whoever drops them drops all blocks.
     pub fn from_parts(alloc: Global, parts: BankParts) -> Result<Bank, BankParts>
-        requires { AreParts parts.policy parts.room parts.cores.items }
+        requires list { vec_capacity parts.cores ≡ parts.room }
+        requires parts { AreParts parts.policy parts.room parts.cores.items }
         ensures bank { IfOk result
             (λ bank. bank ≡ bank_from parts.policy parts.room parts.cores.items) }
         ensures kept { IfOk result IsSoundBank }
-        ensures policy { IfErr result (λ back. back.policy ≡ parts.policy) }
-        ensures room { IfErr result (λ back. back.room ≡ parts.room) }
-        ensures cores { IfErr result (λ back. back.cores.items ≡ parts.cores.items) }
+        ensures unchanged { IfErr result (λ back. back ≡ parts) }
     {
-        let mut parts = parts;
-        let Ok(tables) = add_up(alloc, &mut parts) else {
-            return Err(parts);
-        };
-        Ok(put_together(parts, tables))
+        match rows_of(alloc, &parts) {
+            Ok(rows) => Ok(put_together(parts, rows)),
+            Err(_) => Err(parts),
+        }
     }
 }
 
-/// The bank of parts with these tables.
-fn put_together(parts: BankParts, tables: Tables) -> Bank
+/// The bank of parts with these rows.
+fn put_together(parts: BankParts, rows: Rows) -> Bank
+    requires list { vec_capacity parts.cores ≡ parts.room }
     requires parts { AreParts parts.policy parts.room parts.cores.items }
-    requires room { parts.room ≤ vec_capacity parts.cores }
-    requires currents { tables.currents.items
+    requires currents { rows.currents.items
         ≡ replicate parts.policy.workers (replicate ARENAS 0) }
-    requires sums { AreSums parts.policy tables.sums.items parts.cores.items }
+    requires sums { AreSums parts.policy rows.sums.items parts.cores.items }
     ensures bank { result ≡ bank_from parts.policy parts.room parts.cores.items }
     ensures kept { IsSoundBank result }
 {
@@ -91,28 +95,22 @@ fn put_together(parts: BankParts, tables: Tables) -> Bank
         policy: parts.policy,
         room: parts.room,
         cores: parts.cores,
-        currents: tables.currents,
-        sums: tables.sums,
+        currents: rows.currents,
+        sums: rows.sums,
     }
 }
 
-/// The tables of these parts, and room in the list for all cores that there may be.
-fn add_up(alloc: Global, parts: &mut BankParts) -> Result<Tables, AllocError>
-    requires { AreParts parts.old.policy parts.old.room parts.old.cores.items }
-    ensures policy { parts.new.policy ≡ parts.old.policy }
-    ensures number { parts.new.room ≡ parts.old.room }
-    ensures cores { parts.new.cores.items ≡ parts.old.cores.items }
-    ensures room { IfOk result (λ _. parts.new.room ≤ vec_capacity parts.new.cores) }
-    ensures currents { IfOk result (λ tables. tables.currents.items
-        ≡ replicate parts.new.policy.workers (replicate ARENAS 0)) }
-    ensures sums { IfOk result (λ tables.
-        AreSums parts.new.policy tables.sums.items parts.new.cores.items) }
+/// The rows of a bank of these parts.
+fn rows_of(alloc: Global, parts: &BankParts) -> Result<Rows, AllocError>
+    requires { AreParts parts.now.policy parts.now.room parts.now.cores.items }
+    ensures currents { IfOk result (λ rows. rows.currents.items
+        ≡ replicate parts.now.policy.workers (replicate ARENAS 0)) }
+    ensures sums { IfOk result (λ rows.
+        AreSums parts.now.policy rows.sums.items parts.now.cores.items) }
 {
     let currents = no_currents(alloc, parts.policy.workers())?;
     let sums = summed(alloc, &parts.policy, parts.cores.as_slice())?;
-    let more = usize::from(parts.room) - parts.cores.len();
-    parts.cores.reserve_exact(more)?;
-    Ok(Tables { currents, sums })
+    Ok(Rows { currents, sums })
 }
 
 /// By worker and tenant what counts over all cores.

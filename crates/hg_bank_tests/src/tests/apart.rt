@@ -1,8 +1,11 @@
 //! Banks that are taken apart, and made again.
 
+ghost use Rattle.std.specs.Prelude.{◌≡◌, vec_capacity};
+ghost use Rattle.hg_bank.specs.Parts.{AreParts};
+
 use crate::tests::asked::{ALICE, BOB, MAIN, alloc, grow, opened, refill};
 use hg_bank::{Bank, BankHandle, BankParts};
-use hg_core::Refused;
+use hg_core::{Core, Refused};
 use hg_machine::Rule;
 use std::alloc::Global;
 use std::process::Abort;
@@ -27,7 +30,7 @@ fn in_second(rt: &impl Abort, memory: Global) -> (Bank, BankHandle) {
     (bank, block)
 }
 
-/// What is made of counts as it did, core by core.
+/// The cores count what they did in the bank.
 fn are_parts(rt: &impl Abort, parts: &BankParts) {
     assert_eq!(rt; parts.room, 3);
     assert_eq!(rt; parts.cores.len(), 2);
@@ -58,6 +61,47 @@ fn made_again(rt: HostRuntime) {
     );
     assert_eq!(&rt; grow(&rt, &mut bank, rt.alloc()), Some(2));
     assert!(&rt; bank.is_full());
+    drop(bank);
+}
+
+/// The same core, which an audit found nothing in.
+fn audited(rt: &impl Abort, memory: Global, core: Core) -> Core
+    ensures { result ≡ core }
+{
+    match Core::audit(memory, core.into_parts()) {
+        Ok(core) => core,
+        Err((_, fault)) => panic!(rt; "{fault:?}"),
+    }
+}
+
+/// The bank of these parts, when each of two cores was taken apart and audited.
+fn audited_again(rt: &impl Abort, memory: Global, parts: BankParts) -> Result<Bank, BankParts>
+    requires list { vec_capacity parts.cores ≡ parts.room }
+    requires parts { AreParts parts.policy parts.room parts.cores.items }
+{
+    let mut parts = parts;
+    let Some(second) = parts.cores.pop() else {
+        return Err(parts);
+    };
+    let Some(first) = parts.cores.pop() else {
+        return Err(parts);
+    };
+    parts.cores.push_reserved(audited(rt, memory, first));
+    parts.cores.push_reserved(audited(rt, memory, second));
+    Bank::from_parts(memory, parts)
+}
+
+// Each core of a bank is audited by itself, and the bank goes on.
+#[test]
+fn audited_core_by_core(rt: HostRuntime) {
+    let (bank, block) = in_second(&rt, rt.alloc());
+    let Ok(mut bank) = audited_again(&rt, rt.alloc(), bank.into_parts()) else {
+        panic!(&rt; "no memory");
+    };
+    assert_eq!(&rt; bank.cores(), 2);
+    assert_eq!(&rt; bank.charge(0, 1), Some(8));
+    assert!(&rt; 0 < bank.policy().workers());
+    assert_eq!(&rt; bank.read(0, ALICE, block, 0), Ok(7));
     drop(bank);
 }
 

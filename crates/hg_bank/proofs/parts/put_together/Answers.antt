@@ -10,7 +10,7 @@ invariant_of-result c =
     record {
       sound = subst (λ rows. IsSoundBank (bank_with p.policy p.room p.cores.items rows))
           (sym c.requires.currents) (made_sound p.policy p.room p.cores.items c.requires.parts);
-      room = c.requires.room;
+      room = c.requires.list;
       rows = ap length c.requires.currents
           ∙ length-replicate p.policy.workers (replicate 256 0);
       sums = c.requires.sums;

@@ -85,7 +85,7 @@ invariant_of-self-2 c =
     record {
       sound = placed_sound read c.from-2.ensures c.index_mut-currents.ensures.value
           c.from-5.ensures served;
-      room = omega (arith, c.in-Some.ensures.room, c.self.invariant.room);
+      room = c.in-Some.ensures.room ∙ c.self.invariant.room;
       rows = length-set c.self.inside.currents.items c.from-2.result
           (set c.index_mut-currents.result.now c.from-5.result c.in-Some.block.core)
           ∙ c.self.invariant.rows;

@@ -1,4 +1,4 @@
-use Rattle.std.proofs.Common.{◌<◌, [], ◌∷◌, ◌++◌, length, ◌≡◌, sym, ap, subst, ◌∙◌, arith}
+use Rattle.std.proofs.Common.{◌<◌, [], ◌∷◌, ◌++◌, length, ◌≡◌, sym, ap, subst, ◌∙◌}
 use Rattle.hg_core.specs.Opening.{opened}
 use Rattle.hg_machine.specs.Lists.{IsPartition}
 use Rattle.hg_machine.specs.Soundness.{IsSound}
@@ -22,7 +22,7 @@ invariant_of-self c =
     record {
       sound = subst (λ cores. IsSoundBank (bank_with a.policy a.room cores a.currents.items))
           (sym items) (grown_sound (bank_of a) c.self.invariant.sound is less);
-      room = omega (arith, c.push_reserved.ensures.capacity, c.self.invariant.room);
+      room = c.push_reserved.ensures.capacity ∙ c.self.invariant.room;
       rows = c.self.invariant.rows;
       sums = subst (AreSums a.policy a.sums.items) (sym items)
           (grown_sums a.policy a.sums.items a.cores.items c.self.invariant.sums);

@@ -1,4 +1,3 @@
-use Rattle.std.proofs.Common.{arith}
 use Rattle.hg_bank.proofs.OpeningLemmas.{as_opened, opened_fields}
 use Rattle.hg_bank.proofs.bank.Bank.open.Goals as goal
 
@@ -8,7 +7,7 @@ invariant_of-result c =
     c.in_ok-cores.cores.items c.in_ok-currents.currents.items c.in_ok-sums.sums.items
     c.in_ok-cores.ensures.kept c.requires.some c.requires.most c.workers-workers.ensures.workers
     c.in_ok-cores.ensures.one c.in_ok-currents.ensures c.in_ok-sums.ensures in
-    record { sound = f.0; room = omega (arith, c.in_ok-cores.ensures.room); rows = f.1; sums = f.2 }
+    record { sound = f.0; room = c.in_ok-cores.ensures.room; rows = f.1; sums = f.2 }
 
 pub returns-clause-opened : goal.returns-clause-opened
 returns-clause-opened c =
