@@ -24,9 +24,9 @@ pub use Rattle.hg_core.specs.Held
 pub use Rattle.hg_core.specs.Opening
 pub mod Answers
 pub use Rattle.hg_policy.specs.Names
-pub use Rattle.hg_policy.specs.Faults
-pub use Rattle.hg_policy.specs.Document
-pub use Rattle.hg_policy.specs.FaultLines
+pub use Rattle.hg_policy_text.specs.Faults
+pub use Rattle.hg_policy_text.specs.Document
+pub use Rattle.hg_policy_text.specs.FaultLines
 pub use Rattle.hg_place.specs.Places
 pub use Rattle.hg_place.specs.Texts
 pub use Rattle.hg_place.specs.HandleWords

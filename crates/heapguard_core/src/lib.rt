@@ -19,4 +19,5 @@
 pub use hg_core::{Core, Freed, HowFar, NoSegment, NotFreed, NotHeld, NothingInHand, Refused};
 pub use hg_machine::{Answer, Event, Row, Rule, laws};
 pub use hg_place::{Actor, Handle, NotAHandle, Place, Right};
-pub use hg_policy::{Counted, Key, Policy, PolicyFault, read_policy};
+pub use hg_policy::Policy;
+pub use hg_policy_text::{Counted, Key, PolicyFault, read_policy};

@@ -5,7 +5,7 @@ use Rattle.hg_bank.specs.declared.bank.TheConstants.{MAX_CORES}
 use Rattle.hg_bank.specs.Opening.{opened_bank}
 use Rattle.hg_bank.specs.Sound.{IsSoundBank}
 use Rattle.hg_bank.specs.State.{BankState}
-use Rattle.hg_policy.specs.Document.{document_of}
+use Rattle.hg_policy_text.specs.Document.{document_of}
 use Rattle.hg_reply.specs.declared.reply.Reply.{Reply}
 use Rattle.hg_reply.specs.Replies.{valued, held, no_count}
 use Rattle.hg_c.specs.declared.host_bank.HostBank.{HostBank}

@@ -4,11 +4,11 @@ use Rattle.hg_machine.specs.Lists.{Kept, IsPartition}
 use Rattle.hg_machine.specs.Policy.{Policy}
 use Rattle.hg_machine.specs.Soundness.{IsSound}
 use Rattle.hg_core.specs.Opening.{opened}
-use Rattle.hg_policy.specs.declared.fault.PolicyFault.{PolicyFault}
-use Rattle.hg_policy.specs.declared.fault.PolicyFault.TheVariants as fault
-use Rattle.hg_policy.specs.Document.{document_of}
-use Rattle.hg_policy.specs.Faults.{FailsAs, fault_of}
-use Rattle.hg_policy.specs.FaultLines.{fault_line}
+use Rattle.hg_policy_text.specs.declared.fault.PolicyFault.{PolicyFault}
+use Rattle.hg_policy_text.specs.declared.fault.PolicyFault.TheVariants as fault
+use Rattle.hg_policy_text.specs.Document.{document_of}
+use Rattle.hg_policy_text.specs.Faults.{FailsAs, fault_of}
+use Rattle.hg_policy_text.specs.FaultLines.{fault_line}
 use Rattle.hg_reply.specs.declared.reply.Reply.{Reply}
 use Rattle.hg_c.specs.declared.host_core.HostCore.{HostCore}
 use Rattle.hg_c.specs.Calls.{IsSame}

@@ -1,14 +1,14 @@
 //! A bank of a policy's text.
 
 ghost use Rattle.std.specs.Prelude.{◌≡◌, ◌≤◌, MatchResult};
-ghost use Rattle.hg_policy.specs.Document.{document_of};
-ghost use Rattle.hg_policy.specs.Faults.{FailsAs, fault_of};
+ghost use Rattle.hg_policy_text.specs.Document.{document_of};
+ghost use Rattle.hg_policy_text.specs.Faults.{FailsAs, fault_of};
 ghost use Rattle.hg_c.specs.BankOpening.{IsOpening, Opens};
 
 use crate::host_bank::HostBank;
 use crate::opening::{status_of, tell_fault};
 use hg_bank::{Bank, MAX_CORES};
-use hg_policy::{PolicyFault, read_policy};
+use hg_policy_text::{PolicyFault, read_policy};
 use hg_reply::Reply;
 use hg_reply::status::{DONE, HELD, NO_COUNT};
 use std::alloc::Global;

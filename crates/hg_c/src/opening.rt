@@ -1,15 +1,15 @@
 //! A core of a policy's text.
 
 ghost use Rattle.std.specs.Prelude.{◌≡◌, ◌≢◌, MatchResult};
-ghost use Rattle.hg_policy.specs.Document.{document_of};
-ghost use Rattle.hg_policy.specs.Faults.{FailsAs, fault_of};
-ghost use Rattle.hg_policy.specs.FaultLines.{fault_line};
+ghost use Rattle.hg_policy_text.specs.Document.{document_of};
+ghost use Rattle.hg_policy_text.specs.Faults.{FailsAs, fault_of};
+ghost use Rattle.hg_policy_text.specs.FaultLines.{fault_line};
 ghost use Rattle.hg_c.specs.Opening.{IsOpening, Opens, fault_status};
 ghost use Rattle.hg_reply.specs.Telling.{IsToldOrNot};
 
 use crate::host_core::HostCore;
 use hg_core::Core;
-use hg_policy::{PolicyFault, read_policy};
+use hg_policy_text::{PolicyFault, read_policy};
 use hg_reply::status::{DONE, HELD};
 use hg_reply::{Reply, tell};
 use std::alloc::Global;

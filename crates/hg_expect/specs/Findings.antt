@@ -2,7 +2,7 @@
 use Rattle.std.specs.Prelude.{◌≡◌, ℕ, ◌+◌, ◌==◌, Bool, List, [], ◌++◌, Option, Some, None, map, drop}
 use Rattle.std.specs.Prelude.{take, codes, decimal, bytes_eq, if◌then◌else◌}
 use Rattle.memchr.specs.Find.{FindsNeedle}
-use Rattle.hg_policy.specs.OneLine.{one_line}
+use Rattle.hg_policy_text.specs.OneLine.{one_line}
 use Rattle.hg_expect.specs.Words.{words, last_line, shown, is_slip}
 
 -- the lines of a trace that were answered otherwise than they state, as a diff; how many state an

@@ -3,14 +3,14 @@
 ghost use Rattle.std.specs.Prelude.{◌≡◌, ◌≤◌, ◌<◌, ◌+◌, ◌^◌, ◌++◌, OnOk, IfOk, decimal, length, Some};
 ghost use Rattle.std.specs.Prelude.{string_bytes};
 ghost use Rattle.memchr.specs.Find.{FindsNeedle};
-ghost use Rattle.hg_policy.specs.OneLine.{one_line};
+ghost use Rattle.hg_policy_text.specs.OneLine.{one_line};
 ghost use Rattle.hg_expect.specs.Words.{last_line, words};
 ghost use Rattle.hg_expect.specs.Findings.{counts_text, found_after, Finds, hunk, names_text};
 ghost use Rattle.hg_expect.specs.Findings.{found_unmarked, nothing, place_text, slip_warning};
 ghost use Rattle.hg_expect.specs.Findings.{trace_text, unstated_warning, warnings};
 
 use crate::words::{is_slip, last_line, push_shown, words};
-use hg_policy::OneLine;
+use hg_policy_text::OneLine;
 use memchr::memmem;
 use std::alloc::{AllocError, Global};
 use std::marker::Model;

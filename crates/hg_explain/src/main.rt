@@ -7,7 +7,8 @@
 use anyhow::bail;
 use hg_calls::{Call, CallText, Names, read_log};
 use hg_order::{Found, explain};
-use hg_policy::{Policy, read_policy};
+use hg_policy::Policy;
+use hg_policy_text::read_policy;
 use hg_trace::split_joined;
 use std::alloc::Global;
 use std::io;

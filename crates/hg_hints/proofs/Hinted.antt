@@ -8,10 +8,10 @@ use Rattle.std.specs.Str.{is_utf8, IsUtf8}
 use Rattle.toml.specs.Data.{Members}
 use Rattle.toml.specs.Parse.{parse_document}
 use Rattle.hg_machine.specs.Policy.{Policy}
-use Rattle.hg_policy.specs.Document.{document_of, policy_at, tree_of}
-use Rattle.hg_policy.specs.Faults.{Fault, FailsAs}
-use Rattle.hg_policy.specs.FaultyRow.{faulty_row, row_at}
-use Rattle.hg_policy.specs.declared.row.Row.{Row}
+use Rattle.hg_policy_text.specs.Document.{document_of, policy_at, tree_of}
+use Rattle.hg_policy_text.specs.Faults.{Fault, FailsAs}
+use Rattle.hg_policy_text.specs.FaultyRow.{faulty_row, row_at}
+use Rattle.hg_policy_text.specs.declared.row.Row.{Row}
 use Rattle.hg_policy_laws.proofs.FaultyRows.{faulty_rows_are_rows}
 use Rattle.hg_hints.specs.Hints.{IsHint, IsHintOf, IsRefused, hint_line, place_text, told_of}
 use Rattle.hg_hints.specs.Reasons.{reason}

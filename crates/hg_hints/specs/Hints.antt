@@ -3,11 +3,11 @@ use Rattle.std.specs.Prelude.{◌≡◌, ◌≤◌, ◌+◌, ◌++◌, ℕ, List
 use Rattle.std.specs.Prelude.{length, take}
 use Rattle.toml.specs.Data.{Members}
 use Rattle.hg_machine.specs.Policy.{Policy}
-use Rattle.hg_policy.specs.Document.{policy_at, tree_of}
-use Rattle.hg_policy.specs.Faults.{Read}
-use Rattle.hg_policy.specs.FaultyRow.{row_at}
-use Rattle.hg_policy.specs.Keys.{key_text}
-use Rattle.hg_policy.specs.declared.row.Row.{Row}
+use Rattle.hg_policy_text.specs.Document.{policy_at, tree_of}
+use Rattle.hg_policy_text.specs.Faults.{Read}
+use Rattle.hg_policy_text.specs.FaultyRow.{row_at}
+use Rattle.hg_policy_text.specs.Keys.{key_text}
+use Rattle.hg_policy_text.specs.declared.row.Row.{Row}
 use Rattle.hg_hints.specs.Reasons.{reason}
 use Rattle.hg_hints.specs.Spots.{spot_behind}
 use Rattle.hg_hints.specs.declared.spot.Spot.{Spot}

@@ -1,10 +1,10 @@
 -- What is wanted at each key of a document.
 use Rattle.std.specs.Prelude.{ℕ, Bool, true, false, List, [], ◌∷◌, ◌||◌, codes}
 use Rattle.std.specs.Str.{bytes_eq}
-use Rattle.hg_policy.specs.declared.key.Key.{Key}
-use Rattle.hg_policy.specs.declared.key.Key.TheVariants as key
-use Rattle.hg_policy.specs.declared.key.Counted.{Counted}
-use Rattle.hg_policy.specs.declared.key.Counted.TheVariants as counted
+use Rattle.hg_policy_text.specs.declared.key.Key.{Key}
+use Rattle.hg_policy_text.specs.declared.key.Key.TheVariants as key
+use Rattle.hg_policy_text.specs.declared.key.Counted.{Counted}
+use Rattle.hg_policy_text.specs.declared.key.Counted.TheVariants as counted
 
 abbrev pub wanted : Key → List ℕ
 wanted key.Version = codes "the whole number 1, or 2 for groups and denies"

@@ -2,15 +2,15 @@
 use Rattle.std.specs.Prelude.{ℕ, ◌++◌, Bool, true, false, List, [], Option, Some, None, codes}
 use Rattle.std.specs.Prelude.{if◌then◌else◌, unwrap_or}
 use Rattle.toml.specs.Data.{Members}
-use Rattle.hg_policy.specs.declared.key.Key.{Key}
-use Rattle.hg_policy.specs.declared.key.Key.TheVariants as key
-use Rattle.hg_policy.specs.declared.key.Level.TheVariants as level
-use Rattle.hg_policy.specs.Faults.{Fault}
-use Rattle.hg_policy.specs.Faults as fault
-use Rattle.hg_policy.specs.Keys.{key_text}
-use Rattle.hg_policy.specs.NameForm.{is_among}
-use Rattle.hg_policy.specs.OneLine.{one_line}
-use Rattle.hg_policy.specs.Values.{knows}
+use Rattle.hg_policy_text.specs.declared.key.Key.{Key}
+use Rattle.hg_policy_text.specs.declared.key.Key.TheVariants as key
+use Rattle.hg_policy_text.specs.declared.key.Level.TheVariants as level
+use Rattle.hg_policy_text.specs.Faults.{Fault}
+use Rattle.hg_policy_text.specs.Faults as fault
+use Rattle.hg_policy_text.specs.Keys.{key_text}
+use Rattle.hg_policy.specs.Names.{is_among}
+use Rattle.hg_policy_text.specs.OneLine.{one_line}
+use Rattle.hg_policy_text.specs.Values.{knows}
 use Rattle.hg_show.specs.Rows.{names_in, rows_at}
 use Rattle.hg_hints.specs.Keys.{bound, is_of_document, is_of_table, is_second, keys, wanted}
 use Rattle.hg_hints.specs.Near.{near}

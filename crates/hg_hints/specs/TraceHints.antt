@@ -2,8 +2,8 @@
 use Rattle.std.specs.Prelude.{◌≡◌, ◌-◌, ◌++◌, ℕ, List, [], Option, Some, None, Result, Ok, Err, codes}
 use Rattle.std.specs.Prelude.{decimal, is_some, if◌then◌else◌}
 use Rattle.hg_machine.specs.Policy.{Policy}
-use Rattle.hg_policy.specs.Document.{document_of}
-use Rattle.hg_policy.specs.Faults.{Read}
+use Rattle.hg_policy_text.specs.Document.{document_of}
+use Rattle.hg_policy_text.specs.Faults.{Read}
 use Rattle.hg_trace.specs.FaultyWord.{Tells, line_of}
 use Rattle.hg_trace.specs.Trace.{trace_of}
 use Rattle.hg_trace.specs.Workers.{first_from}

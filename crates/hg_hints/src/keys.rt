@@ -1,11 +1,11 @@
 //! What is wanted at each key of a document.
 
 ghost use Rattle.std.specs.Prelude.{◌≡◌, map};
-ghost use Rattle.hg_policy.specs.declared.key.Level.TheVariants as level;
-ghost use Rattle.hg_policy.specs.Values.{knows};
+ghost use Rattle.hg_policy_text.specs.declared.key.Level.TheVariants as level;
+ghost use Rattle.hg_policy_text.specs.Values.{knows};
 ghost use Rattle.hg_hints.specs.Keys.{bound, is_of_document, is_of_table, is_second, keys, wanted};
 
-use hg_policy::{Counted, Key};
+use hg_policy_text::{Counted, Key};
 
 /// What is wanted at a key.
 pub(crate) fn wanted(key: Key) -> &'static str

@@ -3,14 +3,14 @@
 ghost use Rattle.std.specs.Prelude.{◌≡◌, ◌<◌, ◌++◌, IfOk, IfSome, OnOk, is_some, true};
 ghost use Rattle.toml.specs.Errors.{IsMemory, IsWithin};
 ghost use Rattle.toml.specs.View.{table_view};
-ghost use Rattle.hg_policy.specs.Faults.{fault_of};
+ghost use Rattle.hg_policy_text.specs.Faults.{fault_of};
 ghost use Rattle.hg_hints.specs.Hints.{hint_line, place_text, row_text, IsHint, IsRefused};
 ghost use Rattle.hg_hints.specs.Reasons.{reason};
 
 use crate::push::push;
 use crate::reason::push_reason;
 use crate::spot::Spot;
-use hg_policy::{PolicyFault, Row, faulty_row, read_policy};
+use hg_policy_text::{PolicyFault, Row, faulty_row, read_policy};
 use std::alloc::{AllocError, Global};
 use toml::Table;
 use toml::de::Error;

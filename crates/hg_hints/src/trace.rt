@@ -1,13 +1,14 @@
 //! What is told behind the line of a trace's fault.
 
 ghost use Rattle.std.specs.Prelude.{◌≡◌, ◌≤◌, IfOk, Ok};
-ghost use Rattle.hg_policy.specs.Document.{document_of};
+ghost use Rattle.hg_policy_text.specs.Document.{document_of};
 ghost use Rattle.hg_trace.specs.Stored.{lines_in};
 ghost use Rattle.hg_hints.specs.TraceHints.{word_hint, worker_hint, workers_text, IsTraceHint};
 
 use crate::push::{push, push_count};
 use crate::word::word_text;
-use hg_policy::{Policy, PolicyFault, read_policy};
+use hg_policy::Policy;
+use hg_policy_text::{PolicyFault, read_policy};
 use hg_trace::{FaultyWord, Trace, TraceFault, faulty_word, read_trace};
 use std::alloc::{AllocError, Global};
 

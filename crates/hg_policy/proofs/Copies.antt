@@ -12,12 +12,12 @@ use Rattle.hg_machine.specs.Policy.{Tenant}
 use Rattle.hg_machine.specs.SoundPolicy.{IsSoundPolicy}
 use Rattle.hg_policy.specs.declared.tenant_set.TenantSet.{TenantSet}
 use Rattle.hg_policy.specs.TenantSets.{flags_of}
-use Rattle.hg_policy.specs.NameForm.{is_among}
+use Rattle.hg_policy.specs.Names.{is_among}
 use Rattle.hg_policy.specs.Kept.{Named, tenants_of, names_of, admitted_of, policy_of}
 use Rattle.hg_policy.specs.declared.policy.Policy.TheInside.{Inside}
 use Rattle.hg_policy.specs.Copied.{by_text}
 use Rattle.hg_policy.proofs.Names.{among-names, none_from}
-use Rattle.hg_policy.proofs.SaidWords.{text_turned}
+use Rattle.hg_policy.proofs.Texts.{text_turned}
 
 or_none : (a b : Bool) → (a || b) ≡ false → (a ≡ false) × (b ≡ false)
 or_none true b e = absurd (true≢false e)

@@ -8,8 +8,8 @@ use Rattle.std.proofs.lemmas.List.{length-map}
 use Rattle.std.proofs.lemmas.Map.Made.{is_some-lookup}
 use Rattle.hg_machine.specs.Policy.{Tenant}
 use Rattle.hg_policy.specs.Kept.{Named, names_of, tenants_of}
-use Rattle.hg_policy.specs.NameForm.{is_among}
-use Rattle.hg_policy.specs.Tenants.{tenant_names}
+use Rattle.hg_policy.specs.Names.{is_among}
+use Rattle.hg_policy.specs.Names.{tenant_names}
 
 prefix_len-map : {X Y : Type 0} (p : Y → Bool) (f : X → Y) (xs : List X) → prefix_len p (map f xs) ≡ prefix_len (λ x. p (f x)) xs
 prefix_len-map p f [] = refl

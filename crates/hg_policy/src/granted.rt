@@ -18,21 +18,22 @@ pub enum Refusal {
 }
 
 /// Rights on the blocks of one owner, by actor.
-pub(crate) type Held = [Rights; 64];
+pub type Held = [Rights; 64];
 
 /// How one actor stands to the blocks of one owner.
 #[derive(Clone, Copy)]
-pub(crate) struct Standing {
+pub struct Standing {
     /// What it is granted, whatever is forbidden.
-    pub(crate) granted: Rights,
-    pub(crate) forbidden: Rights,
+    pub granted: Rights,
+    pub forbidden: Rights,
     /// What is granted and not forbidden, so that a verdict that allows tests one set.
     allowed: Rights,
     ghost allowed_is: { IsWithout granted forbidden allowed },
 }
 
 impl Standing {
-    pub(crate) fn new(granted: Rights, forbidden: Rights) -> Standing
+    /// How an actor stands that is granted the one and forbidden the other.
+    pub fn new(granted: Rights, forbidden: Rights) -> Standing
         ensures granted { result.granted ≡ granted }
         ensures forbidden { result.forbidden ≡ forbidden }
     {
@@ -60,4 +61,4 @@ impl Standing {
 }
 
 /// How actors stand to the blocks of one owner, by actor.
-pub(crate) type Standings = [Standing; 64];
+pub type Standings = [Standing; 64];

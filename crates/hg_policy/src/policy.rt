@@ -9,6 +9,7 @@ ghost use Rattle.hg_policy.specs.Rights.{rights_of};
 ghost use Rattle.hg_policy.specs.declared.granted.Standing.{Standing};
 ghost use Rattle.hg_policy.specs.Refusals.{refusal_of};
 ghost use Rattle.hg_machine.specs.SoundPolicy.{IsSoundPolicy};
+ghost use Rattle.hg_policy.specs.Kept.{policy_kept};
 ghost use Rattle.hg_policy.specs.Names.{tenant_number, tenant_name};
 ghost use Rattle.hg_policy.specs.Names.{arena_number, arena_name};
 
@@ -28,16 +29,16 @@ use std::marker::Model;
 /// own, and beside it what is forbidden and what is allowed, so that one look-up finds all three.
 #[derive(Drop)]
 pub struct Policy {
-    pub(crate) workers: u8,
-    pub(crate) max_generation: u32,
+    workers: u8,
+    max_generation: u32,
     /// Names and limits, in bytes.
-    pub(crate) tenants: IndexMap<String, u32>,
+    tenants: IndexMap<String, u32>,
     /// Names, and which tenants are admitted.
-    pub(crate) arenas: IndexMap<String, TenantSet>,
+    arenas: IndexMap<String, TenantSet>,
     /// The arena of each segment.
-    pub(crate) segments: Vec<u8>,
+    segments: Vec<u8>,
     /// By owner what each actor is granted, forbidden and allowed.
-    pub(crate) standings: Vec<Standings>,
+    standings: Vec<Standings>,
 }
 
 impl Model for Policy {
@@ -54,6 +55,32 @@ impl Model for Policy {
 }
 
 impl Policy {
+    /// The policy of these tables, where it is sound: how many workers there are, the greatest
+    /// generation of a block, tenants with their limits in bytes, arenas with whom they admit, the
+    /// arena of each segment, and by owner how each actor stands to its blocks.
+    pub fn of_tables(
+        workers: u8,
+        max_generation: u32,
+        tenants: IndexMap<String, u32>,
+        arenas: IndexMap<String, TenantSet>,
+        segments: Vec<u8>,
+        standings: Vec<Standings>,
+    ) -> Policy
+        requires { IsSoundPolicy (policy_kept workers max_generation tenants.entries
+            arenas.entries segments.items standings.items) }
+        ensures { result ≡ policy_kept workers max_generation tenants.entries
+            arenas.entries segments.items standings.items }
+    {
+        Policy {
+            workers,
+            max_generation,
+            tenants,
+            arenas,
+            segments,
+            standings,
+        }
+    }
+
     /// A second policy that is the same, with room of its own. Its one error is want of memory.
     pub fn copy(&self, alloc: Global) -> Result<Policy, AllocError>
         ensures { IfOk result (λ policy. policy ≡ self.now) }

@@ -11,7 +11,7 @@ use hg_place::Right;
 
 /// A set of rights, one bit for each.
 #[derive(Clone, Copy, Debug, PartialEq, Eq)]
-pub(crate) struct Rights(u8);
+pub struct Rights(u8);
 
 bitflag_items! {
     impl Rights: u8 {
@@ -58,28 +58,28 @@ impl Rights {
     }
 
     /// No right.
-    pub(crate) fn none() -> Rights
+    pub fn none() -> Rights
         ensures { rights_of result ≡ no_rights }
     {
         Rights::empty()
     }
 
     /// Each right.
-    pub(crate) fn each() -> Rights
+    pub fn each() -> Rights
         ensures { rights_of result ≡ all_rights }
     {
         Rights::all()
     }
 
     /// The set with one right more.
-    pub(crate) fn with(self, right: Right) -> Rights
+    pub fn with(self, right: Right) -> Rights
         ensures { rights_of result ≡ and_right (rights_of self) right }
     {
         self.union(Rights::only(right))
     }
 
     /// The rights of both sets.
-    pub(crate) fn and(self, more: Rights) -> Rights
+    pub fn and(self, more: Rights) -> Rights
         ensures { (right : Right) → has_right (rights_of result) right
             ≡ (has_right (rights_of self) right || has_right (rights_of more) right) }
     {
@@ -94,7 +94,7 @@ impl Rights {
     }
 
     /// Whether the set has a right.
-    pub(crate) fn has(self, right: Right) -> bool
+    pub fn has(self, right: Right) -> bool
         ensures { result ≡ has_right (rights_of self) right }
     {
         self.contains(Rights::only(right))

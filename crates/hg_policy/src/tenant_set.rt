@@ -5,25 +5,25 @@ ghost use Rattle.hg_policy.specs.TenantSets.{has_tenant};
 
 /// A set of tenants, one bit for each of up to 64.
 #[derive(Clone, Copy, Debug, PartialEq, Eq)]
-pub(crate) struct TenantSet(u64);
+pub struct TenantSet(u64);
 
 impl TenantSet {
     /// No tenant.
-    pub(crate) fn none() -> TenantSet
+    pub fn none() -> TenantSet
         ensures { (tenant : ℕ) → has_tenant result tenant ≡ false }
     {
         TenantSet(0)
     }
 
     /// Each of 64 tenants.
-    pub(crate) fn each() -> TenantSet
+    pub fn each() -> TenantSet
         ensures { (tenant : ℕ) → tenant < 64 → has_tenant result tenant ≡ true }
     {
         TenantSet(u64::MAX)
     }
 
     /// The set with one tenant more.
-    pub(crate) fn with(self, tenant: u8) -> TenantSet
+    pub fn with(self, tenant: u8) -> TenantSet
         requires { tenant < 64 }
         ensures { (other : ℕ) →
             has_tenant result other ≡ (has_tenant self other || tenant == other) }
@@ -32,7 +32,7 @@ impl TenantSet {
     }
 
     /// The tenants of both sets.
-    pub(crate) fn or(self, more: TenantSet) -> TenantSet
+    pub fn or(self, more: TenantSet) -> TenantSet
         ensures { (tenant : ℕ) →
             has_tenant result tenant ≡ (has_tenant self tenant || has_tenant more tenant) }
     {
@@ -40,7 +40,7 @@ impl TenantSet {
     }
 
     /// Whether the set has a tenant.
-    pub(crate) fn has(self, tenant: u8) -> bool
+    pub fn has(self, tenant: u8) -> bool
         requires { tenant < 64 }
         ensures { result ≡ has_tenant self tenant }
     {

@@ -7,22 +7,22 @@ use Rattle.std.proofs.lemmas.Bool.{cases_Bool, cases_lt, lt-ltb, le-ltb}
 use Rattle.std.proofs.lemmas.List.FromFn.{length-range_with_len}
 use Rattle.toml.specs.Data.{Data, Members}
 use Rattle.hg_machine.specs.Policy.{Policy, Tenant}
-use Rattle.hg_policy.specs.declared.key.Key.{Key}
-use Rattle.hg_policy.specs.declared.key.Key.TheVariants as key
-use Rattle.hg_policy.specs.declared.row.Row.{Row}
-use Rattle.hg_policy.specs.Faults.{Fault, Read, ◌>>=◌, in_turn, or_fault, not_toml, missing, kind, unknown, repeated, no_such_name, too_many, version}
-use Rattle.hg_policy.specs.Keys.{has_rows}
-use Rattle.hg_policy.specs.Values.{field_at, elements_in, with_table}
-use Rattle.hg_policy.specs.Tenants.{tenant_at, tenants_in}
-use Rattle.hg_policy.specs.Groups.{Group, group_at, groups_in}
-use Rattle.hg_policy.specs.Arenas.{no_arenas, arena_at, arenas_in}
-use Rattle.hg_policy.specs.Lines.{Line, with_line, lines_in}
-use Rattle.hg_policy.specs.Heads.{Heads}
-use Rattle.hg_policy.specs.Document.{policy_from, tables_of, policy_at, heads_in, tree_of, document_of}
-use Rattle.hg_policy.specs.FaultyRow.{first_refused, row_in, row_or, row_from, row_of_lines, row_behind_groups, row_behind_tenants, row_of_tables, element_in, row_of_fault, row_of_heads, row_at}
-use Rattle.hg_policy.proofs.Chains.{bind_at}
-use Rattle.hg_policy.proofs.HeadsIn.{policy_at-heads}
-use Rattle.hg_policy.proofs.RowsTold.{first_refused-read, read-first_refused}
+use Rattle.hg_policy_text.specs.declared.key.Key.{Key}
+use Rattle.hg_policy_text.specs.declared.key.Key.TheVariants as key
+use Rattle.hg_policy_text.specs.declared.row.Row.{Row}
+use Rattle.hg_policy_text.specs.Faults.{Fault, Read, ◌>>=◌, in_turn, or_fault, not_toml, missing, kind, unknown, repeated, no_such_name, too_many, version}
+use Rattle.hg_policy_text.specs.Keys.{has_rows}
+use Rattle.hg_policy_text.specs.Values.{field_at, elements_in, with_table}
+use Rattle.hg_policy_text.specs.Tenants.{tenant_at, tenants_in}
+use Rattle.hg_policy_text.specs.Groups.{Group, group_at, groups_in}
+use Rattle.hg_policy_text.specs.Arenas.{no_arenas, arena_at, arenas_in}
+use Rattle.hg_policy_text.specs.Lines.{Line, with_line, lines_in}
+use Rattle.hg_policy_text.specs.Heads.{Heads}
+use Rattle.hg_policy_text.specs.Document.{policy_from, tables_of, policy_at, heads_in, tree_of, document_of}
+use Rattle.hg_policy_text.specs.FaultyRow.{first_refused, row_in, row_or, row_from, row_of_lines, row_behind_groups, row_behind_tenants, row_of_tables, element_in, row_of_fault, row_of_heads, row_at}
+use Rattle.hg_policy_text.proofs.Chains.{bind_at}
+use Rattle.hg_policy_text.proofs.HeadsIn.{policy_at-heads}
+use Rattle.hg_policy_text.proofs.RowsTold.{first_refused-read, read-first_refused}
 use Rattle.hg_policy_laws.specs.RowLaws.{PoliciesHaveNoFaultyRow, FaultyRowsAreRows, FaultyRowsAreTold}
 
 map-there : {A B : Type 0} (f : A → B) (o : Option A) → (o ≡ None → ⊥) → IsSome (option_map f o)

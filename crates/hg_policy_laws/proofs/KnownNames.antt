@@ -8,24 +8,26 @@ use Rattle.std.proofs.lemmas.List.{map_push}
 use Rattle.toml.specs.Data.{Data, Members, no_members, member, string}
 use Rattle.hg_place.specs.declared.Right.{Right}
 use Rattle.hg_machine.specs.Policy.{Tenant, Rights, no_rights}
-use Rattle.hg_policy.specs.declared.key.Level.{Level}
-use Rattle.hg_policy.specs.Faults.{in_turn, repeated}
-use Rattle.hg_policy.specs.Values.{value_at, elements_in, knows, first_unknown, known_keys, whole_at}
-use Rattle.hg_policy.specs.NameForm.{name_at, is_among}
-use Rattle.hg_policy.specs.Tenants.{tenant_names, tenant_at, tenants_in, with_tenant}
-use Rattle.hg_policy.specs.Groups.{Group, group_names, group_members_in, group_at, groups_in, with_group, group_named}
-use Rattle.hg_policy.specs.Grants.{right_in}
+use Rattle.hg_policy_text.specs.declared.key.Level.{Level}
+use Rattle.hg_policy_text.specs.Faults.{in_turn, repeated}
+use Rattle.hg_policy_text.specs.Values.{value_at, elements_in, knows, first_unknown, known_keys, whole_at}
+use Rattle.hg_policy_text.specs.NameForm.{name_at}
+use Rattle.hg_policy.specs.Names.{is_among}
+use Rattle.hg_policy_text.specs.Tenants.{tenant_at, tenants_in, with_tenant}
+use Rattle.hg_policy.specs.Names.{tenant_names}
+use Rattle.hg_policy_text.specs.Groups.{Group, group_names, group_members_in, group_at, groups_in, with_group, group_named}
+use Rattle.hg_policy_text.specs.Grants.{right_in}
 use Rattle.hg_policy.specs.Rights.{and_right}
-use Rattle.hg_policy.specs.Lines.{with_right, rights_in}
-use Rattle.hg_policy.specs.VersionLaws.{keys_in}
-use Rattle.hg_policy.specs.SaidLaws.{is_text, says, right_text, has_only, has_keys, is_right}
-use Rattle.hg_policy.proofs.Chains.{bind_at}
-use Rattle.hg_policy.proofs.SaidWords.{in_turn-says, list_any-push, says-name, right_in-is}
+use Rattle.hg_policy_text.specs.Lines.{with_right, rights_in}
+use Rattle.hg_policy_text.specs.VersionLaws.{keys_in}
+use Rattle.hg_policy_text.specs.SaidLaws.{is_text, says, right_text, has_only, has_keys, is_right}
+use Rattle.hg_policy_text.proofs.Chains.{bind_at}
+use Rattle.hg_policy_text.proofs.SaidWords.{in_turn-says, list_any-push, says-name, right_in-is}
 use Rattle.hg_policy_laws.proofs.WholeTables.{in_turn-all, has_only-read}
 use Rattle.hg_policy_laws.proofs.Versions.{none-Ok}
 use Rattle.hg_place.specs.declared.Right.TheVariants as right
-use Rattle.hg_policy.specs.declared.key.Key.TheVariants as key
-use Rattle.hg_policy.specs.declared.key.Level.TheVariants as level
+use Rattle.hg_policy_text.specs.declared.key.Key.TheVariants as key
+use Rattle.hg_policy_text.specs.declared.key.Level.TheVariants as level
 
 -- keys that are known
 known-all : (l : Level) (members : Members) → first_unknown l members ≡ None → list_all (knows l) (keys_in members) ≡ true

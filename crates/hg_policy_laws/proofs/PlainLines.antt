@@ -5,16 +5,16 @@ use Rattle.std.specs.Str.{NoCharPasses}
 use Rattle.std.proofs.lemmas.Bool.{cases_Bool, and_parts, ltb-true, true≢false}
 use Rattle.std.proofs.lemmas.List.Folds.{list_all_at}
 use Rattle.std.proofs.lemmas.Str.{encode_ascii, NoCharPasses-nil, NoCharPasses-append}
-use Rattle.hg_policy.specs.declared.fault.PolicyFault.{PolicyFault}
-use Rattle.hg_policy.specs.declared.fault.PolicyFault.TheVariants as fault
-use Rattle.hg_policy.specs.declared.key.Key.{Key}
-use Rattle.hg_policy.specs.declared.key.Key.TheVariants as key
-use Rattle.hg_policy.specs.declared.key.Counted.{Counted}
-use Rattle.hg_policy.specs.declared.key.Counted.TheVariants as counted
-use Rattle.hg_policy.specs.Keys.{key_text, counted_text}
-use Rattle.hg_policy.specs.OneLine.{hex_digit, four_digits, is_written_out, written, one_line}
-use Rattle.hg_policy.specs.FaultLines.{fault_line}
-use Rattle.hg_policy.proofs.WrittenOut.{out-below, written-out}
+use Rattle.hg_policy_text.specs.declared.fault.PolicyFault.{PolicyFault}
+use Rattle.hg_policy_text.specs.declared.fault.PolicyFault.TheVariants as fault
+use Rattle.hg_policy_text.specs.declared.key.Key.{Key}
+use Rattle.hg_policy_text.specs.declared.key.Key.TheVariants as key
+use Rattle.hg_policy_text.specs.declared.key.Counted.{Counted}
+use Rattle.hg_policy_text.specs.declared.key.Counted.TheVariants as counted
+use Rattle.hg_policy_text.specs.Keys.{key_text, counted_text}
+use Rattle.hg_policy_text.specs.OneLine.{hex_digit, four_digits, is_written_out, written, one_line}
+use Rattle.hg_policy_text.specs.FaultLines.{fault_line}
+use Rattle.hg_policy_text.proofs.WrittenOut.{out-below, written-out}
 
 -- a byte of ASCII that isn't written out
 abbrev pub is_plain : ℕ → Bool

@@ -10,20 +10,23 @@ use Rattle.std.proofs.lemmas.List.FromFn.{get_or-map-range_with_len}
 use Rattle.std.proofs.lemmas.List.Quantifiers.{position-Some}
 use Rattle.toml.specs.Data.{Data, Members, string, integer}
 use Rattle.hg_machine.specs.Policy.{Tenant, nobody}
-use Rattle.hg_policy.specs.declared.key.Key.{Key}
-use Rattle.hg_policy.specs.declared.key.Key.TheVariants as key
-use Rattle.hg_policy.specs.declared.key.Level.TheVariants as level
-use Rattle.hg_policy.specs.Faults.{Fault, in_turn, or_fault, no_such_name, repeated}
-use Rattle.hg_policy.specs.Values.{value_at, known_keys, elements_in}
-use Rattle.hg_policy.specs.NameForm.{name_at, is_among}
-use Rattle.hg_policy.specs.Tenants.{tenant_names, number_in}
+use Rattle.hg_policy_text.specs.declared.key.Key.{Key}
+use Rattle.hg_policy_text.specs.declared.key.Key.TheVariants as key
+use Rattle.hg_policy_text.specs.declared.key.Level.TheVariants as level
+use Rattle.hg_policy_text.specs.Faults.{Fault, in_turn, or_fault, no_such_name, repeated}
+use Rattle.hg_policy_text.specs.Values.{value_at, known_keys, elements_in}
+use Rattle.hg_policy_text.specs.NameForm.{name_at}
+use Rattle.hg_policy.specs.Names.{is_among}
+use Rattle.hg_policy_text.specs.Tenants.{number_in}
+use Rattle.hg_policy.specs.Names.{tenant_names}
 use Rattle.hg_policy.specs.TenantSets.{just, either}
-use Rattle.hg_policy.specs.Groups.{Group, group_names, and_member, group_members_in, with_group, group_at, groups_in, group_named, named_in, named_at}
-use Rattle.hg_policy.specs.SaidLaws.{is_text, has_some, says, has_entry, is_member, stands_for}
-use Rattle.hg_policy.proofs.Chains.{bind_at, in_turn-keeps}
+use Rattle.hg_policy_text.specs.Groups.{Group, group_names, and_member, group_members_in, with_group, group_at, groups_in, group_named, named_in, named_at}
+use Rattle.hg_policy_text.specs.SaidLaws.{is_text, has_some, says, has_entry, is_member, stands_for}
+use Rattle.hg_policy_text.proofs.Chains.{bind_at, in_turn-keeps}
 use Rattle.hg_policy.proofs.GrantTable.{ne-eqb}
 use Rattle.hg_policy.proofs.Names.{list_any-map}
-use Rattle.hg_policy.proofs.SaidWords.{in_turn-says, same_text, text_same, text_other, says-read, says-name, has_some-read, some_read}
+use Rattle.hg_policy.proofs.Texts.{same_text, text_same, text_other}
+use Rattle.hg_policy_text.proofs.SaidWords.{in_turn-says, says-read, says-name, has_some-read, some_read}
 
 -- one tenant alone, and the tenants of either list
 just-at : (n tenant k : ℕ) → k < n → get_or (just n (tenant ∷ [])) k false ≡ (tenant == k)

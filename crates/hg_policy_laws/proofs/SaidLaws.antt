@@ -5,21 +5,21 @@ use Rattle.std.proofs.lemmas.List.FromFn.{get_or-map-range_with_len}
 use Rattle.toml.specs.Data.{Members}
 use Rattle.hg_place.specs.declared.Right.{Right}
 use Rattle.hg_machine.specs.Policy.{Policy, Tenant, Rights, no_rights, has_right, grants, nobody}
-use Rattle.hg_policy.specs.declared.key.Key.TheVariants as key
-use Rattle.hg_policy.specs.declared.key.Counted.TheVariants as counted
-use Rattle.hg_policy.specs.Faults.{Read}
-use Rattle.hg_policy.specs.Values.{known_keys, entries_at}
-use Rattle.hg_policy.specs.Tenants.{tenants_in}
-use Rattle.hg_policy.specs.Groups.{Group, groups_in}
-use Rattle.hg_policy.specs.Arenas.{Arenas, arenas_in}
+use Rattle.hg_policy_text.specs.declared.key.Key.TheVariants as key
+use Rattle.hg_policy_text.specs.declared.key.Counted.TheVariants as counted
+use Rattle.hg_policy_text.specs.Faults.{Read}
+use Rattle.hg_policy_text.specs.Values.{known_keys, entries_at}
+use Rattle.hg_policy_text.specs.Tenants.{tenants_in}
+use Rattle.hg_policy_text.specs.Groups.{Group, groups_in}
+use Rattle.hg_policy_text.specs.Arenas.{Arenas, arenas_in}
 use Rattle.hg_policy.specs.Rights.{all_rights}
-use Rattle.hg_policy.specs.Lines.{Line, lines_in, names_right, rights_by, table_by}
-use Rattle.hg_policy.specs.Heads.{Heads, workers_at, max_generation_at, group_entries_at, line_entries_at, heads_at}
-use Rattle.hg_policy.specs.Document.{top_at, policy_from, tables_of, policy_at}
-use Rattle.hg_policy.specs.SaidLaws.{has_entry, says_right, LinesAreSaid, ArenasAreSaid}
-use Rattle.hg_policy.proofs.Chains.{bind_at}
-use Rattle.hg_policy.proofs.LineTable.{other_here}
-use Rattle.hg_policy.proofs.SaidWords.{entries_at-says, line_entries_at-says, group_entries_at-says}
+use Rattle.hg_policy_text.specs.Lines.{Line, lines_in, names_right, rights_by, table_by}
+use Rattle.hg_policy_text.specs.Heads.{Heads, workers_at, max_generation_at, group_entries_at, line_entries_at, heads_at}
+use Rattle.hg_policy_text.specs.Document.{top_at, policy_from, tables_of, policy_at}
+use Rattle.hg_policy_text.specs.SaidLaws.{has_entry, says_right, LinesAreSaid, ArenasAreSaid}
+use Rattle.hg_policy_text.proofs.Chains.{bind_at}
+use Rattle.hg_policy_text.proofs.LineTable.{other_here}
+use Rattle.hg_policy_text.proofs.SaidWords.{entries_at-says, line_entries_at-says, group_entries_at-says}
 use Rattle.hg_policy_laws.proofs.Said.{within, named}
 use Rattle.hg_policy_laws.proofs.SaidLines.{lines_in-says, arenas_in-says, flag_at}
 

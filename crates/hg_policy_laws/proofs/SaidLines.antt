@@ -11,19 +11,21 @@ use Rattle.std.proofs.lemmas.List.Quantifiers.{position-Some}
 use Rattle.toml.specs.Data.{Data, Members}
 use Rattle.hg_place.specs.declared.Right.{Right}
 use Rattle.hg_machine.specs.Policy.{Tenant, Rights}
-use Rattle.hg_policy.specs.declared.key.Key.TheVariants as key
-use Rattle.hg_policy.specs.declared.key.Level.TheVariants as level
-use Rattle.hg_policy.specs.Faults.{in_turn}
-use Rattle.hg_policy.specs.Values.{field_at, value_at, known_keys, whole_at, elements_in, or_else}
-use Rattle.hg_policy.specs.NameForm.{name_at, is_among}
+use Rattle.hg_policy_text.specs.declared.key.Key.TheVariants as key
+use Rattle.hg_policy_text.specs.declared.key.Level.TheVariants as level
+use Rattle.hg_policy_text.specs.Faults.{in_turn}
+use Rattle.hg_policy_text.specs.Values.{field_at, value_at, known_keys, whole_at, elements_in, or_else}
+use Rattle.hg_policy_text.specs.NameForm.{name_at}
+use Rattle.hg_policy.specs.Names.{is_among}
 use Rattle.hg_policy.specs.TenantSets.{just, either}
-use Rattle.hg_policy.specs.Groups.{Group, groups_in, named_in, named_at}
-use Rattle.hg_policy.specs.Lines.{Line, names_right, rights_in, line_in, with_line, lines_in}
-use Rattle.hg_policy.specs.Arenas.{Arenas, no_arenas, with_arena, with_named, admitted_in, admitted_at, arena_at, arenas_in}
-use Rattle.hg_policy.specs.SaidLaws.{is_text, has_some, says, has_entry, stands_for, right_text, says_right, is_open_to}
-use Rattle.hg_policy.proofs.Chains.{bind_at}
-use Rattle.hg_policy.proofs.ArenaEntries.{with_arena-is}
-use Rattle.hg_policy.proofs.SaidWords.{in_turn-says, list_any-push, text_other, says-read, says-name, has_some-read, rights_in-says, position-push}
+use Rattle.hg_policy_text.specs.Groups.{Group, groups_in, named_in, named_at}
+use Rattle.hg_policy_text.specs.Lines.{Line, names_right, rights_in, line_in, with_line, lines_in}
+use Rattle.hg_policy_text.specs.Arenas.{Arenas, no_arenas, with_arena, with_named, admitted_in, admitted_at, arena_at, arenas_in}
+use Rattle.hg_policy_text.specs.SaidLaws.{is_text, has_some, says, has_entry, stands_for, right_text, says_right, is_open_to}
+use Rattle.hg_policy_text.proofs.Chains.{bind_at}
+use Rattle.hg_policy_text.proofs.ArenaEntries.{with_arena-is}
+use Rattle.hg_policy.proofs.Texts.{text_other}
+use Rattle.hg_policy_text.proofs.SaidWords.{in_turn-says, list_any-push, says-read, says-name, has_some-read, rights_in-says, position-push}
 use Rattle.hg_policy_laws.proofs.Said.{just-none, either-at, within, named_in-says, named_at-says}
 
 -- a document, with its tenants and groups

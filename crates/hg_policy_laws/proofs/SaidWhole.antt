@@ -6,25 +6,27 @@ use Rattle.std.specs.Str.{bytes_eq}
 use Rattle.std.proofs.Math.Bool.{or-true}
 use Rattle.toml.specs.Data.{Data, Members, string}
 use Rattle.hg_machine.specs.Policy.{Tenant, Rights}
-use Rattle.hg_policy.specs.declared.key.Key.{Key}
-use Rattle.hg_policy.specs.Faults.{Fault, in_turn, or_fault, no_such_name}
-use Rattle.hg_policy.specs.Values.{field_at, value_at, or_else, elements_in, known_keys, whole_at}
-use Rattle.hg_policy.specs.NameForm.{name_at, is_among}
-use Rattle.hg_policy.specs.Tenants.{tenant_names, tenants_in, number_in}
+use Rattle.hg_policy_text.specs.declared.key.Key.{Key}
+use Rattle.hg_policy_text.specs.Faults.{Fault, in_turn, or_fault, no_such_name}
+use Rattle.hg_policy_text.specs.Values.{field_at, value_at, or_else, elements_in, known_keys, whole_at}
+use Rattle.hg_policy_text.specs.NameForm.{name_at}
+use Rattle.hg_policy.specs.Names.{is_among}
+use Rattle.hg_policy_text.specs.Tenants.{tenants_in, number_in}
+use Rattle.hg_policy.specs.Names.{tenant_names}
 use Rattle.hg_policy.specs.TenantSets.{just, either}
-use Rattle.hg_policy.specs.Groups.{Group, group_names, and_member, group_members_in, group_at, groups_in, with_group, group_named, named_in, named_at}
-use Rattle.hg_policy.specs.Lines.{Line, rights_in, line_in, with_line, lines_in}
-use Rattle.hg_policy.specs.Arenas.{Arenas, no_arenas, with_arena, with_named, admitted_in, admitted_at, arena_at, arenas_in}
-use Rattle.hg_policy.specs.SaidLaws.{is_text, says, has_entry, has_only, is_none_or, is_tenant, is_tenant_or_group, is_right, is_line, is_group, is_arena, NothingIsPassedOver}
-use Rattle.hg_policy.proofs.Chains.{bind_at}
+use Rattle.hg_policy_text.specs.Groups.{Group, group_names, and_member, group_members_in, group_at, groups_in, with_group, group_named, named_in, named_at}
+use Rattle.hg_policy_text.specs.Lines.{Line, rights_in, line_in, with_line, lines_in}
+use Rattle.hg_policy_text.specs.Arenas.{Arenas, no_arenas, with_arena, with_named, admitted_in, admitted_at, arena_at, arenas_in}
+use Rattle.hg_policy_text.specs.SaidLaws.{is_text, says, has_entry, has_only, is_none_or, is_tenant, is_tenant_or_group, is_right, is_line, is_group, is_arena, NothingIsPassedOver}
+use Rattle.hg_policy_text.proofs.Chains.{bind_at}
 use Rattle.hg_policy_laws.proofs.Said.{among_tenants}
-use Rattle.hg_policy.proofs.SaidWords.{says-read, some_read, entries_at-says, group_entries_at-says}
+use Rattle.hg_policy_text.proofs.SaidWords.{says-read, some_read, entries_at-says, group_entries_at-says}
 use Rattle.hg_policy_laws.proofs.SaidLaws.{policy_at-of}
 use Rattle.hg_policy_laws.proofs.WholeTables.{in_turn-all, has_only-read, line_entries_at-all, entries_at-all, group_entries_at-few, group_entries_at-all}
 use Rattle.hg_policy_laws.proofs.KnownNames.{keys-known, line-keys, group-keys, rights_in-words, tenants_in-among, groups_in-among, group-among}
-use Rattle.hg_policy.specs.declared.key.Key.TheVariants as key
-use Rattle.hg_policy.specs.declared.key.Counted.TheVariants as counted
-use Rattle.hg_policy.specs.declared.key.Level.TheVariants as level
+use Rattle.hg_policy_text.specs.declared.key.Key.TheVariants as key
+use Rattle.hg_policy_text.specs.declared.key.Counted.TheVariants as counted
+use Rattle.hg_policy_text.specs.declared.key.Level.TheVariants as level
 
 -- a document whose tenants and groups were read
 record AreRead (document : Members) (tenants : List Tenant) (groups : List Group) (tenant_entries group_entries : List Members) : Type 0 where

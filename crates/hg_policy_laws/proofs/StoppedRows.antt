@@ -3,19 +3,19 @@ use Rattle.std.proofs.Common.{◌≡◌, ◌⊎◌, ℕ, zero, suc, ◌+◌, ◌
 use Rattle.std.specs.Prelude.{is_err, is_ok, IsOk, IsErr}
 use Rattle.std.specs.Option.{option_map}
 use Rattle.hg_machine.specs.Policy.{Tenant}
-use Rattle.hg_policy.specs.declared.key.Key.{Key}
-use Rattle.hg_policy.specs.declared.key.Key.TheVariants as key
-use Rattle.hg_policy.specs.declared.row.Row.{Row}
-use Rattle.hg_policy.specs.Faults.{Fault, Read, in_turn}
-use Rattle.hg_policy.specs.Tenants.{tenant_at, tenants_in}
-use Rattle.hg_policy.specs.Groups.{Group, group_at, groups_in}
-use Rattle.hg_policy.specs.Arenas.{Arenas, no_arenas, arena_at, arenas_in}
-use Rattle.hg_policy.specs.Lines.{Line, with_line, lines_in}
-use Rattle.hg_policy.specs.Heads.{Heads}
-use Rattle.hg_policy.specs.Document.{tables_of}
-use Rattle.hg_policy.specs.FaultyRow.{first_refused, row_in, row_or, row_of_lines, row_behind_groups, row_behind_tenants}
-use Rattle.hg_policy.proofs.FirstRefused.{position-at}
-use Rattle.hg_policy.proofs.Parts.{tables_of-Ok}
+use Rattle.hg_policy_text.specs.declared.key.Key.{Key}
+use Rattle.hg_policy_text.specs.declared.key.Key.TheVariants as key
+use Rattle.hg_policy_text.specs.declared.row.Row.{Row}
+use Rattle.hg_policy_text.specs.Faults.{Fault, Read, in_turn}
+use Rattle.hg_policy_text.specs.Tenants.{tenant_at, tenants_in}
+use Rattle.hg_policy_text.specs.Groups.{Group, group_at, groups_in}
+use Rattle.hg_policy_text.specs.Arenas.{Arenas, no_arenas, arena_at, arenas_in}
+use Rattle.hg_policy_text.specs.Lines.{Line, with_line, lines_in}
+use Rattle.hg_policy_text.specs.Heads.{Heads}
+use Rattle.hg_policy_text.specs.Document.{tables_of}
+use Rattle.hg_policy_text.specs.FaultyRow.{first_refused, row_in, row_or, row_of_lines, row_behind_groups, row_behind_tenants}
+use Rattle.hg_policy_text.proofs.FirstRefused.{position-at}
+use Rattle.hg_policy_text.proofs.Parts.{tables_of-Ok}
 use Rattle.hg_policy_laws.specs.RowLaws.{cut_to, ReadingStopsAtFaultyRows}
 
 -- a row of a table: where it is, what is read before it and what with it

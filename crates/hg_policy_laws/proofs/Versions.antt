@@ -3,17 +3,17 @@ use Rattle.std.proofs.Common.{◌≡◌, ◌≢◌, ℕ, ◌||◌, codes, Bool, 
 use Rattle.std.specs.Str.{bytes_eq}
 use Rattle.std.proofs.lemmas.Bool.{cases_Bool}
 use Rattle.toml.specs.Data.{Data, Members, no_members, member, string, integer}
-use Rattle.hg_policy.specs.declared.key.Key.{Key}
-use Rattle.hg_policy.specs.declared.key.Key.TheVariants as key
-use Rattle.hg_policy.specs.declared.key.Counted.{Counted}
-use Rattle.hg_policy.specs.declared.key.Level.{Level}
-use Rattle.hg_policy.specs.declared.key.Level.TheVariants as level
-use Rattle.hg_policy.specs.Faults.{Fault, ◌>>=◌, or_fault, missing, kind, version}
-use Rattle.hg_policy.specs.Values.{field_at, value_at, whole_in, whole_at, knows, first_unknown, none_unknown, known_keys, entries_in, entries_at, at_most, or_else}
-use Rattle.hg_policy.specs.Heads.{workers_in, workers_at, max_generation_at, group_entries_at, line_entries_at, heads_at}
-use Rattle.hg_policy.specs.Document.{top_in, top_at, tables_of, policy_at}
-use Rattle.hg_policy.specs.VersionLaws.{keys_in, IsSameButVersion, VersionsAgree, VersionTwoIsVersionOne, VersionsAreTwo}
-use Rattle.hg_policy.proofs.Chains.{bind_at}
+use Rattle.hg_policy_text.specs.declared.key.Key.{Key}
+use Rattle.hg_policy_text.specs.declared.key.Key.TheVariants as key
+use Rattle.hg_policy_text.specs.declared.key.Counted.{Counted}
+use Rattle.hg_policy_text.specs.declared.key.Level.{Level}
+use Rattle.hg_policy_text.specs.declared.key.Level.TheVariants as level
+use Rattle.hg_policy_text.specs.Faults.{Fault, ◌>>=◌, or_fault, missing, kind, version}
+use Rattle.hg_policy_text.specs.Values.{field_at, value_at, whole_in, whole_at, knows, first_unknown, none_unknown, known_keys, entries_in, entries_at, at_most, or_else}
+use Rattle.hg_policy_text.specs.Heads.{workers_in, workers_at, max_generation_at, group_entries_at, line_entries_at, heads_at}
+use Rattle.hg_policy_text.specs.Document.{top_in, top_at, tables_of, policy_at}
+use Rattle.hg_policy_text.specs.VersionLaws.{keys_in, IsSameButVersion, VersionsAgree, VersionTwoIsVersionOne, VersionsAreTwo}
+use Rattle.hg_policy_text.proofs.Chains.{bind_at}
 use Rattle.hg_policy.proofs.GrantTable.{ne-eqb}
 
 -- the first of these keys that isn't known

@@ -6,16 +6,16 @@ use Rattle.std.proofs.lemmas.Bool.{cases_Bool, ltb-false, le-leb}
 use Rattle.std.proofs.lemmas.List.{length_push}
 use Rattle.std.proofs.lemmas.List.Folds.{list_all-append}
 use Rattle.toml.specs.Data.{Data, Members, array, table}
-use Rattle.hg_policy.specs.declared.key.Key.{Key}
-use Rattle.hg_policy.specs.declared.key.Counted.{Counted}
-use Rattle.hg_policy.specs.Faults.{Read, ◌>>=◌, in_turn, or_fault, missing, too_many}
-use Rattle.hg_policy.specs.Values.{field_at, value_at, or_else, elements, elements_in, with_table, entries_in, entries_at, at_most}
-use Rattle.hg_policy.specs.Heads.{group_entries_at, line_entries_at}
-use Rattle.hg_policy.specs.SaidLaws.{is_table, has_only, is_none_or, each_entry, has_at_most}
-use Rattle.hg_policy.proofs.Chains.{bind_at, in_turn-counts}
-use Rattle.hg_policy.proofs.SaidWords.{some_read, at_most-is}
-use Rattle.hg_policy.specs.declared.key.Key.TheVariants as key
-use Rattle.hg_policy.specs.declared.key.Counted.TheVariants as counted
+use Rattle.hg_policy_text.specs.declared.key.Key.{Key}
+use Rattle.hg_policy_text.specs.declared.key.Counted.{Counted}
+use Rattle.hg_policy_text.specs.Faults.{Read, ◌>>=◌, in_turn, or_fault, missing, too_many}
+use Rattle.hg_policy_text.specs.Values.{field_at, value_at, or_else, elements, elements_in, with_table, entries_in, entries_at, at_most}
+use Rattle.hg_policy_text.specs.Heads.{group_entries_at, line_entries_at}
+use Rattle.hg_policy_text.specs.SaidLaws.{is_table, has_only, is_none_or, each_entry, has_at_most}
+use Rattle.hg_policy_text.proofs.Chains.{bind_at, in_turn-counts}
+use Rattle.hg_policy_text.proofs.SaidWords.{some_read, at_most-is}
+use Rattle.hg_policy_text.specs.declared.key.Key.TheVariants as key
+use Rattle.hg_policy_text.specs.declared.key.Counted.TheVariants as counted
 
 -- where each step is taken of a good element alone, all of them are good
 pub in_turn-all : {A X : Type 0} (step : A → X → Read A) (test : X → Bool) → ((done : A) (x : X) (next : A) → step done x ≡ Ok next → test x ≡ true)

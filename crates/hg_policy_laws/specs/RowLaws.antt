@@ -3,13 +3,13 @@ use Rattle.std.specs.Prelude.{◌≡◌, ℕ, ◌+◌, ◌<◌, List, [], take, 
 use Rattle.std.specs.Prelude.{IsOk, IsErr}
 use Rattle.toml.specs.Data.{Members}
 use Rattle.hg_machine.specs.Policy.{Policy}
-use Rattle.hg_policy.specs.declared.key.Key.{Key}
-use Rattle.hg_policy.specs.declared.key.Key.TheVariants as key
-use Rattle.hg_policy.specs.declared.row.Row.{Row}
-use Rattle.hg_policy.specs.Faults.{Fault}
-use Rattle.hg_policy.specs.Heads.{Heads}
-use Rattle.hg_policy.specs.Document.{tables_of, tree_of, heads_in, document_of}
-use Rattle.hg_policy.specs.FaultyRow.{row_of_tables, faulty_row}
+use Rattle.hg_policy_text.specs.declared.key.Key.{Key}
+use Rattle.hg_policy_text.specs.declared.key.Key.TheVariants as key
+use Rattle.hg_policy_text.specs.declared.row.Row.{Row}
+use Rattle.hg_policy_text.specs.Faults.{Fault}
+use Rattle.hg_policy_text.specs.Heads.{Heads}
+use Rattle.hg_policy_text.specs.Document.{tables_of, tree_of, heads_in, document_of}
+use Rattle.hg_policy_text.specs.FaultyRow.{row_of_tables, faulty_row}
 
 -- no row of a document that means a policy is faulty
 abbrev pub PoliciesHaveNoFaultyRow : Type 0

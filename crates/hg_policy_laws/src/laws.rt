@@ -1,13 +1,13 @@
 //! Laws of the document and of its faults. Each function does nothing: what it promises is the law.
 
-ghost use Rattle.hg_policy.specs.DocumentLaws.{NamesAreDistinct, TablesAreWhole};
-ghost use Rattle.hg_policy.specs.DocumentLaws.{DocumentsAreSound};
+ghost use Rattle.hg_policy_text.specs.DocumentLaws.{NamesAreDistinct, TablesAreWhole};
+ghost use Rattle.hg_policy_text.specs.DocumentLaws.{DocumentsAreSound};
 ghost use Rattle.hg_policy_laws.specs.LineLaws.{FaultsAreOneLine};
 ghost use Rattle.hg_policy_laws.specs.RowLaws.{PoliciesHaveNoFaultyRow, FaultyRowsAreRows};
 ghost use Rattle.hg_policy_laws.specs.RowLaws.{FaultyRowsAreTold, ReadingStopsAtFaultyRows};
-ghost use Rattle.hg_policy.specs.SaidLaws.{LinesAreSaid, ArenasAreSaid, NothingIsPassedOver};
-ghost use Rattle.hg_policy.specs.VersionLaws.{VersionsAgree, VersionTwoIsVersionOne};
-ghost use Rattle.hg_policy.specs.VersionLaws.{VersionsAreTwo};
+ghost use Rattle.hg_policy_text.specs.SaidLaws.{LinesAreSaid, ArenasAreSaid, NothingIsPassedOver};
+ghost use Rattle.hg_policy_text.specs.VersionLaws.{VersionsAgree, VersionTwoIsVersionOne};
+ghost use Rattle.hg_policy_text.specs.VersionLaws.{VersionsAreTwo};
 
 /// No two tenants of a policy that was read have one name, nor two arenas, and each name has the
 /// form of a name.

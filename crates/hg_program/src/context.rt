@@ -6,7 +6,7 @@ ghost use Rattle.hg_program.specs.Ends.{IsOf};
 use crate::host::Host;
 use crate::why::Why;
 use hg_hints::{policy_hint, trace_hint};
-use hg_policy::OneLine;
+use hg_policy_text::OneLine;
 use hg_race::race_hint;
 use hg_replay::{ReadFault, Status};
 use std::alloc::{AllocError, Global};

@@ -1,6 +1,6 @@
 -- The status of a race that failed.
 use Rattle.std.specs.Prelude.{Result, Ok, Err}
-use Rattle.hg_policy.specs.Faults.{fault_of}
+use Rattle.hg_policy_text.specs.Faults.{fault_of}
 use Rattle.hg_replay.specs.RunFaults.{policy_status}
 use Rattle.hg_replay.specs.declared.run.status.Status.{Status}
 use Rattle.hg_replay.specs.declared.run.status.Status.TheVariants as status

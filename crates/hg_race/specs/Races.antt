@@ -2,8 +2,8 @@
 use Rattle.std.specs.Prelude.{◌≡◌, ◌⊎◌, ◌++◌, ℕ, true, false, List, [], Option, Some, None, Ok, Err}
 use Rattle.std.specs.Prelude.{codes}
 use Rattle.hg_machine.specs.Policy.{Policy}
-use Rattle.hg_policy.specs.Document.{document_of}
-use Rattle.hg_policy.specs.Faults.{Read}
+use Rattle.hg_policy_text.specs.Document.{document_of}
+use Rattle.hg_policy_text.specs.Faults.{Read}
 use Rattle.hg_replay.specs.Sinks.{Seen}
 use Rattle.hg_replay.specs.Statuses.{NoPolicy}
 use Rattle.hg_replay.specs.Writes.{Wrote, StopsIn}

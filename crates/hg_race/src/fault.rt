@@ -4,7 +4,7 @@ ghost use Rattle.std.specs.Prelude.{◌≡◌};
 ghost use Rattle.hg_race.specs.Faults.{status_of};
 ghost use Rattle.hg_race.specs.declared.fault.RaceFault.TheVariants as race_fault;
 
-use hg_policy::PolicyFault;
+use hg_policy_text::PolicyFault;
 use hg_replay::Status;
 use std::alloc::AllocError;
 use thiserror::Error;

@@ -1,11 +1,11 @@
 //! What is told of a policy under which no race can be run.
 
 ghost use Rattle.std.specs.Prelude.{◌≡◌, IfOk, option_map};
-ghost use Rattle.hg_policy.specs.Document.{document_of};
+ghost use Rattle.hg_policy_text.specs.Document.{document_of};
 ghost use Rattle.hg_race.specs.Races.{hint_of, told_of};
 
 use crate::fit::lack;
-use hg_policy::{PolicyFault, read_policy};
+use hg_policy_text::{PolicyFault, read_policy};
 use std::alloc::{AllocError, Global};
 
 /// The line that tells what is lacked, if something is.

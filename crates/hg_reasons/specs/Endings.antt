@@ -1,7 +1,7 @@
 -- How an explanation on the bytes of a policy and a trace ends: its status, and what it writes.
 use Rattle.std.specs.Prelude.{⊤, ◌≡◌, ◌⊎◌, ℕ, List, Result, Ok, Err}
 use Rattle.hg_machine.specs.Policy.{Policy}
-use Rattle.hg_policy.specs.Document.{document_of}
+use Rattle.hg_policy_text.specs.Document.{document_of}
 use Rattle.hg_replay.specs.Sinks.{Seen}
 use Rattle.hg_replay.specs.Statuses.{NoPolicy, NoTrace}
 use Rattle.hg_replay.specs.Writes.{Wrote, StopsIn}

@@ -8,7 +8,8 @@ ghost use Rattle.hg_replay.specs.RunFaults.{status_of};
 
 use crate::explain::{Story, explain, texts_of};
 use crate::form::Form;
-use hg_policy::{Policy, read_policy};
+use hg_policy::Policy;
+use hg_policy_text::read_policy;
 use hg_replay::{ReplayFault, RunFault, Sink, Status, put, start};
 use hg_trace::{Trace, read_trace};
 use std::alloc::{AllocError, Global};

@@ -1,7 +1,7 @@
 -- How a run ends where no trace was read, or where its replay gave up.
 use Rattle.std.proofs.Common.{◌≡◌, ◌≢◌, ℕ, List, Ok, Err, refl, inl, inr}
 use Rattle.hg_machine.specs.Policy.{Policy}
-use Rattle.hg_policy.specs.Document.{document_of}
+use Rattle.hg_policy_text.specs.Document.{document_of}
 use Rattle.hg_trace.specs.declared.fault.TraceFault.{TraceFault}
 use Rattle.hg_trace.specs.declared.fault.TraceFault.TheVariants as trace_fault
 use Rattle.hg_replay.specs.declared.replaying.fault.ReplayFault.{ReplayFault}

@@ -1,8 +1,8 @@
 -- Which status is due, and that runs and checks end with it.
 use Rattle.std.proofs.Common.{◌≡◌, ℕ, zero, suc, List, Ok, Err, Some, None, Option, Result, length, refl, sym, ap, subst, ◌∙◌, inl, inr, arith}
 use Rattle.hg_machine.specs.Policy.{Policy}
-use Rattle.hg_policy.specs.Document.{document_of}
-use Rattle.hg_policy.specs.Faults.{Fault}
+use Rattle.hg_policy_text.specs.Document.{document_of}
+use Rattle.hg_policy_text.specs.Faults.{Fault}
 use Rattle.hg_trace.specs.declared.fault.TraceFault.{TraceFault}
 use Rattle.hg_trace.specs.declared.line.Line.{Line}
 use Rattle.hg_trace.specs.Trace.{trace_of}

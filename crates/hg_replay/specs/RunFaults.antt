@@ -1,6 +1,6 @@
 -- The status of a run that failed.
 use Rattle.std.specs.Prelude.{Option, Some, None, Result, Ok, Err}
-use Rattle.hg_policy.specs.Faults.{Fault, fault_of}
+use Rattle.hg_policy_text.specs.Faults.{Fault, fault_of}
 use Rattle.hg_trace.specs.declared.fault.TraceFault.{TraceFault}
 use Rattle.hg_trace.specs.declared.fault.TraceFault.TheVariants as trace_fault
 use Rattle.hg_replay.specs.declared.replaying.fault.ReplayFault.{ReplayFault}

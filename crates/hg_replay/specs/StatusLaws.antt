@@ -1,7 +1,7 @@
 -- Laws of the statuses.
 use Rattle.std.specs.Prelude.{◌≡◌, ◌≢◌, ◌↔◌, ◌<◌, ◌⊎◌, ℕ, List, Some, Ok, length}
 use Rattle.hg_machine.specs.Policy.{Policy}
-use Rattle.hg_policy.specs.Document.{document_of}
+use Rattle.hg_policy_text.specs.Document.{document_of}
 use Rattle.hg_trace.specs.declared.line.Line.{Line}
 use Rattle.hg_trace.specs.Trace.{trace_of}
 use Rattle.hg_replay.specs.declared.run.input.TheConstants.{LIMIT}

@@ -12,7 +12,7 @@ pub(crate) mod status;
 use crate::replaying::replay;
 use crate::replaying::sink::Sink;
 use fault::RunFault;
-use hg_policy::read_policy;
+use hg_policy_text::read_policy;
 use hg_trace::{read_trace, split_joined};
 use input::read_limited;
 use status::Status;

@@ -5,7 +5,8 @@ ghost use Rattle.hg_table.specs.Named.{table_of};
 
 use hg_machine::{Answer, Event};
 use hg_place::{Actor, Handle};
-use hg_policy::{Policy, read_policy};
+use hg_policy::Policy;
+use hg_policy_text::read_policy;
 use hg_service::{Service, Worker};
 use hg_table::LifeTable;
 use hg_worker::ServiceName;

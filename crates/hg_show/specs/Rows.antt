@@ -2,7 +2,7 @@
 use Rattle.std.specs.Prelude.{ℕ, ◌==◌, Bool, List, [], Option, Some, None, map, codes, length}
 use Rattle.std.specs.Prelude.{unwrap_or}
 use Rattle.toml.specs.Data.{Data, Items, Members, as_array, as_str, as_table, get_member}
-use Rattle.hg_policy.specs.Values.{elements}
+use Rattle.hg_policy_text.specs.Values.{elements}
 
 abbrev pub elements_or_none : Option Items → List Data
 elements_or_none None = []

@@ -2,7 +2,7 @@
 use Rattle.std.specs.Prelude.{ℕ, ◌≡◌, ◌++◌, List, Some, Ok}
 use Rattle.toml.specs.Data.{Members}
 use Rattle.hg_machine.specs.Policy.{Policy}
-use Rattle.hg_policy.specs.Document.{document_of, tree_of}
+use Rattle.hg_policy_text.specs.Document.{document_of, tree_of}
 use Rattle.hg_show.specs.Json.{json}
 use Rattle.hg_show.specs.Matrix.{matrix_text}
 use Rattle.hg_show.specs.Parts.{arenas_text, head_text, tenants_text}

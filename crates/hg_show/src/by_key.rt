@@ -3,12 +3,12 @@
 ghost use Rattle.std.specs.Prelude.{◌≡◌, map, option_map};
 ghost use Rattle.toml.specs.Data.{as_array, get_member};
 ghost use Rattle.toml.specs.View.{table_view, view};
-ghost use Rattle.hg_policy.specs.Document.{tree_of};
-ghost use Rattle.hg_policy.specs.Faults.{Gives, or_fault, not_toml};
+ghost use Rattle.hg_policy_text.specs.Document.{tree_of};
+ghost use Rattle.hg_policy_text.specs.Faults.{Gives, or_fault, not_toml};
 ghost use Rattle.hg_show.specs.Rows.{elements_at, elements_or_none, is_empty_at, rows_at};
 ghost use Rattle.hg_show.specs.Rows.{text_at, text_in, text_of};
 
-use hg_policy::PolicyFault;
+use hg_policy_text::PolicyFault;
 use std::alloc::Global;
 use toml::{Table, Value};
 

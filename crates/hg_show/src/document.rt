@@ -2,8 +2,8 @@
 
 ghost use Rattle.std.specs.Prelude.{◌≡◌, IfErr, IfOk};
 ghost use Rattle.toml.specs.View.{table_view};
-ghost use Rattle.hg_policy.specs.Document.{document_of};
-ghost use Rattle.hg_policy.specs.Faults.{FailsAs, fault_of};
+ghost use Rattle.hg_policy_text.specs.Document.{document_of};
+ghost use Rattle.hg_policy_text.specs.Faults.{FailsAs, fault_of};
 ghost use Rattle.hg_show.specs.Shown.{IsShown, IsShownAsJson, shown};
 
 use crate::by_key::{rows, tree};
@@ -11,7 +11,8 @@ use crate::json::json;
 use crate::matrix::push_matrix;
 use crate::parts::{push_arenas, push_head, push_tenants};
 use crate::warnings::{push_warnings, warnings};
-use hg_policy::{Policy, PolicyFault, read_policy};
+use hg_policy::Policy;
+use hg_policy_text::{PolicyFault, read_policy};
 use std::alloc::{AllocError, Global};
 use toml::Table;
 

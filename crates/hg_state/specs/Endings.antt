@@ -1,7 +1,7 @@
 -- How it ends to write what stands after a trace: the status, and what is written.
 use Rattle.std.specs.Prelude.{⊤, ◌≡◌, ◌⊎◌, ℕ, List, Ok}
 use Rattle.hg_machine.specs.Policy.{Policy}
-use Rattle.hg_policy.specs.Document.{document_of}
+use Rattle.hg_policy_text.specs.Document.{document_of}
 use Rattle.hg_replay.specs.Sinks.{Seen}
 use Rattle.hg_replay.specs.Statuses.{NoPolicy, NoTrace}
 use Rattle.hg_replay.specs.Writes.{Wrote, StopsIn}

@@ -2,7 +2,7 @@
 use Rattle.std.proofs.Common.{◌≡◌, ℕ, List, inr}
 use Rattle.std.specs.Prelude.{Ok}
 use Rattle.hg_machine.specs.Policy.{Policy}
-use Rattle.hg_policy.specs.Document.{document_of}
+use Rattle.hg_policy_text.specs.Document.{document_of}
 use Rattle.hg_trace.specs.Trace.{trace_of}
 use Rattle.hg_trace.specs.declared.line.Line.{Line}
 use Rattle.hg_replay.specs.RunFaults.{replay_status}

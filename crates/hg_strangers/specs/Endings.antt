@@ -1,7 +1,7 @@
 -- How a check of the bytes of a policy and a trace ends: its status, and what it writes.
 use Rattle.std.specs.Prelude.{⊤, ◌≡◌, ◌⊎◌, ℕ, List, Some, Ok}
 use Rattle.hg_machine.specs.Policy.{Policy}
-use Rattle.hg_policy.specs.Document.{document_of}
+use Rattle.hg_policy_text.specs.Document.{document_of}
 use Rattle.hg_trace.specs.declared.line.Line.{Line}
 use Rattle.hg_replay.specs.Events.{unknown_worker}
 use Rattle.hg_replay.specs.Sinks.{Seen}

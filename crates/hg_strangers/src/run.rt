@@ -8,7 +8,8 @@ ghost use Rattle.hg_strangers.specs.Endings.{EndsChecked, IsChecked, IsFaulty, I
 ghost use Rattle.hg_strangers.specs.Texts.{checked};
 
 use crate::text::checked;
-use hg_policy::{Policy, read_policy};
+use hg_policy::Policy;
+use hg_policy_text::read_policy;
 use hg_replay::{ReplayFault, RunFault, Sink, Status, put};
 use hg_trace::{Trace, read_trace};
 use std::alloc::Global;

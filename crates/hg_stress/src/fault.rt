@@ -1,5 +1,5 @@
 use crate::asked::MOST_KEPT;
-use hg_policy::PolicyFault;
+use hg_policy_text::PolicyFault;
 use hg_replay::ReadFault;
 use std::alloc::{AllocError, AllocFailed};
 use std::io;

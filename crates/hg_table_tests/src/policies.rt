@@ -1,4 +1,5 @@
-use hg_policy::{Policy, PolicyFault, read_policy};
+use hg_policy::Policy;
+use hg_policy_text::{PolicyFault, read_policy};
 use std::alloc::Global;
 
 /// Two segments, two workers.

@@ -5,7 +5,7 @@ use Rattle.std.specs.Option.{option_map}
 use Rattle.std.specs.List.{list_any, list_all, position_or_len}
 use Rattle.std.proofs.lemmas.Bool.{cases_Bool, lt-ltb}
 use Rattle.hg_place.specs.declared.geometry.TheConstants.{MAX_SEGMENTS}
-use Rattle.hg_policy.specs.NameForm.{is_name}
+use Rattle.hg_policy_text.specs.NameForm.{is_name}
 use Rattle.hg_trace.specs.declared.fault.LineFault.{LineFault}
 use Rattle.hg_trace.specs.declared.fault.LineFault.TheVariants as fault
 use Rattle.hg_trace.specs.declared.fault.TraceFault.{TraceFault}

@@ -6,7 +6,7 @@ use Rattle.std.proofs.lemmas.Bool.{cases_Bool}
 use Rattle.std.proofs.lemmas.Bool.Decides.{nat_tests}
 use Rattle.std.proofs.lemmas.List.{take_rest}
 use Rattle.std.proofs.lemmas.List.Folds.{length-prefix_len}
-use Rattle.hg_policy.specs.NameForm.{is_lower, is_name_byte, is_name}
+use Rattle.hg_policy_text.specs.NameForm.{is_lower, is_name_byte, is_name}
 use Rattle.hg_trace.specs.declared.fault.LineFault.TheVariants as fault
 use Rattle.hg_trace.specs.Lines.{is_blank, split_words}
 use Rattle.hg_trace.specs.NameFront.{ends_word, fits_name}

@@ -6,7 +6,7 @@ use Rattle.std.proofs.lemmas.Bool.{cases_Bool, lt-ltb}
 use Rattle.std.proofs.lemmas.Bool.Decides.{nat_tests}
 use Rattle.std.proofs.lemmas.List.Sums.{position_or_len_is}
 use Rattle.hg_place.specs.declared.Handle.{Handle}
-use Rattle.hg_policy.specs.NameForm.{is_name, is_lower}
+use Rattle.hg_policy_text.specs.NameForm.{is_name, is_lower}
 use Rattle.hg_trace.specs.declared.line.BlockName.{BlockName}
 use Rattle.hg_trace.specs.declared.line.BlockName.TheVariants as block_name
 use Rattle.hg_trace.specs.declared.fault.LineFault.TheVariants as fault

@@ -1,7 +1,7 @@
 -- Operands are read from how they are written, and from nothing else.
 use Rattle.std.proofs.Common.{◌≡◌, ℕ, ◌<◌, ◌≤◌, ◌^◌, true, List, [], ◌∷◌, Some, Ok, Err, decimal, refl, ap, subst, inl, inr}
 use Rattle.std.specs.Prelude.{ok_or}
-use Rattle.hg_policy.specs.NameForm.{is_name}
+use Rattle.hg_policy_text.specs.NameForm.{is_name}
 use Rattle.hg_trace.specs.declared.fault.LineFault.TheVariants as fault
 use Rattle.hg_trace.specs.Numbers.{number_below}
 use Rattle.hg_trace.specs.Operands.{name_operand, number_operand, no_operand}

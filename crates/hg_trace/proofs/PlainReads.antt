@@ -4,7 +4,7 @@ use Rattle.std.proofs.Common.{Ok, codes, decimal, ap, subst, ◌∙◌, inl, inr
 use Rattle.std.specs.Prelude.{Result, bytes_eq, if◌then◌else◌, IfSome}
 use Rattle.hg_place.specs.declared.Place.{Place}
 use Rattle.hg_place.specs.declared.geometry.TheConstants.{MAX_SEGMENTS}
-use Rattle.hg_policy.specs.NameForm.{is_name}
+use Rattle.hg_policy_text.specs.NameForm.{is_name}
 use Rattle.hg_trace.specs.declared.line.Command.{Command}
 use Rattle.hg_trace.specs.declared.line.Command.TheVariants as command
 use Rattle.hg_trace.specs.declared.fault.LineFault.{LineFault}

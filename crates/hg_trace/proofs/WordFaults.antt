@@ -3,8 +3,8 @@ use Rattle.std.proofs.Common.{◌≡◌, ℕ, zero, suc, ◌+◌, ◌<◌, ◌�
 use Rattle.std.specs.Prelude.{slice_get, slice_index_or, is_ok, is_some, ok_or, unwrap_or, IfErr}
 use Rattle.hg_place.specs.declared.Place.{Place}
 use Rattle.hg_place.specs.declared.geometry.TheConstants.{MAX_SEGMENTS, SEGMENT_PAGES, PAGE_PLACES}
-use Rattle.hg_policy.specs.NameForm.{is_name}
-use Rattle.hg_policy.proofs.FirstRefused.{position-at, position-fails}
+use Rattle.hg_policy_text.specs.NameForm.{is_name}
+use Rattle.hg_policy_text.proofs.FirstRefused.{position-at, position-fails}
 use Rattle.hg_trace.specs.declared.fault.LineFault.{LineFault}
 use Rattle.hg_trace.specs.declared.fault.LineFault.TheVariants as fault
 use Rattle.hg_trace.specs.declared.line.BlockName.{BlockName}

@@ -2,7 +2,7 @@
 use Rattle.std.proofs.Common.{◌≡◌, ℕ, ◌+◌, ◌<◌, ◌≤◌, true, false, not, List, length, Option, Some, None, ap, below_more, arith}
 use Rattle.std.specs.Prelude.{slice_get}
 use Rattle.std.specs.Option.{option_map}
-use Rattle.hg_policy.proofs.FirstRefused.{position-numbers, position-no_number}
+use Rattle.hg_policy_text.proofs.FirstRefused.{position-numbers, position-no_number}
 use Rattle.hg_trace.specs.declared.wanted.Wanted.{Wanted}
 use Rattle.hg_trace.specs.Forms.{wanted_at, is_as_wanted, wrong_in}
 

@@ -1,7 +1,7 @@
 -- Blocks: a handle behind an `@`, or a label.
 use Rattle.std.specs.Prelude.{ℕ, ◌==◌, List, [], ◌∷◌, Option, Some, Result, Ok, Err}
 use Rattle.std.specs.Prelude.{if◌then◌else◌, option_map, position, bytes_eq}
-use Rattle.hg_policy.specs.NameForm.{is_name}
+use Rattle.hg_policy_text.specs.NameForm.{is_name}
 use Rattle.hg_trace.specs.declared.line.BlockName.{BlockName}
 use Rattle.hg_trace.specs.declared.line.BlockName.TheVariants as block_name
 use Rattle.hg_trace.specs.declared.fault.LineFault.{LineFault}

@@ -4,7 +4,7 @@ use Rattle.std.specs.Prelude.{Option, Some, None, is_ok, is_some, option_map, un
 use Rattle.std.specs.Prelude.{slice_get, slice_index_or, bytes_eq, codes, if◌then◌else◌}
 use Rattle.std.specs.List.{range_with_len}
 use Rattle.hg_place.specs.declared.geometry.TheConstants.{MAX_SEGMENTS}
-use Rattle.hg_policy.specs.NameForm.{is_name}
+use Rattle.hg_policy_text.specs.NameForm.{is_name}
 use Rattle.hg_trace.specs.declared.wanted.Wanted.{Wanted}
 use Rattle.hg_trace.specs.declared.wanted.Wanted.TheVariants as wanted
 use Rattle.hg_trace.specs.Numbers.{number_below}

@@ -1,6 +1,6 @@
 -- Labels, in the order in which lines give them.
 use Rattle.std.specs.Prelude.{ℕ, Bool, true, false, List, [], ◌∷◌, ◌++◌, Some, count_by}
-use Rattle.hg_policy.specs.NameForm.{is_among}
+use Rattle.hg_policy.specs.Names.{is_among}
 use Rattle.hg_trace.specs.declared.line.Command.{Command}
 use Rattle.hg_trace.specs.declared.line.Command.TheVariants as command
 use Rattle.hg_trace.specs.declared.line.Line.{Line}

@@ -1,6 +1,6 @@
 -- Where a name ends in a text.
 use Rattle.std.specs.Prelude.{ℕ, Bool, true, false, ◌&&◌, List, [], ◌∷◌, nat_lt, length}
-use Rattle.hg_policy.specs.NameForm.{is_lower}
+use Rattle.hg_policy_text.specs.NameForm.{is_lower}
 use Rattle.hg_trace.specs.Lines.{is_blank}
 
 -- whether a word ends before this: at a blank, or where nothing more stands

@@ -4,7 +4,8 @@ use Rattle.std.specs.Prelude.{Option, Some, None, length}
 use Rattle.std.specs.List.{AllPass, AllPairs}
 use Rattle.hg_place.specs.declared.Handle.{Handle}
 use Rattle.hg_place.specs.declared.geometry.TheConstants.{MAX_SEGMENTS}
-use Rattle.hg_policy.specs.NameForm.{is_name, is_among}
+use Rattle.hg_policy_text.specs.NameForm.{is_name}
+use Rattle.hg_policy.specs.Names.{is_among}
 use Rattle.hg_trace.specs.declared.line.BlockName.{BlockName}
 use Rattle.hg_trace.specs.declared.line.BlockName.TheVariants as block_name
 use Rattle.hg_trace.specs.declared.line.Command.{Command}

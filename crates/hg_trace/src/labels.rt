@@ -3,7 +3,7 @@
 ghost use Rattle.std.specs.Prelude.{◌≡◌, ◌∷◌, ◌++◌, [], true, false, not, position, length};
 ghost use Rattle.std.specs.Prelude.{bytes_eq, IfOk, IfErr, OnErr};
 ghost use Rattle.hg_labels.specs.Indexes.{texts};
-ghost use Rattle.hg_policy.specs.NameForm.{is_among};
+ghost use Rattle.hg_policy.specs.Names.{is_among};
 ghost use Rattle.hg_trace.specs.Labels.{repeats, with_label};
 
 use crate::fault::TraceFault;

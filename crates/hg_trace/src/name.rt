@@ -3,12 +3,12 @@
 ghost use Rattle.std.specs.Prelude.{◌≡◌, IfSome, MatchOption, is_some, not, position};
 ghost use Rattle.std.specs.Prelude.{length, drop, true, false};
 ghost use Rattle.std.specs.List.{before_first};
-ghost use Rattle.hg_policy.specs.NameForm.{is_name, is_name_byte};
+ghost use Rattle.hg_policy_text.specs.NameForm.{is_name, is_name_byte};
 ghost use Rattle.hg_trace.specs.Lines.{is_blank};
 ghost use Rattle.hg_trace.specs.NameFront.{ends_word, fits_name};
 
 use crate::lines::is_blank;
-use hg_policy::{is_name, is_name_byte};
+use hg_policy_text::{is_name, is_name_byte};
 use std::marker::Model;
 
 /// A name of 1 to 16 bytes, where it stands in the bytes of a trace.

@@ -8,7 +8,7 @@ use crate::numbers::{number_below, parse_number};
 use crate::operands::operands_of;
 use crate::read::worker_of;
 use hg_place::MAX_SEGMENTS;
-use hg_policy::is_name;
+use hg_policy_text::is_name;
 
 /// What is wanted in place of what stands at fault in a line.
 #[derive(Clone, Copy, Debug, PartialEq, Eq)]

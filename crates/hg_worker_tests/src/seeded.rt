@@ -5,7 +5,7 @@ use crate::drawn::{Draws, WORDS};
 use crate::services::{ALICE, MAIN, Service, Trial, tried};
 use hg_core::Core;
 use hg_machine::{Answer, Event, Rule};
-use hg_policy::read_policy;
+use hg_policy_text::read_policy;
 use hg_size::{CLASSES, class_number, class_of, words_of};
 use hg_worker::ServiceName;
 use std::alloc::Global;

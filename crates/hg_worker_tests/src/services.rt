@@ -11,7 +11,8 @@ ghost use Rattle.hg_worker.specs.Seats.{number_in};
 
 use hg_machine::{Answer, Event};
 use hg_place::{Actor, SlotWords};
-use hg_policy::{Policy, read_policy};
+use hg_policy::Policy;
+use hg_policy_text::read_policy;
 use hg_remote::RemoteList;
 use hg_segment::Segment;
 use hg_table::{LifeTable, Seats, SegmentSeat, UnnamedSegment, WorkerSeat};

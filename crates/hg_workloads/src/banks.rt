@@ -8,7 +8,8 @@ use hg_bank::{Bank, BankHandle};
 use hg_heap::{done_answer, read_answer, refused_answer};
 use hg_machine::Answer;
 use hg_place::Actor;
-use hg_policy::{Policy, read_policy};
+use hg_policy::Policy;
+use hg_policy_text::read_policy;
 use std::alloc::Global;
 
 const POLICY: &str = r#"version = 1

@@ -8,7 +8,7 @@ use hg_core::Core;
 use hg_heap::{done_answer, read_answer, refused_answer};
 use hg_machine::{Answer, Event};
 use hg_place::{Actor, Handle};
-use hg_policy::read_policy;
+use hg_policy_text::read_policy;
 use std::alloc::{AllocFailed, Global};
 
 const POLICY: &str = r#"version = 2

@@ -9,7 +9,7 @@ use hg_core::Core;
 use hg_heap::alloc_answer;
 use hg_machine::Answer;
 use hg_place::{Actor, Handle};
-use hg_policy::read_policy;
+use hg_policy_text::read_policy;
 use std::alloc::Global;
 
 const POLICY: &str = r#"version = 1

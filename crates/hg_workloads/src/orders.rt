@@ -9,7 +9,8 @@ use hg_core::Core;
 use hg_machine::{Answer, Event};
 use hg_order::{Found, explain};
 use hg_place::{Actor, Handle};
-use hg_policy::{Policy, read_policy};
+use hg_policy::Policy;
+use hg_policy_text::read_policy;
 use std::alloc::{AllocFailed, Global};
 
 const POLICY: &str = r#"version = 2

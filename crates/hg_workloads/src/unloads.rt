@@ -8,7 +8,7 @@ use hg_bulk::free_all;
 use hg_core::Core;
 use hg_machine::{Answer, Event};
 use hg_place::{Actor, Handle};
-use hg_policy::read_policy;
+use hg_policy_text::read_policy;
 use std::alloc::Global;
 
 const POLICY: &str = r#"version = 2

@@ -6,7 +6,8 @@ use crate::tests::refused::run;
 use hg_core::Core;
 use hg_machine::{Answer, Event, Rule};
 use hg_place::Actor;
-use hg_policy::{Policy, PolicyFault, read_policy};
+use hg_policy::Policy;
+use hg_policy_text::{PolicyFault, read_policy};
 use std::alloc::Global;
 use std::process::Abort;
 

@@ -7,7 +7,7 @@ use crate::tests::policies::TWO_WORKERS;
 use hg_core::{AuditFault, AuditRoom, Core};
 use hg_machine::{Answer, Event};
 use hg_place::Actor;
-use hg_policy::read_policy;
+use hg_policy_text::read_policy;
 use std::alloc::{AllocError, Global};
 use std::process::Abort;
 

@@ -5,7 +5,7 @@ ghost use Rattle.std.specs.Prelude.{◌<◌, ◌≤◌, IsTrue};
 use hg_bank::{Bank, BankHandle, BankSegment};
 use hg_core::{Freed, NoSegment, NotFreed, NotHeld, Refused};
 use hg_place::Actor;
-use hg_policy::{PolicyFault, read_policy};
+use hg_policy_text::{PolicyFault, read_policy};
 use std::alloc::Global;
 use std::process::Abort;
 

@@ -4,7 +4,7 @@ use crate::tests::seeded::answer;
 use hg_core::Core;
 use hg_machine::{Answer, Event};
 use hg_place::{Actor, Handle, SEGMENT_PAGES};
-use hg_policy::read_policy;
+use hg_policy_text::read_policy;
 use std::alloc::Global;
 use std::process::Abort;
 

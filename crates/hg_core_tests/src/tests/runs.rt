@@ -8,7 +8,7 @@ use crate::tests::seeded::{MANY_LIVES, Run};
 use hg_core::Core;
 use hg_machine::{Answer, Event};
 use hg_place::{Actor, SEGMENT_PAGES};
-use hg_policy::{PolicyFault, read_policy};
+use hg_policy_text::{PolicyFault, read_policy};
 use std::alloc::{AllocError, Global};
 use std::process::Abort;
 

@@ -6,7 +6,7 @@ use crate::tests::seeded::{FEW_LIVES, MANY_LIVES, Run, WORKERS, answer};
 use hg_core::Core;
 use hg_machine::{Answer, Event};
 use hg_place::{Actor, Handle, Right};
-use hg_policy::read_policy;
+use hg_policy_text::read_policy;
 use std::alloc::Global;
 use std::process::Abort;
 

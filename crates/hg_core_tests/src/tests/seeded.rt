@@ -7,7 +7,7 @@ use crate::tests::reached::Reached;
 use hg_core::Core;
 use hg_machine::{Answer, Event};
 use hg_place::{Actor, Handle, MAX_SEGMENTS, PAGE_PLACES, SEGMENT_PLACES, SEGMENT_WORDS, place_at};
-use hg_policy::read_policy;
+use hg_policy_text::read_policy;
 use std::alloc::Global;
 use std::process::Abort;
 

@@ -8,7 +8,8 @@ use crate::tests::numbers::Numbers;
 use crate::tests::situations::situations_in;
 use crate::tests::tally::{NONE, Tally};
 use hg_calls::Call;
-use hg_policy::{Policy, read_policy};
+use hg_policy::Policy;
+use hg_policy_text::read_policy;
 use std::alloc::{AllocError, Global};
 use std::process::Abort;
 

@@ -6,7 +6,8 @@ use crate::tests::policies::SENDERS;
 use crate::tests::script::Script;
 use hg_machine::{Answer, Event};
 use hg_place::{Actor, Handle};
-use hg_policy::{Policy, read_policy};
+use hg_policy::Policy;
+use hg_policy_text::read_policy;
 use std::alloc::{AllocError, Global};
 
 /// How many blocks are sent to each: in 2,704,156 orders, which come to 169 states.

@@ -5,7 +5,8 @@ use crate::tests::policies::CROWD;
 use crate::tests::script::Script;
 use hg_machine::{Answer, Event};
 use hg_place::{Actor, Handle, Place};
-use hg_policy::{Policy, read_policy};
+use hg_policy::Policy;
+use hg_policy_text::read_policy;
 use std::alloc::{AllocError, Global};
 use std::process::Abort;
 

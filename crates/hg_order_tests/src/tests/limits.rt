@@ -4,7 +4,7 @@ use crate::tests::found::End;
 use crate::tests::policies::{RACERS, SENDERS};
 use crate::tests::racers::{Stuck, raced};
 use crate::tests::senders::{Sending, sent};
-use hg_policy::read_policy;
+use hg_policy_text::read_policy;
 use std::alloc::Global;
 use std::process::Abort;
 

@@ -5,7 +5,8 @@ use crate::tests::policies::{BARE, FULL, LONE, SENDERS};
 use crate::tests::senders::{Sending, sent};
 use hg_calls::Call;
 use hg_machine::{Answer, Event};
-use hg_policy::{Policy, read_policy};
+use hg_policy::Policy;
+use hg_policy_text::read_policy;
 use std::alloc::{AllocError, Global};
 
 /// How the search ends for a log of no call, and for logs of one: a deliver, answered so.

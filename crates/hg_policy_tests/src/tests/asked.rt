@@ -1,7 +1,8 @@
 //! What is asked of a policy: each helper asks one thing, for each row of a table.
 
 use hg_place::{Actor, Right};
-use hg_policy::{Policy, PolicyFault, read_policy};
+use hg_policy::Policy;
+use hg_policy_text::{PolicyFault, read_policy};
 use std::alloc::Global;
 use std::process::Abort;
 

@@ -2,7 +2,7 @@
 //! order: of a document with both, the first is told. A line of a table is what is told, and
 //! behind the stroke the document, or the entries, with ` ; ` for a line break.
 
-use hg_policy::{PolicyFault, read_policy};
+use hg_policy_text::{PolicyFault, read_policy};
 use std::alloc::Global;
 use std::process::Abort;
 

@@ -4,7 +4,7 @@ use crate::tests::asked::{
     Which, admits_are, arena_names_are, arenas_are, counts, fails_or_refused, limits_are,
     names_are, read, read_or_refused, rights_are, segments_are, table_is, tenants_are,
 };
-use hg_policy::{PolicyFault, read_policy};
+use hg_policy_text::{PolicyFault, read_policy};
 
 const SHARED: &str = "\
 version = 1

@@ -2,7 +2,7 @@
 //! of its table, its number and how many rows there are, or `none`; and behind the stroke the
 //! document, or the entries, with ` ; ` for a line break.
 
-use hg_policy::{Row, faulty_row};
+use hg_policy_text::{Row, faulty_row};
 use std::alloc::Global;
 use std::process::Abort;
 

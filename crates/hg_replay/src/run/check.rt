@@ -12,7 +12,8 @@ use crate::run::fault::RunFault;
 use crate::run::status::Status;
 use crate::run::told;
 use arrayvec::ArrayString;
-use hg_policy::{Policy, read_policy};
+use hg_policy::Policy;
+use hg_policy_text::read_policy;
 use std::alloc::Global;
 use std::io::Write;
 

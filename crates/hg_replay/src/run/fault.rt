@@ -7,7 +7,7 @@ ghost use Rattle.hg_replay.specs.declared.run.fault.RunFault.TheVariants as run_
 use crate::replaying::fault::ReplayFault;
 use crate::run::input::ReadFault;
 use crate::run::status::Status;
-use hg_policy::PolicyFault;
+use hg_policy_text::PolicyFault;
 use hg_trace::TraceFault;
 use thiserror::Error;
 

@@ -2,7 +2,8 @@
 
 use hg_calls::{Call, read_log};
 use hg_order::{Found, explain};
-use hg_policy::{Policy, read_policy};
+use hg_policy::Policy;
+use hg_policy_text::read_policy;
 use std::alloc::Global;
 use std::process::Abort;
 

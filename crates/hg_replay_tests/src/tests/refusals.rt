@@ -3,7 +3,8 @@
 
 use crate::tests::checks::COUNTS;
 use crate::tests::running::{ANSWERS, JOINED, POLICY, TRACE};
-use hg_policy::{Policy, PolicyFault, read_policy};
+use hg_policy::Policy;
+use hg_policy_text::{PolicyFault, read_policy};
 use hg_replay::{ReplayFault, Status, replay, run_check, run_joined, run_texts};
 use hg_trace::{Trace, TraceFault, read_trace};
 use std::alloc::Global;

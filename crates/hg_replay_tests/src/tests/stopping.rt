@@ -4,7 +4,7 @@ use crate::tests::fakes::{Full, Limited};
 use crate::tests::policies::TWO_WORKERS;
 use crate::tests::running::{ANSWERS, POLICY, TRACE};
 use crate::tests::worked::DELIVERED;
-use hg_policy::read_policy;
+use hg_policy_text::read_policy;
 use hg_replay::{ReplayFault, Status, replay, run_texts};
 use hg_trace::{Trace, read_trace};
 use std::alloc::Global;

@@ -4,7 +4,7 @@ use crate::tests::plain::Plain;
 use hg_core::Core;
 use hg_machine::{Answer, Event};
 use hg_place::{Actor, Handle};
-use hg_policy::read_policy;
+use hg_policy_text::read_policy;
 use hg_size::{CLASSES, block_words, class_of, pages_of, per_page};
 use hg_state::{Granted, View, note_granted, note_orphans, stands};
 use hg_text::{push, push_count};

@@ -1,5 +1,5 @@
 use Rattle.toml.specs.View.{table_view}
-use Rattle.hg_policy.specs.Faults.{fault_of}
+use Rattle.hg_policy_text.specs.Faults.{fault_of}
 use Rattle.hg_hints.proofs.Hinted.{fault_told, if_both, nothing_told, refusal_told, row_below, tree_read, tree_refused}
 use Rattle.hg_hints.proofs.policy.policy_hint.Goals as goal
 

@@ -1,6 +1,6 @@
 use Rattle.std.proofs.Common.{map, sym, ap, ◌∙◌}
 use Rattle.toml.specs.View.{view}
-use Rattle.hg_policy.proofs.InTurn.{elements-view}
+use Rattle.hg_policy_text.proofs.InTurn.{elements-view}
 use Rattle.hg_show.specs.Rows.{elements_or_none}
 use Rattle.hg_show.proofs.by_key.elements.Goals as goal
 

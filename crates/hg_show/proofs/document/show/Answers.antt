@@ -1,7 +1,7 @@
 use Rattle.std.proofs.lemmas.Result.{err_from_is_err_and}
-use Rattle.hg_policy.specs.Document.{document_of, policy_at, tree_of}
-use Rattle.hg_policy.specs.Faults.{fault_of, not_toml, or_fault}
-use Rattle.hg_policy.proofs.Chains.{bind-fails}
+use Rattle.hg_policy_text.specs.Document.{document_of, policy_at, tree_of}
+use Rattle.hg_policy_text.specs.Faults.{fault_of, not_toml, or_fault}
+use Rattle.hg_policy_text.proofs.Chains.{bind-fails}
 use Rattle.hg_show.proofs.document.show.Goals as goal
 
 -- a document without a tree is no policy

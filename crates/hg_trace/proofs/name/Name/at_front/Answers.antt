@@ -1,5 +1,5 @@
 use Rattle.std.proofs.Common.{length, drop, sym, ap, ◌∙◌}
-use Rattle.hg_policy.specs.NameForm.{is_name}
+use Rattle.hg_policy_text.specs.NameForm.{is_name}
 use Rattle.hg_trace.specs.NameFront.{ends_word, fits_name}
 use Rattle.hg_trace.proofs.NameCuts.{cut_there, front_is, front_not_fits, front_goes_on}
 use Rattle.hg_trace.proofs.name.Name.at_front.Goals as goal

@@ -1,5 +1,0 @@
-use Rattle.hg_policy.proofs.LineTable.{AddedTo}
-use Rattle.hg_policy.proofs.lines.add.Given as goal
-
-abbrev pub invariant-loop-actor : goal.invariant-loop-actor
-invariant-loop-actor l = AddedTo l.actor l.fn.held l.held l.to l.rights

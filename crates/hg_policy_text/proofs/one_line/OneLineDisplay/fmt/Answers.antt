@@ -1,0 +1,28 @@
+use Rattle.std.proofs.Common.{[], ◌++◌, append_assoc, append-nil, ◌∙◌, sym, rules}
+use Rattle.std.proofs.Output.{has_written_append, has_written_of_eq}
+use Rattle.std.proofs.lemmas.Str.{IsUtf8-past_char, chars_past_char}
+use Rattle.std.specs.Str.Iter.{chars_rest}
+use Rattle.std.proofs.StrCases.{chars_of_empty}
+use Rattle.hg_policy_text.specs.OneLine.{written}
+use Rattle.hg_policy_text.proofs.one_line.OneLineDisplay.fmt.Goals as goal
+
+pub loop-c-init : goal.loop-c-init
+loop-c-init g c = (search rules, λ plain. ([], search rules, search rules))
+
+pub loop-c-preserved : goal.loop-c-preserved
+loop-c-preserved g c =
+    let held = c.loop-c.invariant in
+    let parts = c.in-Some.ensures.steps.0 in (
+      IsUtf8-past_char _ _ c.in-Some.c held.0 parts,
+      λ plain.
+          let so_far = held.1 plain in (
+            so_far.0 ++ written c.in-Some.c,
+            has_written_append _ _ _ _ _ _ so_far.1 (search rules),
+            append_assoc so_far.0 _ _ ∙ rw (chars_past_char _ _ c.in-Some.c held.0 parts) at so_far.2,
+          ),
+    )
+
+pub returns-clause-writes : goal.returns-clause-writes
+returns-clause-writes g c = λ plain _.
+    let so_far = c.loop-c.invariant.1 plain in
+    has_written_of_eq _ _ _ _ _ (sym (append-nil _) ∙ rw (chars_of_empty (chars_rest c.loop-c.c-iterator) c.in-None.ensures.steps.0.0) at so_far.2) so_far.1
