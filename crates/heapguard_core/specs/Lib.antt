@@ -22,7 +22,13 @@ pub use Rattle.hg_choice.specs.ListsAfter
 pub use Rattle.hg_choice.specs.QueuesAfter
 pub use Rattle.hg_core.specs.Held
 pub use Rattle.hg_core.specs.Opening
+pub use Rattle.hg_core.specs.Records
+pub use Rattle.hg_core.specs.Kinds
+pub use Rattle.hg_core.specs.BlockPlaces
+pub use Rattle.hg_core.specs.PageClasses
+pub use Rattle.hg_core.specs.WordEvents
 pub mod Answers
+pub mod Banks
 pub use Rattle.hg_policy.specs.Names
 pub use Rattle.hg_policy_text.specs.Faults
 pub use Rattle.hg_policy_text.specs.Document

@@ -13,11 +13,16 @@
 //! ```
 //!
 //! Each call is proved to be a step of the written machine, by the event of its name, and wants a
-//! worker that the policy has: `worker < core.policy().workers()`.
+//! worker that the policy has: `worker < core.policy().workers()`. A `Bank` is many cores under one
+//! policy, with a call for each of a core's.
 #![tactic(auto)]
 
+pub use hg_bank::laws as bank_laws;
+pub use hg_bank::{Bank, BankHandle, BankParts, BankSegment, MAX_CORES};
+pub use hg_core::{AuditFault, AuditRoom, Parts, PlaceKind, PlaceLife, PlaceRecord};
 pub use hg_core::{Core, Freed, HowFar, NoSegment, NotFreed, NotHeld, NothingInHand, Refused};
 pub use hg_machine::{Answer, Event, Row, Rule, laws};
 pub use hg_place::{Actor, Handle, NotAHandle, Place, Right};
 pub use hg_policy::Policy;
 pub use hg_policy_text::{Counted, Key, PolicyFault, read_policy};
+pub use hg_size::Class;
