@@ -8,3 +8,4 @@ pub use Rattle.hg_bank.specs.Sound.{IsSoundBank, IsCoreOf}
 pub use Rattle.hg_bank.specs.Opening.{opened_bank, grown, IsOpenCore}
 pub use Rattle.hg_bank.specs.Parts.{AreParts, bank_from}
 pub use Rattle.hg_bank.specs.Answers.{bank_alloc_answer, bank_refill_answer}
+pub use Rattle.hg_bank.specs.Laws.{BankStepsKeepPolicy}

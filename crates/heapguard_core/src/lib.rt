@@ -17,10 +17,11 @@
 //! policy, with a call for each of a core's.
 #![tactic(auto)]
 
-pub use hg_bank::laws as bank_laws;
-pub use hg_bank::{Bank, BankHandle, BankParts, BankSegment, MAX_CORES};
-pub use hg_core::{AuditFault, AuditRoom, Parts, PlaceKind, PlaceLife, PlaceRecord};
-pub use hg_core::{Core, Freed, HowFar, NoSegment, NotFreed, NotHeld, NothingInHand, Refused};
+pub use hg_bank::{Bank, BankHandle, BankParts, BankSegment, MAX_CORES, laws as bank_laws};
+pub use hg_core::{
+    AuditFault, AuditRoom, Core, Freed, HowFar, NoSegment, NotFreed, NotHeld, NothingInHand, Parts,
+    PlaceKind, PlaceLife, PlaceRecord, Refused,
+};
 pub use hg_machine::{Answer, Event, Row, Rule, laws};
 pub use hg_place::{Actor, Handle, NotAHandle, Place, Right};
 pub use hg_policy::Policy;

@@ -15,6 +15,7 @@ use Rattle.hg_machine.specs.Holders.{is_number}
 use Rattle.hg_machine.specs.Lists.{Kept}
 use Rattle.hg_bank.specs.Histories.{Entry, grew, answered, events_at, answers_at}
 use Rattle.hg_bank.specs.Laws.{OthersStay, StepsAreDetermined, IsRunOf, EachCoreRuns}
+use Rattle.hg_bank.specs.Laws.{BankStepsKeepPolicy}
 use Rattle.hg_bank.specs.Opening.{grown, core_at}
 use Rattle.hg_bank.specs.Requests.{Request, event_of}
 use Rattle.hg_bank.specs.State.{BankState, with_core}
@@ -31,6 +32,13 @@ others_stay old new worker request answer core ne h =
           (cores_after old worker request answer new served.0 served.2)
           ∙ get_other old.cores served.0 core served.2.next
           (λ e. ne (served.1 ∙ ap Some (sym e)))
+    ]
+
+pub steps_keep_policy : BankStepsKeepPolicy
+steps_keep_policy old worker request answer new h =
+    elim (step_cases old worker request answer new h) as (λ _. new.policy ≡ old.policy) [
+      | inl none ↦ ap (λ b. b.policy) none.1.1
+      | inr served ↦ policy_after served.2
     ]
 
 served_agree : (old new last : BankState) (worker : ℕ) (request : Request) (answer given : Answer)

@@ -29,6 +29,12 @@ OthersStay =
     → server old worker request ≢ Some core → BankStep old worker request told new
     → slice_get new.cores core ≡ slice_get old.cores core
 
+-- a step keeps the policy
+abbrev pub BankStepsKeepPolicy : Type 0
+BankStepsKeepPolicy =
+    (old : BankState) (worker : ℕ) (request : Request) (told : Answer) (new : BankState)
+    → BankStep old worker request told new → new.policy ≡ old.policy
+
 -- the request determines its answer, and what the bank is afterwards
 abbrev pub StepsAreDetermined : Type 0
 StepsAreDetermined =

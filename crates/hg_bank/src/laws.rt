@@ -3,12 +3,17 @@
 ghost use Rattle.hg_bank.specs.Hidden.{WordsStayHidden, ActorsAreToldNothing, SecondStepsAre};
 ghost use Rattle.hg_bank.specs.Laws.{OthersStay, StepsAreDetermined, EachCoreRuns};
 ghost use Rattle.hg_bank.specs.Laws.{AllWereAsked, CurrentsMove, AbsentIsUnused};
-ghost use Rattle.hg_bank.specs.Laws.{OneCoreIsACore};
+ghost use Rattle.hg_bank.specs.Laws.{OneCoreIsACore, BankStepsKeepPolicy};
 ghost use Rattle.hg_bank.specs.Limits.{SumsStayLow, LimitsArePassedByAdopting};
 
 /// A step leaves each core but the one that serves as it was.
 pub fn others_stay()
     ensures { OthersStay }
+{}
+
+/// A step keeps the policy, and so the workers that it has.
+pub fn steps_keep_policy()
+    ensures { BankStepsKeepPolicy }
 {}
 
 /// A request has one answer, and leaves one bank.

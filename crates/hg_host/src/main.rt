@@ -1,17 +1,25 @@
 //! A host in Rattle whose plug-ins are tenants: each keeps numbers in blocks, and passes their
-//! handles on as texts. Its line of crates.txt names heapguard_core alone.
+//! handles on as texts; and one fills the cores of a bank. Its line of crates.txt names
+//! heapguard_core alone.
 #![tactic(auto)]
 
 mod desk;
+mod shelf;
 
 use desk::Desk;
-use heapguard_core::{Actor, Core, Handle, Policy, read_policy};
+use heapguard_core::{Actor, Bank, BankHandle, Core, Handle, Policy, Refused, read_policy};
+use shelf::Shelf;
 use std::alloc::Global;
 use std::collections::BTreeMap;
 use std::io;
 
 const POLICY: &str = "version = 1\nworkers = 1\narena = [ {name = \"main\", segments = 1} ]\n\
     tenant = [ {name = \"alice\", limit = 8192}, {name = \"bob\", limit = 64} ]\n";
+
+/// A core of it has one segment, which one block of 64 KiB fills; alice may have two.
+const FULL_SEGMENTS: &str =
+    "version = 1\nworkers = 1\ntenant = [ {name = \"alice\", limit = 131072} ]\n\
+    arena = [ {name = \"main\", segments = 1} ]\n";
 
 /// What an actor is told of the block that a text names.
 fn ask(rt: &impl Print, desk: &mut Desk, name: &str, actor: Actor, text: &str) -> io::Result<()> {
@@ -49,6 +57,53 @@ fn serve(
     ask(rt, desk, "bob", bob, "@0.0.0.01")
 }
 
+/// Keeps a number in a block of 64 KiB. Where no core has room for that, a segment more is taken first.
+fn keep_large(
+    alloc: Global,
+    shelf: &mut Shelf,
+    actor: Actor,
+    number: u64,
+) -> io::Result<Result<BankHandle, Refused>> {
+    match shelf.keep(actor, 65_536, number) {
+        Err(Refused::NoRoom) => {
+            shelf.refill(alloc)?;
+            Ok(shelf.keep(actor, 65_536, number))
+        }
+        kept => Ok(kept),
+    }
+}
+
+/// Alice keeps numbers in blocks that fill a core each, up to her limit.
+fn fill(rt: &impl Print, alloc: Global, shelf: &mut Shelf, alice: Actor) -> io::Result<()> {
+    for number in [42, 43, 44] {
+        match keep_large(alloc, shelf, alice, number)? {
+            Ok(block) => {
+                let told = shelf.tell(alice, block);
+                println!(rt;
+                    "core {} has {} for {number}: {told:?}",
+                    block.core, block.handle
+                )?;
+            }
+            Err(refused) => println!(rt; "no core has a block for {number}: {refused:?}")?,
+        }
+    }
+    Ok(())
+}
+
+/// A bank of at most three cores.
+fn open_shelf(alloc: Global) -> io::Result<Option<(Shelf, Actor)>> {
+    let Ok(policy) = read_policy(alloc, FULL_SEGMENTS.as_bytes()) else {
+        return Ok(None);
+    };
+    let Some(alice) = policy.tenant("alice") else {
+        return Ok(None);
+    };
+    match Shelf::at(Bank::open(alloc, policy, 3)?, 0) {
+        Some(shelf) => Ok(Some((shelf, Actor(alice)))),
+        None => Ok(None),
+    }
+}
+
 fn main(rt: HostRuntime) -> io::Result<()> {
     let alloc = rt.alloc();
     let policy = match read_policy(alloc, POLICY.as_bytes()) {
@@ -64,5 +119,9 @@ fn main(rt: HostRuntime) -> io::Result<()> {
     if desk.refill().is_err() {
         return println!(rt; "no segment");
     }
-    serve(&rt, alloc, &mut desk, Actor(alice), Actor(bob))
+    serve(&rt, alloc, &mut desk, Actor(alice), Actor(bob))?;
+    match open_shelf(alloc)? {
+        Some((mut shelf, alice)) => fill(&rt, alloc, &mut shelf, alice),
+        None => println!(rt; "no bank"),
+    }
 }

@@ -1,7 +1,6 @@
 //! The policies of the tests: two tenants share the main arena, and a vault is for one alone.
 
 use hg_policy::Policy;
-
 use hg_policy_text::read_policy;
 use std::alloc::Global;
 use std::process::Abort;
