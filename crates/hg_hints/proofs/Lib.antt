@@ -1,3 +1,4 @@
 mod Finds
 mod Lists
 mod Hinted
+mod Numbered

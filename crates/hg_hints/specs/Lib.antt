@@ -1,5 +1,6 @@
 pub mod Keys
 pub mod Near
+pub mod PolicyNames
 pub mod Reasons
 pub mod Spots
 pub mod Hints

@@ -5,6 +5,7 @@
 mod alike;
 mod keys;
 mod policy;
+mod policy_names;
 mod push;
 mod reason;
 mod spot;
@@ -13,4 +14,5 @@ mod word;
 
 pub use alike::near;
 pub use policy::policy_hint;
+pub use policy_names::{Kind, near_to, push_near};
 pub use trace::trace_hint;

@@ -11,8 +11,8 @@ use Rattle.hg_policy.specs.Names.{arena_name, tenant_name}
 use Rattle.hg_trace.specs.declared.line.Command.{Command}
 use Rattle.hg_trace.specs.declared.line.Command.TheVariants as command
 use Rattle.hg_replay.specs.Text.{rule_text}
-use Rattle.hg_strangers.specs.Texts.{near_text, near_to}
-use Rattle.hg_strangers.specs.declared.mention.Kind.TheVariants as named
+use Rattle.hg_hints.specs.PolicyNames.{near_text, near_to}
+use Rattle.hg_hints.specs.declared.policy_names.Kind.TheVariants as named
 use Rattle.hg_reasons.specs.declared.past.Bound.{Bound}
 use Rattle.hg_reasons.specs.declared.reason.Between.{Between}
 use Rattle.hg_reasons.specs.declared.reason.Charged.{Charged}

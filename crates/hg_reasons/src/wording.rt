@@ -12,8 +12,8 @@ mod naming;
 mod plain;
 
 use crate::reason::{Between, Charged, Held, Reason};
+use hg_hints::{Kind, near_to, push_near};
 use hg_policy::Policy;
-use hg_strangers::{Kind, near_to, push_near};
 use hg_text::{push, push_count};
 use hg_trace::StoredLine;
 use lists::{push_admitted, push_rights, right_text};

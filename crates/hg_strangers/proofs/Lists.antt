@@ -1,27 +1,14 @@
 -- Lists that grow by one, and what is seen of their items.
-use Rattle.std.proofs.Common.{◌≡◌, Bor, ℕ, ◌+◌, ◌<◌, Bool, ◌||◌, List, [], ◌∷◌, ◌++◌, length, map, take, get_or, refl, sym, ap, subst, ◌∙◌, append_assoc, arith}
+use Rattle.std.proofs.Common.{◌≡◌, ℕ, ◌+◌, ◌<◌, Bool, ◌||◌, List, [], ◌∷◌, ◌++◌, length, map, take, get_or, refl, sym, ap, ◌∙◌, append_assoc}
 use Rattle.std.specs.Prelude.{fold}
-use Rattle.std.specs.List.{flat_map, list_any, range_with_len}
+use Rattle.std.specs.List.{flat_map, list_any}
 use Rattle.std.proofs.lemmas.Grind.{flat_map-append}
 use Rattle.std.proofs.lemmas.List.{take_more, map_push, append-nil}
-use Rattle.std.proofs.lemmas.List.FromFn.{map-range_with_len_more}
-
--- the texts of names
-abbrev pub texts : List (Bor (List ℕ)) → List (List ℕ)
-texts names = map (λ name. name.now) names
 
 -- whether some item passes a test of what is seen of it
 pub list_any-map : {X Y : Type 0} (p : Y → Bool) (h : X → Y) (xs : List X) → list_any p (map h xs) ≡ list_any (λ x. p (h x)) xs
 list_any-map p h [] = refl
 list_any-map p h (x ∷ xs) = ap (λ b. p (h x) || b) (list_any-map p h xs)
-
--- what each number stands for, with one number more
-pub each_more : {A : Type 0} (f : ℕ → A) (i : ℕ) (now next : List A) → now ≡ map f (range_with_len 0 i) → next ≡ now ++ f i ∷ [] → next ≡ map f (range_with_len 0 (i + 1))
-each_more f i now next so_far more =
-    more ∙ ap (λ t. t ++ f i ∷ []) so_far ∙ sym (map-range_with_len_more f 0 i i (omega arith))
-
-pub each_all : {A : Type 0} (f : ℕ → A) (i n : ℕ) (now : List A) → i ≡ n → now ≡ map f (range_with_len 0 i) → now ≡ map f (range_with_len 0 n)
-each_all f i n now e so_far = subst (λ m. now ≡ map f (range_with_len 0 m)) e so_far
 
 -- a list up to its next item, and what is folded over it
 take_next : {X : Type 0} (xs : List X) (i : ℕ) (x : X) → i < length xs → x ≡ get_or xs i x → take (i + 1) xs ≡ take i xs ++ x ∷ []

@@ -8,8 +8,8 @@ use Rattle.hg_policy.specs.Names.{arena_number, tenant_number}
 use Rattle.hg_trace.specs.declared.line.Command.{Command}
 use Rattle.hg_trace.specs.declared.line.Command.TheVariants as command
 use Rattle.hg_trace.specs.declared.line.Line.{Line}
-use Rattle.hg_strangers.specs.declared.mention.Kind.{Kind}
-use Rattle.hg_strangers.specs.declared.mention.Kind.TheVariants as kind
+use Rattle.hg_hints.specs.declared.policy_names.Kind.{Kind}
+use Rattle.hg_hints.specs.declared.policy_names.Kind.TheVariants as kind
 use Rattle.hg_strangers.specs.declared.mention.Mention as kept
 
 -- a name as what it stands for, and the number of a line that says it

@@ -1,38 +1,18 @@
 -- What a check of a policy and a trace prints.
-use Rattle.std.specs.Prelude.{◌++◌, ℕ, Bool, List, [], Option, Some, None, codes, decimal, length, map}
-use Rattle.std.specs.Prelude.{unwrap_or, if◌then◌else◌}
-use Rattle.std.specs.List.{flat_map, list_any, range_with_len}
+use Rattle.std.specs.Prelude.{◌++◌, ℕ, Bool, List, [], Option, codes, decimal}
+use Rattle.std.specs.Prelude.{if◌then◌else◌}
+use Rattle.std.specs.List.{flat_map, list_any}
 use Rattle.hg_machine.specs.Policy.{Policy}
-use Rattle.hg_policy.specs.Names.{arena_name, tenant_name}
 use Rattle.hg_replay.specs.Checks.{counts_line}
 use Rattle.hg_trace.specs.declared.line.Line.{Line}
-use Rattle.hg_strangers.specs.declared.mention.Kind.{Kind}
-use Rattle.hg_strangers.specs.declared.mention.Kind.TheVariants as kind
+use Rattle.hg_hints.specs.declared.policy_names.Kind.{Kind}
+use Rattle.hg_hints.specs.declared.policy_names.Kind.TheVariants as kind
 use Rattle.hg_strangers.specs.Mentions.{Mention, lacked, lines_that_say, says_another}
-use Rattle.hg_hints.specs.Near.{near}
-
--- the names that a policy has of a kind
-abbrev pub tenant_at : Policy → ℕ → List ℕ
-tenant_at policy number = unwrap_or (tenant_name policy number) []
-
-abbrev pub arena_at : Policy → ℕ → List ℕ
-arena_at policy number = unwrap_or (arena_name policy number) []
-
-abbrev pub names_of : Policy → Kind → List (List ℕ)
-names_of policy kind.Tenant = map (tenant_at policy) (range_with_len 0 (length policy.tenants))
-names_of policy kind.Arena = map (arena_at policy) (range_with_len 0 (length policy.arenas))
+use Rattle.hg_hints.specs.PolicyNames.{near_text, near_to}
 
 abbrev pub kind_text : Kind → List ℕ
 kind_text kind.Tenant = codes "tenant "
 kind_text kind.Arena = codes "arena "
-
--- a name that is like the one that is lacked, if the policy has one
-unfoldable pub near_text : Option (List ℕ) → List ℕ
-near_text None = []
-near_text (Some name) = codes " (" ++ name ++ codes "?)"
-
-abbrev pub near_to : Policy → Kind → List ℕ → Option (List ℕ)
-near_to policy kind name = near (names_of policy kind) name
 
 -- a name that the policy lacks: the first line that says it, one that is like it, and how many lines do
 unfoldable pub lacked_text : ℕ → Kind → List ℕ → List ℕ

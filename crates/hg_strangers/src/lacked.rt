@@ -7,7 +7,8 @@ ghost use Rattle.hg_trace.specs.Stored.{line_in, lines_in};
 ghost use Rattle.hg_strangers.specs.Mentions.{is_among, lacked, lacked_of, lines_that_say};
 ghost use Rattle.hg_strangers.specs.Mentions.{noted, noted_in, option_list, says_another, seen};
 
-use crate::mention::{Kind, Mention, knows, said};
+use crate::mention::{Mention, knows, said};
+use hg_hints::Kind;
 use hg_policy::Policy;
 use hg_trace::{StoredLine, Trace};
 use std::alloc::{AllocError, Global};

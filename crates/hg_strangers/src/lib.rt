@@ -6,6 +6,4 @@ mod mention;
 mod run;
 mod text;
 
-pub use mention::Kind;
 pub use run::run_check_trace;
-pub use text::{near_to, push_near};

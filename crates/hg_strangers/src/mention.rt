@@ -7,15 +7,9 @@ ghost use Rattle.hg_trace.specs.Stored.{command_in, line_in, named};
 ghost use Rattle.hg_strangers.specs.Mentions.{actor_said, arena_said, is_same, knows, said, says};
 ghost use Rattle.hg_strangers.specs.Mentions.{seen};
 
+use hg_hints::Kind;
 use hg_policy::Policy;
 use hg_trace::{StoredCommand, StoredLine};
-
-/// What a name stands for.
-#[derive(Clone, Copy, Debug, PartialEq, Eq)]
-pub enum Kind {
-    Tenant,
-    Arena,
-}
 
 /// A name that a line says, by the number of the line.
 #[derive(Drop)]

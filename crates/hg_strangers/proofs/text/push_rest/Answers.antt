@@ -1,7 +1,8 @@
 use Rattle.std.proofs.Common.{◌≡◌, codes, option_map}
 use Rattle.std.specs.Prelude.{decimal}
 use Rattle.std.proofs.lemmas.Result.{on_ok_weaker}
-use Rattle.hg_strangers.specs.Texts.{near_text, rest_text}
+use Rattle.hg_hints.specs.PolicyNames.{near_text}
+use Rattle.hg_strangers.specs.Texts.{rest_text}
 use Rattle.hg_strangers.proofs.Lists.{pieces}
 use Rattle.hg_strangers.proofs.text.push_rest.Goals as goal
 

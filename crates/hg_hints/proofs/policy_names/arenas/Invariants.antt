@@ -1,8 +1,8 @@
 use Rattle.std.proofs.Common.{◌≡◌, map}
 use Rattle.std.specs.List.{range_with_len}
-use Rattle.hg_strangers.specs.Texts.{arena_at}
-use Rattle.hg_strangers.proofs.Lists.{texts}
-use Rattle.hg_strangers.proofs.text.arenas.Given as goal
+use Rattle.hg_hints.specs.PolicyNames.{arena_at}
+use Rattle.hg_hints.proofs.Numbered.{texts}
+use Rattle.hg_hints.proofs.policy_names.arenas.Given as goal
 
 -- the names so far
 abbrev pub invariant-loop-arena : goal.invariant-loop-arena

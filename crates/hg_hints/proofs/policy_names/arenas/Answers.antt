@@ -1,8 +1,8 @@
 use Rattle.std.proofs.Common.{◌≡◌, ◌++◌, ◌∷◌, [], length, ap, ◌∙◌, arith}
 use Rattle.std.proofs.lemmas.List.{map_push}
-use Rattle.hg_strangers.specs.Texts.{arena_at}
-use Rattle.hg_strangers.proofs.Lists.{each_all, each_more, texts}
-use Rattle.hg_strangers.proofs.text.arenas.Goals as goal
+use Rattle.hg_hints.specs.PolicyNames.{arena_at}
+use Rattle.hg_hints.proofs.Numbered.{each_all, each_more, texts}
+use Rattle.hg_hints.proofs.policy_names.arenas.Goals as goal
 
 pub loop-arena-preserved : goal.loop-arena-preserved
 loop-arena-preserved c =

@@ -1,8 +1,8 @@
 use Rattle.std.proofs.Common.{◌≡◌, map}
 use Rattle.std.specs.List.{range_with_len}
-use Rattle.hg_strangers.specs.Texts.{tenant_at}
-use Rattle.hg_strangers.proofs.Lists.{texts}
-use Rattle.hg_strangers.proofs.text.tenants.Given as goal
+use Rattle.hg_hints.specs.PolicyNames.{tenant_at}
+use Rattle.hg_hints.proofs.Numbered.{texts}
+use Rattle.hg_hints.proofs.policy_names.tenants.Given as goal
 
 -- the names so far
 abbrev pub invariant-loop-tenant : goal.invariant-loop-tenant
