@@ -1,4 +1,5 @@
--- What the clauses of a bank's calls cite, by one name: its files are named as those of a core are.
+-- What the clauses of a bank's calls cite, by one name, but for those of many words at once: its files
+-- are named as those of a core are.
 pub use Rattle.hg_bank.specs.State.{BankState, current_of, charge_over, with_core, with_current}
 pub use Rattle.hg_bank.specs.Order.{round_from}
 pub use Rattle.hg_bank.specs.Requests.{Request, alloc, refill, named, event_of, server, unserved}

@@ -1,6 +1,6 @@
 //! A worker at a core.
 
-ghost use Rattle.std.specs.Prelude.{◌≡◌, ◌<◌, [], ◌∷◌, IfOk, IfSome};
+ghost use Rattle.std.specs.Prelude.{◌≡◌, ◌<◌, ◌≤◌, [], ◌∷◌, IfOk, MatchOption};
 ghost use Rattle.heapguard_core.specs.Answers.{read_answer};
 ghost use Rattle.heapguard_core.specs.Steps.{Run, Step};
 ghost use Rattle.heapguard_core.specs.declared.Answer.TheVariants as Answer;
@@ -20,9 +20,10 @@ pub struct Desk {
 }
 
 impl Desk {
-    /// The desk of a worker, if the policy has that.
+    /// The desk of a worker; `None` where the policy has no such worker.
     pub fn at(core: Core, worker: u8) -> Option<Desk>
-        ensures { IfSome result (λ desk. desk.core ≡ core) }
+        ensures { MatchOption result (core.state.policy.workers ≤ worker)
+            (λ desk. (desk.core ≡ core) × (desk.worker ≡ worker)) }
     {
         if worker < core.policy().workers() {
             Some(Desk { core, worker })

@@ -1,6 +1,6 @@
 //! A worker at a bank, which grows as it is filled.
 
-ghost use Rattle.std.specs.Prelude.{◌≡◌, ◌<◌, IfOk, IfSome};
+ghost use Rattle.std.specs.Prelude.{◌≡◌, ◌<◌, ◌≤◌, IfOk, MatchOption};
 ghost use Rattle.heapguard_core.specs.Answers.{read_answer};
 ghost use Rattle.heapguard_core.specs.Banks.{BankState, BankStep, alloc, named};
 ghost use Rattle.heapguard_core.specs.declared.Answer.TheVariants as Answer;
@@ -21,9 +21,10 @@ pub struct Shelf {
 }
 
 impl Shelf {
-    /// The shelf of a worker, if the policy has that.
+    /// The shelf of a worker; `None` where the policy has no such worker.
     pub fn at(bank: Bank, worker: u8) -> Option<Shelf>
-        ensures { IfSome result (λ shelf. shelf.bank ≡ bank) }
+        ensures { MatchOption result (bank.policy.workers ≤ worker)
+            (λ shelf. (shelf.bank ≡ bank) × (shelf.worker ≡ worker)) }
     {
         if worker < bank.policy().workers() {
             Some(Shelf { bank, worker })
