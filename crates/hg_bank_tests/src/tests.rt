@@ -3,4 +3,5 @@ mod asked;
 mod at_once;
 mod refused;
 mod replies;
+mod same;
 mod worked;

@@ -4,6 +4,7 @@ ghost use Rattle.std.specs.Prelude.{◌≡◌, vec_capacity};
 ghost use Rattle.hg_bank.specs.Parts.{AreParts};
 
 use crate::tests::asked::{ALICE, BOB, MAIN, alloc, grow, opened, refill};
+use crate::tests::same::same;
 use hg_bank::{Bank, BankHandle, BankParts};
 use hg_core::{Core, Refused};
 use hg_machine::Rule;
@@ -21,22 +22,22 @@ fn next_core(rt: &impl Abort, bank: &mut Bank) -> Option<u16> {
 fn in_second(rt: &impl Abort, memory: Global) -> (Bank, BankHandle) {
     let mut bank = opened(memory, 3).expect(rt, "a bank");
     assert!(rt; refill(rt, &mut bank, 0, MAIN).is_ok());
-    assert_eq!(rt; grow(rt, &mut bank, memory), Some(1));
+    same(rt, grow(rt, &mut bank, memory), Some(1));
     assert!(rt; refill(rt, &mut bank, 0, MAIN).is_ok());
     let block = alloc(rt, &mut bank, 0, ALICE, MAIN, 8).expect(rt, "a block");
     assert!(rt; 0 < bank.policy().workers());
     assert!(rt; bank.write(0, ALICE, block, 0, 7).is_ok());
-    assert_eq!(rt; next_core(rt, &mut bank), Some(1));
+    same(rt, next_core(rt, &mut bank), Some(1));
     (bank, block)
 }
 
 /// The cores count what they did in the bank.
 fn are_parts(rt: &impl Abort, parts: &BankParts) {
-    assert_eq!(rt; parts.room, 3);
+    same(rt, parts.room, 3);
     assert_eq!(rt; parts.cores.len(), 2);
-    assert_eq!(rt; parts.cores[0].charge(0, 0), 0);
-    assert_eq!(rt; parts.cores[1].charge(0, 0), 8);
-    assert_eq!(rt; parts.cores[1].charge(0, 1), 8);
+    same(rt, parts.cores[0].charge(0, 0), 0);
+    same(rt, parts.cores[1].charge(0, 0), 8);
+    same(rt, parts.cores[1].charge(0, 1), 8);
 }
 
 // A bank that is made again goes on where it was: words, charges, one limit over all cores, and room
@@ -49,17 +50,18 @@ fn made_again(rt: HostRuntime) {
     let Ok(mut bank) = Bank::from_parts(rt.alloc(), parts) else {
         panic!(&rt; "no memory");
     };
-    assert_eq!(&rt; bank.charge(0, 0), Some(8));
+    same(&rt, bank.charge(0, 0), Some(8));
     assert!(&rt; 0 < bank.policy().workers());
-    assert_eq!(&rt; bank.read(0, ALICE, block, 0), Ok(7));
-    assert_eq!(&rt; next_core(&rt, &mut bank), Some(0));
-    assert_eq!(&rt; bank.charge(0, 1), Some(16));
+    same(&rt, bank.read(0, ALICE, block, 0), Ok(7));
+    same(&rt, next_core(&rt, &mut bank), Some(0));
+    same(&rt, bank.charge(0, 1), Some(16));
     // Bob may have 64 bytes: of the first core alone these would fit.
-    assert_eq!(&rt;
+    same(
+        &rt,
         alloc(&rt, &mut bank, 0, BOB, MAIN, 56),
-        Err(Refused::Denied(Rule::OverLimit))
+        Err(Refused::Denied(Rule::OverLimit)),
     );
-    assert_eq!(&rt; grow(&rt, &mut bank, rt.alloc()), Some(2));
+    same(&rt, grow(&rt, &mut bank, rt.alloc()), Some(2));
     assert!(&rt; bank.is_full());
     drop(bank);
 }
@@ -98,10 +100,10 @@ fn audited_core_by_core(rt: HostRuntime) {
     let Ok(mut bank) = audited_again(&rt, rt.alloc(), bank.into_parts()) else {
         panic!(&rt; "no memory");
     };
-    assert_eq!(&rt; bank.cores(), 2);
-    assert_eq!(&rt; bank.charge(0, 1), Some(8));
+    same(&rt, bank.cores(), 2);
+    same(&rt, bank.charge(0, 1), Some(8));
     assert!(&rt; 0 < bank.policy().workers());
-    assert_eq!(&rt; bank.read(0, ALICE, block, 0), Ok(7));
+    same(&rt, bank.read(0, ALICE, block, 0), Ok(7));
     drop(bank);
 }
 
@@ -115,11 +117,11 @@ fn made_again_refused_in_turn(rt: HostRuntime) {
     assert!(&rt; refill(&rt, &mut bank, 0, MAIN).is_ok());
     assert!(&rt; alloc(&rt, &mut bank, 0, ALICE, MAIN, 8).is_ok());
     match Bank::from_parts(rt.alloc(), bank.into_parts()) {
-        Ok(bank) => assert_eq!(&rt; bank.charge(0, 0), Some(8)),
+        Ok(bank) => same(&rt, bank.charge(0, 0), Some(8)),
         Err(parts) => {
-            assert_eq!(&rt; parts.room, 2);
+            same(&rt, parts.room, 2);
             assert_eq!(&rt; parts.cores.len(), 1);
-            assert_eq!(&rt; parts.cores[0].charge(0, 0), 8);
+            same(&rt, parts.cores[0].charge(0, 0), 8);
         }
     }
 }

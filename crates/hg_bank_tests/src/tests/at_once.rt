@@ -1,6 +1,7 @@
 //! Many words, and all blocks of an owner, in one call.
 
 use crate::tests::asked::{ALICE, BOB, MAIN, alloc, grow, opened, refill};
+use crate::tests::same::same;
 use hg_bank::{Bank, BankHandle};
 use hg_bulk::Progress;
 use hg_core::Refused;
@@ -56,22 +57,34 @@ fn words_at_once(rt: HostRuntime) {
     let mut bank = opened(rt.alloc(), 2).expect(&rt, "a bank");
     assert!(&rt; refill(&rt, &mut bank, 0, MAIN).is_ok());
     let block = alloc(&rt, &mut bank, 0, ALICE, MAIN, 24).expect(&rt, "a block");
-    assert_eq!(&rt; write_words(&rt, &mut bank, ALICE, block, &[5, 6]), all(2));
+    same(
+        &rt,
+        write_words(&rt, &mut bank, ALICE, block, &[5, 6]),
+        all(2),
+    );
     let mut room = [9; 3];
     let told = Progress {
         done: 2,
         refused: Some(Refused::OutOfBlock),
     };
-    assert_eq!(&rt; read_words(&rt, &mut bank, BOB, block, &mut room), told);
-    assert_eq!(&rt; room, [5, 6, 9]);
+    same(&rt, read_words(&rt, &mut bank, BOB, block, &mut room), told);
+    same(&rt, room, [5, 6, 9]);
     let denied = refused(0, Rule::NotGranted);
-    assert_eq!(&rt; write_words(&rt, &mut bank, BOB, block, &[1]), denied);
+    same(&rt, write_words(&rt, &mut bank, BOB, block, &[1]), denied);
     let away = BankHandle { core: 1, ..block };
     let stale = refused(0, Rule::Stale(0));
-    assert_eq!(&rt; read_words(&rt, &mut bank, ALICE, away, &mut room), stale);
-    assert_eq!(&rt; read_words(&rt, &mut bank, ALICE, away, &mut []), all(0));
-    assert_eq!(&rt; write_words(&rt, &mut bank, ALICE, away, &[1]), stale);
-    assert_eq!(&rt; room, [5, 6, 9]);
+    same(
+        &rt,
+        read_words(&rt, &mut bank, ALICE, away, &mut room),
+        stale,
+    );
+    same(
+        &rt,
+        read_words(&rt, &mut bank, ALICE, away, &mut []),
+        all(0),
+    );
+    same(&rt, write_words(&rt, &mut bank, ALICE, away, &[1]), stale);
+    same(&rt, room, [5, 6, 9]);
     drop(bank);
 }
 
@@ -79,20 +92,20 @@ fn words_at_once(rt: HostRuntime) {
 #[test]
 fn free_all_of_a_core(rt: HostRuntime) {
     let mut bank = opened(rt.alloc(), 2).expect(&rt, "a bank");
-    assert_eq!(&rt; grow(&rt, &mut bank, rt.alloc()), Some(1));
+    same(&rt, grow(&rt, &mut bank, rt.alloc()), Some(1));
     assert!(&rt; refill(&rt, &mut bank, 0, MAIN).is_ok());
     assert!(&rt; alloc(&rt, &mut bank, 0, ALICE, MAIN, 8).is_ok());
     assert!(&rt; alloc(&rt, &mut bank, 0, ALICE, MAIN, 4096).is_ok());
     assert!(&rt; refill(&rt, &mut bank, 0, MAIN).is_ok());
     let other = alloc(&rt, &mut bank, 0, ALICE, MAIN, 16).expect(&rt, "a block");
-    assert_eq!(&rt; other.core, 1);
-    assert_eq!(&rt; bank.charge(0, 0), Some(4120));
-    assert_eq!(&rt; free_all(&rt, &mut bank, ALICE, 0), 2);
-    assert_eq!(&rt; bank.charge(0, 0), Some(16));
-    assert_eq!(&rt; free_all(&rt, &mut bank, ALICE, 0), 0);
-    assert_eq!(&rt; free_all(&rt, &mut bank, ALICE, 2), 0);
-    assert_eq!(&rt; free_all(&rt, &mut bank, Actor(7), 1), 0);
-    assert_eq!(&rt; bank.charge(0, 0), Some(16));
+    same(&rt, other.core, 1);
+    same(&rt, bank.charge(0, 0), Some(4120));
+    same(&rt, free_all(&rt, &mut bank, ALICE, 0), 2);
+    same(&rt, bank.charge(0, 0), Some(16));
+    same(&rt, free_all(&rt, &mut bank, ALICE, 0), 0);
+    same(&rt, free_all(&rt, &mut bank, ALICE, 2), 0);
+    same(&rt, free_all(&rt, &mut bank, Actor(7), 1), 0);
+    same(&rt, bank.charge(0, 0), Some(16));
     drop(bank);
 }
 
@@ -102,7 +115,7 @@ fn core_of_a_number(rt: HostRuntime) {
     let mut bank = opened(rt.alloc(), 2).expect(&rt, "a bank");
     assert!(&rt; refill(&rt, &mut bank, 0, MAIN).is_ok());
     let holder = bank.core(0).map(|core| core.holder(0));
-    assert_eq!(&rt; holder, Some(Some(0)));
+    same(&rt, holder, Some(Some(0)));
     assert!(&rt; bank.core(1).is_none());
     assert!(&rt; bank.core(u16::MAX).is_none());
     drop(bank);

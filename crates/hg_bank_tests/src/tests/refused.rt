@@ -1,6 +1,7 @@
 //! Banks that may be refused memory.
 
 use crate::tests::asked::{ALICE, MAIN, alloc, opened, refill};
+use crate::tests::same::same;
 use hg_bank::Bank;
 use std::alloc::Global;
 use std::process::Abort;
@@ -13,10 +14,10 @@ fn grown(rt: &impl Abort, bank: &mut Bank, memory: Global) {
     }
     match bank.grow(memory) {
         Ok(number) => {
-            assert_eq!(rt; number, before);
-            assert_eq!(rt; bank.cores(), before.saturating_add(1));
+            same(rt, number, before);
+            same(rt, bank.cores(), before.saturating_add(1));
         }
-        Err(_) => assert_eq!(rt; bank.cores(), before),
+        Err(_) => same(rt, bank.cores(), before),
     }
 }
 
@@ -29,10 +30,10 @@ fn bank_refused_in_turn(rt: HostRuntime) {
         let block = alloc(&rt, &mut bank, 0, ALICE, MAIN, 8).expect(&rt, "a block");
         grown(&rt, &mut bank, rt.alloc());
         assert!(&rt; 0 < bank.policy().workers());
-        assert_eq!(&rt; bank.read(0, ALICE, block, 0), Ok(0));
-        assert_eq!(&rt; bank.charge(0, 0), Some(8));
+        same(&rt, bank.read(0, ALICE, block, 0), Ok(0));
+        same(&rt, bank.charge(0, 0), Some(8));
         grown(&rt, &mut bank, rt.alloc());
-        assert_eq!(&rt; bank.charge(0, 0), Some(8));
+        same(&rt, bank.charge(0, 0), Some(8));
         drop(bank);
     }
 }

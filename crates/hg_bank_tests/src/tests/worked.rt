@@ -3,6 +3,7 @@
 use crate::tests::asked::{
     ALICE, BOB, MAIN, STRANGER, VAULT, abandon, alloc, free, grow, opened, refill,
 };
+use crate::tests::same::same;
 use hg_bank::{Bank, BankHandle, BankSegment};
 use hg_core::{Freed, NoSegment, NotFreed, NotHeld, NothingInHand, Refused};
 use hg_machine::Rule;
@@ -27,53 +28,59 @@ fn core_of(told: Result<BankHandle, Refused>) -> Option<u16> {
 #[test]
 fn asked_round_and_round(rt: HostRuntime) {
     let mut bank = bank(&rt, rt.alloc());
-    assert_eq!(&rt;
+    same(
+        &rt,
         refill(&rt, &mut bank, 0, MAIN),
         Ok(BankSegment {
             core: 0,
-            segment: 0
-        })
+            segment: 0,
+        }),
     );
-    assert_eq!(&rt; refill(&rt, &mut bank, 0, MAIN), Err(NoSegment));
+    same(&rt, refill(&rt, &mut bank, 0, MAIN), Err(NoSegment));
     let first = alloc(&rt, &mut bank, 0, ALICE, MAIN, SEGMENT).expect(&rt, "a block");
-    assert_eq!(&rt; first.core, 0);
-    assert_eq!(&rt;
+    same(&rt, first.core, 0);
+    same(
+        &rt,
         alloc(&rt, &mut bank, 0, BOB, MAIN, 8),
-        Err(Refused::NoRoom)
+        Err(Refused::NoRoom),
     );
-    assert_eq!(&rt; grow(&rt, &mut bank, rt.alloc()), Some(1));
-    assert_eq!(&rt;
+    same(&rt, grow(&rt, &mut bank, rt.alloc()), Some(1));
+    same(
+        &rt,
         refill(&rt, &mut bank, 0, MAIN),
         Ok(BankSegment {
             core: 1,
-            segment: 0
-        })
+            segment: 0,
+        }),
     );
-    assert_eq!(&rt;
+    same(
+        &rt,
         core_of(alloc(&rt, &mut bank, 0, ALICE, MAIN, SEGMENT)),
-        Some(1)
+        Some(1),
     );
-    assert_eq!(&rt;
+    same(
+        &rt,
         alloc(&rt, &mut bank, 0, BOB, MAIN, 8),
-        Err(Refused::NoRoom)
+        Err(Refused::NoRoom),
     );
-    assert_eq!(&rt; free(&rt, &mut bank, 0, ALICE, first), Ok(Freed::Here));
+    same(&rt, free(&rt, &mut bank, 0, ALICE, first), Ok(Freed::Here));
     let again = alloc(&rt, &mut bank, 0, ALICE, MAIN, SEGMENT).expect(&rt, "a block");
-    assert_eq!(&rt; again.core, 0);
-    assert_eq!(&rt; again.handle.generation, 2);
+    same(&rt, again.core, 0);
+    same(&rt, again.handle.generation, 2);
     drop(bank);
 }
 
 /// A bank of three cores, in each of which worker 0 holds the segment for two tenants.
 fn held(rt: &impl Abort, memory: Global) -> Bank {
     let mut bank = bank(rt, memory);
-    assert_eq!(rt; grow(rt, &mut bank, memory), Some(1));
-    assert_eq!(rt; grow(rt, &mut bank, memory), Some(2));
+    same(rt, grow(rt, &mut bank, memory), Some(1));
+    same(rt, grow(rt, &mut bank, memory), Some(2));
     assert!(rt; bank.is_full());
     for core in 0..3 {
-        assert_eq!(rt;
+        same(
+            rt,
             refill(rt, &mut bank, 0, MAIN),
-            Ok(BankSegment { core, segment: 0 })
+            Ok(BankSegment { core, segment: 0 }),
         );
     }
     bank
@@ -83,35 +90,45 @@ fn held(rt: &impl Abort, memory: Global) -> Bank {
 #[test]
 fn limit_over_all_cores(rt: HostRuntime) {
     let mut bank = held(&rt, rt.alloc());
-    assert_eq!(&rt;
+    same(
+        &rt,
         core_of(alloc(&rt, &mut bank, 0, ALICE, MAIN, SEGMENT)),
-        Some(2)
+        Some(2),
     );
-    assert_eq!(&rt;
+    same(
+        &rt,
         core_of(alloc(&rt, &mut bank, 0, ALICE, MAIN, SEGMENT)),
-        Some(0)
+        Some(0),
     );
-    assert_eq!(&rt; bank.charge(0, 0), Some(2 * SEGMENT));
-    assert_eq!(&rt;
+    same(&rt, bank.charge(0, 0), Some(2 * SEGMENT));
+    same(
+        &rt,
         alloc(&rt, &mut bank, 0, ALICE, MAIN, 16),
-        Err(Refused::Denied(Rule::OverLimit))
+        Err(Refused::Denied(Rule::OverLimit)),
     );
-    assert_eq!(&rt; core_of(alloc(&rt, &mut bank, 0, ALICE, MAIN, 8)), Some(1));
-    assert_eq!(&rt; bank.charge(0, 0), Some(2 * SEGMENT + 8));
-    assert_eq!(&rt; bank.charge(1, 0), Some(0));
-    assert_eq!(&rt; bank.charge(2, 0), None);
-    assert_eq!(&rt; bank.charge(0, 2), None);
-    assert_eq!(&rt;
+    same(
+        &rt,
+        core_of(alloc(&rt, &mut bank, 0, ALICE, MAIN, 8)),
+        Some(1),
+    );
+    same(&rt, bank.charge(0, 0), Some(2 * SEGMENT + 8));
+    same(&rt, bank.charge(1, 0), Some(0));
+    same(&rt, bank.charge(2, 0), None);
+    same(&rt, bank.charge(0, 2), None);
+    same(
+        &rt,
         alloc(&rt, &mut bank, 0, STRANGER, MAIN, 8),
-        Err(Refused::Denied(Rule::Stranger))
+        Err(Refused::Denied(Rule::Stranger)),
     );
-    assert_eq!(&rt;
+    same(
+        &rt,
         alloc(&rt, &mut bank, 0, BOB, VAULT, 8),
-        Err(Refused::Denied(Rule::ForeignArena))
+        Err(Refused::Denied(Rule::ForeignArena)),
     );
-    assert_eq!(&rt;
+    same(
+        &rt,
         alloc(&rt, &mut bank, 0, ALICE, MAIN, SEGMENT + 1),
-        Err(Refused::TooLarge)
+        Err(Refused::TooLarge),
     );
     drop(bank);
 }
@@ -120,25 +137,25 @@ fn limit_over_all_cores(rt: HostRuntime) {
 #[test]
 fn adopted_is_counted(rt: HostRuntime) {
     let mut bank = bank(&rt, rt.alloc());
-    assert_eq!(&rt; grow(&rt, &mut bank, rt.alloc()), Some(1));
+    same(&rt, grow(&rt, &mut bank, rt.alloc()), Some(1));
     let zero = refill(&rt, &mut bank, 0, MAIN).expect(&rt, "a segment");
     let one = refill(&rt, &mut bank, 1, MAIN).expect(&rt, "a segment");
-    assert_eq!(&rt; one.core, 1);
+    same(&rt, one.core, 1);
     let block = alloc(&rt, &mut bank, 0, ALICE, MAIN, SEGMENT).expect(&rt, "a block");
-    assert_eq!(&rt; abandon(&rt, &mut bank, 1, zero), Err(NotHeld));
-    assert_eq!(&rt; abandon(&rt, &mut bank, 0, zero), Ok(()));
-    assert_eq!(&rt; bank.charge(0, 0), Some(0));
-    assert_eq!(&rt; refill(&rt, &mut bank, 1, MAIN), Ok(zero));
-    assert_eq!(&rt; bank.charge(1, 0), Some(SEGMENT));
-    assert_eq!(&rt; free(&rt, &mut bank, 0, BOB, block), Ok(Freed::InHand));
-    assert_eq!(&rt; bank.charge(1, 0), Some(SEGMENT));
+    same(&rt, abandon(&rt, &mut bank, 1, zero), Err(NotHeld));
+    same(&rt, abandon(&rt, &mut bank, 0, zero), Ok(()));
+    same(&rt, bank.charge(0, 0), Some(0));
+    same(&rt, refill(&rt, &mut bank, 1, MAIN), Ok(zero));
+    same(&rt, bank.charge(1, 0), Some(SEGMENT));
+    same(&rt, free(&rt, &mut bank, 0, BOB, block), Ok(Freed::InHand));
+    same(&rt, bank.charge(1, 0), Some(SEGMENT));
     assert!(&rt; 1 < bank.policy().workers());
-    assert_eq!(&rt; bank.deliver(0, 1), Err(NothingInHand));
+    same(&rt, bank.deliver(0, 1), Err(NothingInHand));
     assert!(&rt; 1 < bank.policy().workers());
-    assert_eq!(&rt; bank.deliver(0, 0), Ok(()));
+    same(&rt, bank.deliver(0, 0), Ok(()));
     assert!(&rt; 1 < bank.policy().workers());
-    assert_eq!(&rt; bank.take(1, zero), Ok(1));
-    assert_eq!(&rt; bank.charge(1, 0), Some(0));
+    same(&rt, bank.take(1, zero), Ok(1));
+    same(&rt, bank.charge(1, 0), Some(0));
     drop(bank);
 }
 
@@ -146,17 +163,19 @@ fn adopted_is_counted(rt: HostRuntime) {
 fn is_absent(rt: &impl Abort, bank: &mut Bank, actor: Actor, block: BankHandle, rule: Rule) {
     let denied = Refused::Denied(rule);
     assert!(rt; 0 < bank.policy().workers());
-    assert_eq!(rt; bank.read(0, actor, block, 0), Err(denied));
+    same(rt, bank.read(0, actor, block, 0), Err(denied));
     assert!(rt; 0 < bank.policy().workers());
-    assert_eq!(rt; bank.write(0, actor, block, 0, 1), Err(denied));
+    same(rt, bank.write(0, actor, block, 0, 1), Err(denied));
     assert!(rt; 0 < bank.policy().workers());
-    assert_eq!(rt;
+    same(
+        rt,
         bank.look(0, actor, block.core, block.handle.place),
-        Err(denied)
+        Err(denied),
     );
-    assert_eq!(rt;
+    same(
+        rt,
         free(rt, bank, 0, actor, block),
-        Err(NotFreed::Denied(rule))
+        Err(NotFreed::Denied(rule)),
     );
 }
 
@@ -169,19 +188,21 @@ fn absent_core(rt: HostRuntime) {
     let away = BankHandle { core: 1, ..block };
     is_absent(&rt, &mut bank, ALICE, away, Rule::Stale(0));
     is_absent(&rt, &mut bank, STRANGER, away, Rule::Stranger);
-    assert_eq!(&rt;
+    same(
+        &rt,
         abandon(&rt, &mut bank, 0, BankSegment { core: 1, ..segment }),
-        Err(NotHeld)
+        Err(NotHeld),
     );
     assert!(&rt; 0 < bank.policy().workers());
-    assert_eq!(&rt;
+    same(
+        &rt,
         bank.take(0, BankSegment { core: 1, ..segment }),
-        Err(NotHeld)
+        Err(NotHeld),
     );
     assert!(&rt; 0 < bank.policy().workers());
-    assert_eq!(&rt; bank.deliver(0, 1), Err(NothingInHand));
+    same(&rt, bank.deliver(0, 1), Err(NothingInHand));
     assert!(&rt; 0 < bank.policy().workers());
-    assert_eq!(&rt; bank.collect(0, 1), 0);
+    same(&rt, bank.collect(0, 1), 0);
     drop(bank);
 }
 
@@ -189,28 +210,32 @@ fn absent_core(rt: HostRuntime) {
 #[test]
 fn words_of_a_core(rt: HostRuntime) {
     let mut bank = bank(&rt, rt.alloc());
-    assert_eq!(&rt; grow(&rt, &mut bank, rt.alloc()), Some(1));
+    same(&rt, grow(&rt, &mut bank, rt.alloc()), Some(1));
     let zero = refill(&rt, &mut bank, 0, MAIN).expect(&rt, "a segment");
     let block = alloc(&rt, &mut bank, 0, ALICE, MAIN, SEGMENT).expect(&rt, "a block");
     let one = refill(&rt, &mut bank, 0, MAIN).expect(&rt, "a segment");
     let other = alloc(&rt, &mut bank, 0, ALICE, MAIN, SEGMENT).expect(&rt, "a block");
-    assert_eq!(&rt; (zero.core, block.core, one.core, other.core), (0, 0, 1, 1));
-    assert_eq!(&rt; block.handle, other.handle);
+    same(
+        &rt,
+        (zero.core, block.core, one.core, other.core),
+        (0, 0, 1, 1),
+    );
+    same(&rt, block.handle, other.handle);
     assert!(&rt; 0 < bank.policy().workers());
-    assert_eq!(&rt; bank.write(0, ALICE, other, 5, 77), Ok(()));
+    same(&rt, bank.write(0, ALICE, other, 5, 77), Ok(()));
     assert!(&rt; 0 < bank.policy().workers());
-    assert_eq!(&rt; bank.read(0, ALICE, block, 5), Ok(0));
+    same(&rt, bank.read(0, ALICE, block, 5), Ok(0));
     assert!(&rt; 0 < bank.policy().workers());
-    assert_eq!(&rt; bank.read(0, BOB, other, 5), Ok(77));
+    same(&rt, bank.read(0, BOB, other, 5), Ok(77));
     assert!(&rt; 0 < bank.policy().workers());
     let row = bank
         .look(0, ALICE, 1, other.handle.place)
         .expect(&rt, "a row");
-    assert_eq!(&rt; row.bytes, 65_536);
-    assert_eq!(&rt; free(&rt, &mut bank, 0, BOB, other), Ok(Freed::Here));
+    same(&rt, row.bytes, 65_536);
+    same(&rt, free(&rt, &mut bank, 0, BOB, other), Ok(Freed::Here));
     assert!(&rt; 0 < bank.policy().workers());
-    assert_eq!(&rt; bank.collect(0, 0), 0);
+    same(&rt, bank.collect(0, 0), 0);
     assert!(&rt; 0 < bank.policy().workers());
-    assert_eq!(&rt; bank.collect(0, 1), 1);
+    same(&rt, bank.collect(0, 1), 1);
     drop(bank);
 }
