@@ -50,6 +50,18 @@ impl<N: ServiceName> KeptList<N> {
         self.segment
     }
 
+    /// The list without its service's name. Nothing changes.
+    pub fn without_name(self) -> RemoteList
+        ensures { result ≡ self.list }
+    {
+        let KeptList {
+            segment: _,
+            list,
+            of: _,
+        } = self;
+        list
+    }
+
     /// Sends what the worker has in hand to this list. `NothingInHand` where that is nothing;
     /// `Busy` where the block is of another segment, or the list has it already, and then it stays
     /// in the hand and the list as it was.

@@ -43,6 +43,27 @@ impl<N: ServiceName> KeptPool<N> {
         })
     }
 
+    /// The pool without its service's name. Nothing else changes.
+    pub fn without_name(self) -> Pool<UnnamedSegment>
+        ensures pool { result ≡ self.pool }
+        ensures of { AreOf number_in N.policy (result.orphans ++ result.fresh) }
+        ensures named { AreOnTable N.table (result.orphans ++ result.fresh) }
+    {
+        let KeptPool { pool, of: _ } = self;
+        pool
+    }
+
+    /// The pool under the name of its service: its segments are as the service's policy has them,
+    /// with seats of the service's table.
+    pub fn with_name(pool: Pool<UnnamedSegment>) -> KeptPool<N>
+        requires of { AreOf number_in N.policy (pool.orphans ++ pool.fresh) }
+        requires named { AreOnTable N.table (pool.orphans ++ pool.fresh) }
+        ensures { result.pool ≡ pool }
+    {
+        let of = PhantomData;
+        KeptPool { pool, of }
+    }
+
     /// Puts a segment that no worker has held with the fresh ones, by its number, as it is: blocks
     /// that were given out there are those of the worker that it comes to.
     pub fn put_fresh(&mut self, one: Segment<UnnamedSegment>)

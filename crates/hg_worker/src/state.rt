@@ -1,8 +1,9 @@
 //! What a worker has, without its service's name.
 
-ghost use Rattle.std.specs.Prelude.{◌≡◌, ◌<◌, ◌+◌, ◌*◌, length};
+ghost use Rattle.std.specs.Prelude.{◌≡◌, ◌<◌, ◌+◌, ◌*◌, length, option_map};
 ghost use Rattle.hg_place.specs.declared.geometry.TheConstants.{SEGMENT_PLACES};
 ghost use Rattle.hg_machine.specs.SoundPolicy.{IsSoundPolicy};
+ghost use Rattle.hg_heap.specs.Held.{is_held};
 ghost use Rattle.hg_heap.specs.Policies.{AreOf};
 ghost use Rattle.hg_table.specs.Named.{table_of_worker};
 ghost use Rattle.hg_table.specs.Seats.{part_on};
@@ -10,7 +11,7 @@ ghost use Rattle.hg_worker.specs.Hands.{KnowsHand};
 ghost use Rattle.hg_worker.specs.Seats.{number_in, part_of_seat, AreOnTable, IsInReach};
 
 use hg_heap::Heap;
-use hg_place::Handle;
+use hg_place::{Handle, Place};
 use hg_policy::Policy;
 use hg_table::{UnnamedSegment, UnnamedWorker};
 
@@ -33,4 +34,30 @@ pub struct WorkerState {
     ghost together: { AreOnTable (table_of_worker seat) heap.segments },
     ghost reach: { IsInReach policy hand },
     ghost known: { KnowsHand number_in part_of_seat hand (part_on seat.badge) heap.segments },
+}
+
+impl WorkerState {
+    /// The worker's number.
+    pub fn number(&self) -> u8
+        ensures { result ≡ self.now.number }
+    {
+        self.number
+    }
+
+    /// Whether the worker holds a segment.
+    pub fn holds(&self, segment: u8) -> bool
+        ensures { result ≡ is_held number_in self.now.heap.segments segment }
+    {
+        self.heap.holds(segment)
+    }
+
+    /// The place of the block in the worker's hand, which is to be sent to the list of its segment.
+    pub fn hand(&self) -> Option<Place>
+        ensures { result ≡ option_map (λ handle. handle.place) self.now.hand }
+    {
+        match self.hand {
+            Some(handle) => Some(handle.place),
+            None => None,
+        }
+    }
 }

@@ -93,23 +93,20 @@ impl<N: ServiceName> Worker<N> {
     pub fn number(&self) -> u8
         ensures { result ≡ self.now.inner.value.number }
     {
-        self.inner.number
+        self.inner.number()
     }
 
     /// Whether the worker holds a segment.
     pub fn holds(&self, segment: u8) -> bool
         ensures { result ≡ is_held number_in self.now.inner.value.heap.segments segment }
     {
-        self.inner.heap.holds(segment)
+        self.inner.holds(segment)
     }
 
     /// The place of the block in the worker's hand, which is to be sent to the list of its segment.
     pub fn hand(&self) -> Option<Place>
         ensures { result ≡ option_map (λ handle. handle.place) self.now.inner.value.hand }
     {
-        match self.inner.hand {
-            Some(handle) => Some(handle.place),
-            None => None,
-        }
+        self.inner.hand()
     }
 }

@@ -1,0 +1,4 @@
+pub mod Parking
+pub mod Named
+pub mod Idle
+pub mod Undone

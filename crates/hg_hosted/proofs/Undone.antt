@@ -1,0 +1,121 @@
+-- Calls that do nothing, and what is parked again.
+use Rattle.std.proofs.Common.{◌≡◌, ℕ, false, Option, None, Some, Result, Ok, Err, IfSome, MatchOption, MatchResult, option_map, sym, ap, subst, refl, ◌∙◌}
+use Rattle.std.proofs.lemmas.Option.{none-some, same_Some}
+use Rattle.hg_machine.specs.declared.Answer.{Answer}
+use Rattle.hg_machine.specs.declared.Answer.TheVariants as answer
+use Rattle.hg_heap.specs.Held.{is_held}
+use Rattle.hg_place.specs.declared.Handle.{Handle}
+use Rattle.hg_service.proofs.Behind.{abandons_nothing, delivers_nothing, takes_nothing}
+use Rattle.hg_table.specs.declared.view.Part.{Part}
+use Rattle.hg_worker.proofs.Records.{stay_goes}
+use Rattle.hg_worker.specs.Seats.{number_in, records_in, seat_shows, seat_steps}
+use Rattle.hg_worker.specs.declared.state.WorkerState.{WorkerState}
+use Rattle.hg_hosted.specs.declared.worker.HostedWorker.{HostedWorker}
+use Rattle.hg_hosted.specs.Behind.{GivesUp, Sends, Stays, TakesIn}
+use Rattle.hg_hosted.specs.Parking.{FitsKept, FitsKnown}
+use Rattle.hg_hosted.specs.Serving.{Serves}
+use Rattle.hg_hosted.specs.States.{LeavesLives}
+
+no_place :
+    (hand : Option Handle) → None ≡ option_map (λ handle. handle.place) hand → hand ≡ None
+no_place None empty = refl
+no_place (Some handle) empty = absurd (none-some _ empty)
+
+pub sends_nothing :
+    (state : WorkerState) → None ≡ option_map (λ handle. handle.place) state.hand
+    → Sends answer.NothingInHand state state
+sends_nothing state empty = record {
+  sent = delivers_nothing state.hand empty;
+  empty = ((λ _. no_place state.hand empty), λ _. refl);
+  heap = refl;
+  seats = record { own = refl; segments = λ segment. refl };
+  home = stay_goes number_in records_in state.heap.segments;
+  rest = (refl, refl);
+}
+
+same_part : (a b : Part) (o : Option Part) → o ≡ Some a → o ≡ Some b → b.ended ≡ a.ended
+same_part a b None was now = absurd (none-some _ was)
+same_part a b (Some one) was now =
+    ap (λ part. part.ended) (sym (same_Some one b now)) ∙ ap (λ part. part.ended) (same_Some one a was)
+
+stay_lives : (state : WorkerState) → LeavesLives state state
+stay_lives state = record {
+  own = refl;
+  segments = λ segment a b was now. same_part a b _ was now;
+}
+
+pub takes_in_nothing :
+    (state : WorkerState) (segment : ℕ) → is_held number_in state.heap.segments segment ≡ false
+    → TakesIn segment answer.NotHeld state state
+takes_in_nothing state segment away = record {
+  taken = takes_nothing number_in records_in seat_shows seat_steps segment state.heap away;
+  unheld = ((λ _. away), λ _. refl);
+  own = refl;
+  lives = stay_lives state;
+  rest = record { policy = refl; number = refl; hand = refl };
+}
+
+pub gives_up_nothing :
+    (state : WorkerState) (segment : ℕ) → is_held number_in state.heap.segments segment ≡ false
+    → GivesUp segment answer.NotHeld state state
+gives_up_nothing state segment away = record {
+  abandoned = abandons_nothing number_in segment state.heap away;
+  unheld = ((λ _. away), λ _. refl);
+  gone = away;
+  others = λ other apart. refl;
+  own = refl;
+  lives = stay_lives state;
+  home = stay_goes number_in records_in state.heap.segments;
+  rest = record { policy = refl; number = refl; hand = refl };
+}
+
+-- what is kept of a part that was put is that part
+pub kept_fits :
+    {T : Type 0} (of_service : WorkerState → T → Type 0) {known : Option WorkerState} {part : T}
+    (kept : Option T) → IfSome kept (λ one. one ≡ part) → FitsKnown of_service known part
+    → FitsKept of_service known kept
+kept_fits of_service None same fits one is = absurd (none-some _ is)
+kept_fits of_service {known = known} (Some kept) same fits one is =
+    subst (λ p. FitsKnown of_service known p) (sym same ∙ same_Some kept one is) fits
+
+-- a worker serves by what its state does, or stays
+pub serves_or_stays :
+    (old new : HostedWorker) (Do : Answer → WorkerState → WorkerState → Type 0) (before after : _)
+    → old.state ≡ Some before → new.state ≡ Some after → (o : Option Answer)
+    → MatchOption o (Stays before.value after.value) (λ a. Do a before.value after.value)
+    → MatchOption o (Serves Stays old new) (λ a. Serves (Do a) old new)
+serves_or_stays old new Do before after was is None stays = record {
+  before = before;
+  after = after;
+  was = was;
+  is = is;
+  does = stays;
+}
+serves_or_stays old new Do before after was is (Some a) does = record {
+  before = before;
+  after = after;
+  was = was;
+  is = is;
+  does = does;
+}
+
+-- the same of what is told, or refused
+pub serves_or_refused :
+    (old new : HostedWorker) {A E : Type 0} (Do : A → WorkerState → WorkerState → Type 0)
+    (before after : _) → old.state ≡ Some before → new.state ≡ Some after → (o : Result A E)
+    → MatchResult o (λ a. Do a before.value after.value) (λ e. Stays before.value after.value)
+    → MatchResult o (λ a. Serves (Do a) old new) (λ e. Serves Stays old new)
+serves_or_refused old new Do before after was is (Ok a) does = record {
+  before = before;
+  after = after;
+  was = was;
+  is = is;
+  does = does;
+}
+serves_or_refused old new Do before after was is (Err e) stays = record {
+  before = before;
+  after = after;
+  was = was;
+  is = is;
+  does = stays;
+}

@@ -1,0 +1,9 @@
+use Rattle.std.proofs.Common.{◌≡◌}
+use Rattle.crossbeam_queue.specs.Passes.{view}
+use Rattle.hg_hosted.specs.Parking.{FitsKept}
+use Rattle.hg_hosted.specs.Parts.{HasLeft}
+use Rattle.hg_hosted.proofs.closing.gather.Given as goal
+
+abbrev pub invariant-loop : goal.invariant-loop
+invariant-loop l =
+    (view l.left.pass ≡ view l.fn.left.pass) × FitsKept HasLeft (view l.left.pass) l.left.kept

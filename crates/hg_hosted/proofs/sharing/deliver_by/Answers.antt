@@ -1,0 +1,24 @@
+use Rattle.std.proofs.Common.{ap, length, sym, subst, arith}
+use Rattle.hg_machine.specs.declared.Answer.TheVariants as answer
+use Rattle.hg_service.proofs.Behind.{in_reach}
+use Rattle.hg_hosted.specs.Behind.{Sends}
+use Rattle.hg_hosted.proofs.Undone.{sends_nothing}
+use Rattle.hg_hosted.proofs.sharing.deliver_by.Goals as goal
+
+pub returns-in_default-clause-done : goal.returns-in_default-clause-done
+returns-in_default-clause-done g c =
+    let before = c.with_name-worker.result.inner in
+    subst (λ own. Sends answer.NothingInHand own.value c.without_name.result.value)
+    c.with_name-worker.ensures
+    (subst (λ own. Sends answer.NothingInHand before.value own.value) (sym c.without_name.ensures)
+    (sends_nothing before.value c.in_default.ensures))
+
+pub index_mut-list-requires : goal.index_mut-list-requires
+index_mut-list-requires g c =
+    let own = c.with_name-worker.result.inner.value in
+    let below = in_reach own.policy own.hand c.in-Some.place c.in-Some.ensures own.reach in
+    let same = ap (λ policy. length policy.segments) c.with_name-worker.result.named.serves in
+    let all = c.requires.of.all in
+    let counted = c.args.shared.now.lists.ok.0 in
+    let at = c.from.ensures in
+    omega (arith, below, same, all, counted, at)

@@ -1,0 +1,7 @@
+use Rattle.std.proofs.Common.{rules, refl}
+use Rattle.hg_hosted.proofs.Undone.{serves_or_stays}
+use Rattle.hg_hosted.proofs.worker.HostedWorker.deliver.Goals as goal
+
+pub returns : goal.returns
+returns c = serves_or_stays _ _ _ c.in-Some.state c.deliver_by-answer.result.1 (search rules) refl
+    c.deliver_by-answer.result.0 c.deliver_by-answer.ensures.done

@@ -1,0 +1,33 @@
+use Rattle.std.proofs.Common.{rules, sym, subst, ◌∙◌}
+use Rattle.std.proofs.lemmas.Option.{none-some}
+use Rattle.hg_table.specs.Named.{table_of_worker}
+use Rattle.hg_hosted.specs.Parking.{KnowsName}
+use Rattle.hg_hosted.specs.Shared.{AreOfService}
+use Rattle.hg_hosted.proofs.worker.HostedWorker.leave.Goals as goal
+
+pub made-requires-then-not-settle : goal.made-requires-then-not-settle
+made-requires-then-not-settle c =
+    c.settle.ensures.of _ _ (c.args.self.of c.in-Some.state (search rules))
+
+pub goes_to-requires-clause-known : goal.goes_to-requires-clause-known
+goes_to-requires-clause-known c =
+    (c.settle.ensures.of _ _ (c.args.self.of c.in-Some.state (search rules))).left
+
+pub made-requires-in-Some-goes_to : goal.made-requires-in-Some-goes_to
+made-requires-in-Some-goes_to c =
+    let own = c.in-Some.state in
+    let of = c.settle.ensures.of _ _ (c.args.self.of own (search rules)) in
+    subst
+    (λ o. AreOfService o.value.policy (table_of_worker o.value.seat) record {
+      segments = c.settle.new.self.segments;
+      lists = c.settle.new.self.lists;
+      left = c.goes_to.new.left;
+    }) (sym c.in-Some-goes_to.ensures.back)
+    record {
+      segments = of.segments;
+      segments_kept = of.segments_kept;
+      left = subst (KnowsName own.value.policy (table_of_worker own.value.seat))
+          (sym c.goes_to.ensures.known) of.left;
+      left_kept = λ part is. absurd (none-some _ (sym c.goes_to.ensures.kept ∙ is));
+      all = of.all;
+    }

@@ -1,0 +1,11 @@
+use Rattle.std.proofs.Common.{rules, refl}
+use Rattle.hg_hosted.proofs.worker.HostedWorker.read.Goals as goal
+
+pub returns : goal.returns
+returns c = record {
+  before = c.in-Some.state;
+  after = c.read_by-answer.result.1;
+  was = search rules;
+  is = refl;
+  does = c.read_by-answer.ensures.done;
+}

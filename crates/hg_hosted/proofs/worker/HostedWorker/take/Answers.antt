@@ -1,0 +1,7 @@
+use Rattle.std.proofs.Common.{rules, refl}
+use Rattle.hg_hosted.proofs.Undone.{serves_or_stays}
+use Rattle.hg_hosted.proofs.worker.HostedWorker.take.Goals as goal
+
+pub returns : goal.returns
+returns c = serves_or_stays _ _ _ c.in-Some.state c.take_by-answer.result.1 (search rules) refl
+    c.take_by-answer.result.0 c.take_by-answer.ensures.done

@@ -1,0 +1,16 @@
+-- When a worker may leave.
+use Rattle.std.specs.Prelude.{◌≡◌, ℕ, ◌<◌, false, None}
+use Rattle.hg_place.specs.declared.geometry.TheConstants.{MAX_SEGMENTS}
+use Rattle.hg_heap.specs.Held.{is_held}
+use Rattle.hg_worker.specs.Seats.{number_in}
+use Rattle.hg_worker.specs.declared.state.WorkerState.{WorkerState}
+
+-- it holds none of the segments below a number
+abbrev pub HoldsNoneBelow : WorkerState → ℕ → Type 0
+HoldsNoneBelow state number =
+    (segment : ℕ) → segment < number → is_held number_in state.heap.segments segment ≡ false
+
+-- it holds none of the segments that there may be, and has nothing in hand
+pub record IsIdle (state : WorkerState) : Type 0 where
+  pub holds : HoldsNoneBelow state MAX_SEGMENTS
+  pub hand : state.hand ≡ None

@@ -1,0 +1,11 @@
+pub mod States
+pub mod Calls
+pub mod Behind
+pub mod Parking
+pub mod Parts
+pub mod Shared
+pub mod New
+pub mod Leaving
+pub mod Serving
+pub mod Closing
+pub mod Steps

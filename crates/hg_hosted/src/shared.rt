@@ -1,0 +1,78 @@
+//! What the workers of a service share.
+
+ghost use Rattle.std.specs.Prelude.{◌≡◌, length, None, IfOk, IsTrue};
+ghost use Rattle.atomic_table.specs.Seated.{TableId};
+ghost use Rattle.hg_machine.specs.Policy.{Policy};
+ghost use Rattle.hg_hosted.specs.Shared.{AreOfService};
+
+use crate::parked::Parked;
+use crate::parts::{Left, Segments, Sent};
+use std::alloc::{AllocError, Global};
+
+/// The ways of one caller to what a service shares.
+#[derive(Drop)]
+pub(crate) struct Shared {
+    /// The segments that nobody holds.
+    pub(crate) segments: Parked<Segments>,
+    /// By segment, what was sent to it.
+    pub(crate) lists: Vec<Parked<Sent>>,
+    /// The workers that have left.
+    pub(crate) left: Parked<Left>,
+}
+
+impl Shared {
+    /// The ways of one caller more. Where memory is refused, those that there are stay.
+    pub(crate) fn share(&mut self, alloc: Global) -> Result<Shared, AllocError>
+        ensures own { (policy : Policy) (table : TableId) → AreOfService policy table self.old
+            → AreOfService policy table self.new }
+        ensures other { IfOk result (λ other. (policy : Policy) (table : TableId)
+            → AreOfService policy table self.old → AreOfService policy table other) }
+    {
+        let lists = shared_lists(alloc, &mut self.lists)?;
+        let segments = self.segments.share()?;
+        let left = self.left.share()?;
+        Ok(Shared {
+            segments,
+            lists,
+            left,
+        })
+    }
+
+    /// Puts back what found no room before. Whether this caller keeps nothing any more.
+    pub(crate) fn settle(&mut self) -> bool
+        requires { (policy : Policy) × (table : TableId) × AreOfService policy table self.old }
+        ensures of { (policy : Policy) (table : TableId) → AreOfService policy table self.old
+            → AreOfService policy table self.new }
+        ensures left { IsTrue result → self.new.left.kept ≡ None }
+    {
+        let segments = self.segments.settle();
+        let left = self.left.settle();
+        settle_lists(&mut self.lists) && segments && left
+    }
+}
+
+fn settle_lists(lists: &mut Vec<Parked<Sent>>) -> bool
+    ensures { length lists.new.items ≡ length lists.old.items }
+{
+    let mut settled = true;
+    for at in 0..lists.len() {
+        if !lists[at].settle() {
+            settled = false;
+        }
+    }
+    settled
+}
+
+fn shared_lists(
+    alloc: Global,
+    lists: &mut Vec<Parked<Sent>>,
+) -> Result<Vec<Parked<Sent>>, AllocError>
+    ensures own { length lists.new.items ≡ length lists.old.items }
+    ensures other { IfOk result (λ others. length others.items ≡ length lists.old.items) }
+{
+    let mut others = Vec::with_capacity(alloc, lists.len())?;
+    for at in 0..lists.len() {
+        others.push(lists[at].share()?)?;
+    }
+    Ok(others)
+}

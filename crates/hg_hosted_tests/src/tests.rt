@@ -1,0 +1,4 @@
+mod calls;
+mod opened;
+mod same;
+mod threads;
