@@ -76,8 +76,8 @@ leaves_to state knows of same own is =
 -- what is shared stays of its service where nothing of it changes but where lists lead
 pub still_of :
     {policy : Policy} {table : TableId} (before after : Shared) → AreOfService policy table before
-    → view after.segments.pass ≡ view before.segments.pass
-    → after.segments.kept ≡ before.segments.kept → view after.left.pass ≡ view before.left.pass
+    → (view after.segments.pass).known ≡ (view before.segments.pass).known
+    → after.segments.kept ≡ before.segments.kept → (view after.left.pass).known ≡ (view before.left.pass).known
     → after.left.kept ≡ before.left.kept → length after.lists.items ≡ length before.lists.items
     → AreOfService policy table after
 still_of {policy = policy} {table = table} before after of known kept left_known left_kept all =

@@ -1,5 +1,5 @@
 -- Each step at a place keeps its rule.
-use Rattle.std.proofs.Common.{◌≡◌, ℕ, zero, suc, true, true≢false, List, [], ◌∷◌, ◌++◌, set, Option, None, Some, MatchOption, is_some, sym, refl, subst}
+use Rattle.std.proofs.Common.{◌≡◌, ℕ, zero, suc, true, false, true≢false, List, [], ◌∷◌, ◌++◌, set, Option, None, Some, is_some, sym, refl, ap, subst, ◌∙◌}
 use Rattle.std.proofs.lemmas.Option.{none-some, same_Some}
 use mathlib.Core.Option.{some, some-injective, some-ne-none}
 use lib.ListN.{get_elem?}
@@ -9,7 +9,8 @@ use Rattle.crossbeam_queue.specs.Fifo.{Pushes, Pops, Forks}
 use Rattle.hg_machine.specs.Policy.{Policy}
 use Rattle.hg_worker.specs.declared.state.WorkerState.{WorkerState}
 use Rattle.hg_worker.specs.States.{IsNamed}
-use Rattle.hg_hosted.specs.Parking.{AreOfOne, FitsKnown, IsUsed, KnowsName}
+use Rattle.hg_hosted.specs.declared.of_service.Way.{Way}
+use Rattle.hg_hosted.specs.Parking.{way, AreOfOne, FitsKnown, IsUsed, KnowsName}
 
 module _ {A : Type 0} (P : A → Type 0) where
   -- what holds of all in a list holds of the one at a place, and stays so
@@ -28,120 +29,130 @@ module _ {A : Type 0} (P : A → Type 0) where
   all_end [] a all one = (one, tt)
   all_end (x ∷ xs) a all one = (all.0, all_end xs a all.1 one)
 
-abbrev Known : Type 0
-Known = Option WorkerState
+-- of one in a list: it is the one that is found there, and what stands there after it was set
+alone_is : {A : Type 0} (at : ℕ) (x a : A) → get_elem? (x ∷ []) at ≡ some a → x ≡ a
+alone_is zero x a found = some-injective x a found
+alone_is (suc at) x a found = absurd (some-ne-none a (sym found))
 
-nothing_known : (of : WorkerState) → None ≡ Some of → ⊥
-nothing_known of same = none-some of same
+alone_set :
+    {A : Type 0} (P : A → Type 0) (at : ℕ) (x a b : A) → get_elem? (x ∷ []) at ≡ some a → P b
+    → AllByRecursion P (set (x ∷ []) at b)
+alone_set P zero x a b found one = (one, tt)
+alone_set P (suc at) x a b found one = absurd (some-ne-none a (sym found))
 
--- where one caller is there and knows nothing, it is at the first place, and comes to know
-alone_comes :
-    (port : ℕ) (of : WorkerState) → get_elem? {A = Known} (None ∷ []) port ≡ some None
-    → AllByRecursion (λ one. one ≡ Some of) (set {A = Known} (None ∷ []) port (Some of))
-alone_comes zero of at = (refl, tt)
-alone_comes (suc port) of at = absurd (some-ne-none None (sym at))
-
-alone_knows_nothing :
-    (port : ℕ) (of : WorkerState) → get_elem? {A = Known} (None ∷ []) port ≡ some (Some of) → ⊥
-alone_knows_nothing zero of at = nothing_known of (some-injective None (Some of) at)
-alone_knows_nothing (suc port) of at = some-ne-none (Some of) (sym at)
+there_is :
+    (known : Option WorkerState) → is_some known ≡ true → (of : WorkerState) × (known ≡ Some of)
+there_is None there = absurd (true≢false (sym there))
+there_is (Some of) there = (of, refl)
 
 module _ {T : Type 0} (of_service : WorkerState → T → Type 0) where
-  pub begins : AreOfOne of_service [] (None ∷ [])
+  pub begins : AreOfOne of_service [] (way None false ∷ [])
   begins = (None, record { alone = refl; empty = refl })
 
   -- the service that the rule speaks of is the one that a caller knows
   known_one :
-      (parts : List T) (known : List Known) (port : ℕ) (of : WorkerState)
-      → AreOfOne of_service parts known → get_elem? known port ≡ some (Some of)
-      → IsUsed of_service of parts known
-  known_one parts known port of (None, unused) at =
-      absurd (alone_knows_nothing port of
-      (subst (λ all. get_elem? all port ≡ some (Some of)) unused.alone at))
-  known_one parts known port of (Some one, used) at =
-      subst (λ (o : Known). MatchOption o ⊥ (λ it. IsUsed of_service it parts known))
-      (sym (all_at (λ (o : Known). o ≡ Some one) known port (Some of) used.callers at)) used
+      (parts : List T) (ways : List Way) (port : ℕ) (own : Way) (of : WorkerState)
+      → own.known ≡ Some of → AreOfOne of_service parts ways → get_elem? ways port ≡ some own
+      → IsUsed of_service of parts ways
+  known_one parts ways port own of knows (None, unused) at =
+      let alone = subst (λ all. get_elem? all port ≡ some own) unused.alone at in
+      absurd (none-some of
+      (ap (λ one. one.known) (alone_is port (way None false) own alone) ∙ knows))
+  known_one parts ways port own of knows (Some one, used) at =
+      let same = all_at (λ o. o.known ≡ Some one) ways port own used.callers at in
+      subst (λ (o : WorkerState). IsUsed of_service o parts ways)
+      (same_Some one of (sym same ∙ knows)) used
 
   -- the first part comes
   first_comes :
-      (parts : List T) (known : List Known) (port : ℕ) (of : WorkerState) (part : T)
-      → of_service of part → AreOfOne of_service parts known → get_elem? known port ≡ some None
-      → IsUsed of_service of (parts ++ part ∷ []) (set known port (Some of))
-  first_comes parts known port of part fits (None, unused) at = record {
-    callers = subst (λ all. AllByRecursion (λ one. one ≡ Some of) (set all port (Some of)))
-        (sym unused.alone)
-        (alone_comes port of (subst (λ all. get_elem? all port ≡ some None) unused.alone at));
+      (parts : List T) (ways : List Way) (port : ℕ) (own : Way) (of : WorkerState) (part : T)
+      → own.known ≡ None → of_service of part → AreOfOne of_service parts ways
+      → get_elem? ways port ≡ some own
+      → IsUsed of_service of (parts ++ part ∷ []) (set ways port (way (Some of) false))
+  first_comes parts ways port own of part nothing fits (None, unused) at = record {
+    callers = subst
+        (λ all. AllByRecursion (λ one. one.known ≡ Some of)
+        (set all port (way (Some of) false))) (sym unused.alone)
+        (alone_set (λ one. one.known ≡ Some of) port (way None false) own (way (Some of) false)
+        (subst (λ all. get_elem? all port ≡ some own) unused.alone at) refl);
     parts_of = subst (λ all. AllByRecursion (of_service of) (all ++ part ∷ [])) (sym unused.empty)
         (fits, tt);
   }
-  first_comes parts known port of part fits (Some one, used) at =
-      absurd (nothing_known one
-      (all_at (λ (o : Known). o ≡ Some one) known port None used.callers at))
+  first_comes parts ways port own of part nothing fits (Some one, used) at =
+      absurd (none-some one
+      (sym nothing ∙ all_at (λ o. o.known ≡ Some one) ways port own used.callers at))
 
   pub founds :
-      (room port : ℕ) (known : Known) (part : T) (policy : Policy) (table : TableId)
-      → known ≡ None → ((of : WorkerState) × IsNamed policy table of × of_service of part)
-      → Pushes (AreOfOne of_service) room port known part (KnowsName policy table)
-  founds room port known part policy table nothing one parts all less held at =
+      (room port : ℕ) (own : Way) (part : T) (policy : Policy) (table : TableId)
+      → own.known ≡ None → ((of : WorkerState) × IsNamed policy table of × of_service of part)
+      → Pushes (AreOfOne of_service) room port own part
+      (λ after. KnowsName policy table after.known × (after.out ≡ false))
+  founds room port own part policy table nothing one parts ways less held at =
       let of = one.0 in (
-        Some of,
+        way (Some of) false,
+        (Some of, first_comes parts ways port own of part nothing one.2 held at),
         (
-          Some of,
-          first_comes parts all port of part one.2 held
-              (subst (λ o. get_elem? all port ≡ some o) nothing at),
+          record {
+            some = refl;
+            named = λ it same. subst (IsNamed policy table) (same_Some of it same) one.1;
+          },
+          refl,
         ),
-        record {
-          some = refl;
-          named = λ it same. subst (IsNamed policy table) (same_Some _ _ same) one.1;
-        },
       )
 
   pub comes :
-      (room port : ℕ) (known : Known) (part : T) → is_some known ≡ true
-      → FitsKnown of_service known part
-      → Pushes (AreOfOne of_service) room port known part (λ after. after ≡ known)
-  comes room port None part there fits parts all less held at = absurd (true≢false (sym there))
-  comes room port (Some of) part there fits parts all less held at =
-      let used = known_one parts all port of held at in (
-        Some of,
+      (room port : ℕ) (own : Way) (part : T) → is_some own.known ≡ true
+      → FitsKnown of_service own.known part
+      → Pushes (AreOfOne of_service) room port own part (λ after. after ≡ way own.known false)
+  comes room port own part there fits parts ways less held at =
+      let it = there_is own.known there in
+      let used = known_one parts ways port own it.0 it.1 held at in (
+        way own.known false,
         (
-          Some of,
+          Some it.0,
           record {
-            callers = all_set (λ one. one ≡ Some of) all port (Some of) refl used.callers;
-            parts_of = all_end (of_service of) parts part used.parts_of (fits of refl);
+            callers = all_set (λ one. one.known ≡ Some it.0) ways port (way own.known false) it.1
+                used.callers;
+            parts_of = all_end (of_service it.0) parts part used.parts_of (fits it.0 it.1);
           },
         ),
         refl,
       )
 
   pub goes :
-      (port : ℕ) (known : Known) → is_some known ≡ true
-      → Pops (AreOfOne of_service) port known
-      (λ part after. (after ≡ known) × FitsKnown of_service known part)
-  goes port None there part parts all held at = absurd (true≢false (sym there))
-  goes port (Some of) there part parts all held at =
-      let used = known_one (part ∷ parts) all port of held at in (
-        Some of,
+      (port : ℕ) (own : Way) → is_some own.known ≡ true
+      → Pops (AreOfOne of_service) port own
+      (λ part after. (after ≡ way own.known true) × FitsKnown of_service own.known part)
+  goes port own there part parts ways held at =
+      let it = there_is own.known there in
+      let used = known_one (part ∷ parts) ways port own it.0 it.1 held at in (
+        way own.known true,
         (
-          Some of,
+          Some it.0,
           record {
-            callers = all_set (λ one. one ≡ Some of) all port (Some of) refl used.callers;
+            callers = all_set (λ one. one.known ≡ Some it.0) ways port (way own.known true) it.1
+                used.callers;
             parts_of = used.parts_of.1;
           },
         ),
-        (refl, λ it same. subst (λ o. of_service o part) (same_Some _ _ same) used.parts_of.0),
+        (
+          refl,
+          λ of same. subst (λ o. of_service o part) (same_Some it.0 of (sym it.1 ∙ same))
+              used.parts_of.0,
+        ),
       )
 
   pub twins :
-      (port : ℕ) (known : Known) → is_some known ≡ true
-      → Forks (AreOfOne of_service) port known known known
-  twins port None there parts all held at = absurd (true≢false (sym there))
-  twins port (Some of) there parts all held at =
-      let used = known_one parts all port of held at in (
-        Some of,
+      (port : ℕ) (own : Way) → is_some own.known ≡ true
+      → Forks (AreOfOne of_service) port own own (way own.known false)
+  twins port own there parts ways held at =
+      let it = there_is own.known there in
+      let used = known_one parts ways port own it.0 it.1 held at in (
+        Some it.0,
         record {
-          callers = all_end (λ one. one ≡ Some of) (set all port (Some of)) (Some of)
-              (all_set (λ one. one ≡ Some of) all port (Some of) refl used.callers) refl;
+          callers = all_end (λ one. one.known ≡ Some it.0) (set ways port own)
+              (way own.known false)
+              (all_set (λ one. one.known ≡ Some it.0) ways port own it.1 used.callers) it.1;
           parts_of = used.parts_of;
         },
       )

@@ -1,5 +1,5 @@
 -- Calls that do nothing, and what is parked again.
-use Rattle.std.proofs.Common.{◌≡◌, ℕ, false, Option, None, Some, Result, Ok, Err, IfSome, MatchOption, MatchResult, option_map, sym, ap, subst, refl, ◌∙◌}
+use Rattle.std.proofs.Common.{◌≡◌, ℕ, zero, suc, true, false, List, [], ◌∷◌, slice_get, slice_set, Option, None, Some, Result, Ok, Err, IfSome, IfNone, MatchOption, MatchResult, option_map, sym, ap, subst, refl, ◌∙◌}
 use Rattle.std.proofs.lemmas.Option.{none-some, same_Some}
 use Rattle.hg_machine.specs.declared.Answer.{Answer}
 use Rattle.hg_machine.specs.declared.Answer.TheVariants as answer
@@ -10,9 +10,10 @@ use Rattle.hg_table.specs.declared.view.Part.{Part}
 use Rattle.hg_worker.proofs.Records.{stay_goes}
 use Rattle.hg_worker.specs.Seats.{number_in, records_in, seat_shows, seat_steps}
 use Rattle.hg_worker.specs.declared.state.WorkerState.{WorkerState}
+use Rattle.hg_hosted.specs.declared.of_service.Way.{Way}
 use Rattle.hg_hosted.specs.declared.worker.HostedWorker.{HostedWorker}
 use Rattle.hg_hosted.specs.Behind.{GivesUp, Sends, Stays, TakesIn}
-use Rattle.hg_hosted.specs.Parking.{FitsKept, FitsKnown}
+use Rattle.hg_hosted.specs.Parking.{FitsKept, FitsKnown, IsHome}
 use Rattle.hg_hosted.specs.Serving.{Serves}
 use Rattle.hg_hosted.specs.States.{LeavesLives}
 
@@ -72,11 +73,31 @@ gives_up_nothing state segment away = record {
 -- what is kept of a part that was put is that part
 pub kept_fits :
     {T : Type 0} (of_service : WorkerState → T → Type 0) {known : Option WorkerState} {part : T}
-    (kept : Option T) → IfSome kept (λ one. one ≡ part) → FitsKnown of_service known part
-    → FitsKept of_service known kept
-kept_fits of_service None same fits one is = absurd (none-some _ is)
-kept_fits of_service {known = known} (Some kept) same fits one is =
-    subst (λ p. FitsKnown of_service known p) (sym same ∙ same_Some kept one is) fits
+    (Out : Type 0) (kept : Option T) → IfSome kept (λ one. (one ≡ part) × Out)
+    → FitsKnown of_service known part → FitsKept of_service known kept
+kept_fits of_service Out None same fits one is = absurd (none-some _ is)
+kept_fits of_service {known = known} Out (Some kept) same fits one is =
+    subst (λ p. FitsKnown of_service known p) (sym same.0 ∙ same_Some kept one is) fits
+
+-- and a part that was out is home once it was put, or kept
+pub put_home :
+    {T : Type 0} (part : T) (before after : Way) (kept : Option T)
+    → IfSome kept (λ one. (one ≡ part) × (after.out ≡ before.out))
+    → IfNone kept (after.out ≡ false) → before.out ≡ true → IsHome after kept
+put_home part before after None same none out = none
+put_home part before after (Some kept) same none out = same.1 ∙ out
+
+-- what holds of each in a list holds of each where one more was set of which it holds
+pub each_set :
+    {X : Type 0} (P : X → Type 0) (xs : List X) (i : ℕ) (y : X)
+    → ((k : ℕ) (x : X) → slice_get xs k ≡ Some x → P x) → P y
+    → (k : ℕ) (x : X) → slice_get (slice_set xs i y) k ≡ Some x → P x
+each_set P [] i y all one k x e = absurd (none-some _ e)
+each_set P (z ∷ zs) zero y all one zero x e = subst P (same_Some y x e) one
+each_set P (z ∷ zs) zero y all one (suc k) x e = all (suc k) x e
+each_set P (z ∷ zs) (suc i) y all one zero x e = all 0 x e
+each_set P (z ∷ zs) (suc i) y all one (suc k) x e =
+    each_set P zs i y (λ k. all (suc k)) one k x e
 
 -- a worker serves by what its state does, or stays
 pub serves_or_stays :

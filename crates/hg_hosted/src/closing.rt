@@ -100,9 +100,9 @@ fn give_up<N: ServiceName>(service: &mut HostedService, room: &mut CloseRoom) ->
 
 /// Notes which workers have left.
 fn gather(left: &mut Parked<Left>, came: &mut Vec<bool>)
-    requires { FitsKept HasLeft (view left.old.pass) left.old.kept }
-    ensures known { view left.new.pass ≡ view left.old.pass }
-    ensures kept { FitsKept HasLeft (view left.new.pass) left.new.kept }
+    requires { FitsKept HasLeft (view left.old.pass).known left.old.kept }
+    ensures known { (view left.new.pass).known ≡ (view left.old.pass).known }
+    ensures kept { FitsKept HasLeft (view left.new.pass).known left.new.kept }
 {
     for _ in 0..came.len() + 1 {
         let Some(one) = left.take() else {

@@ -1,6 +1,6 @@
 //! A worker leaves.
 
-ghost use Rattle.std.specs.Prelude.{◌≡◌, None, Some, IsTrue, IfErr, IfSome, OnOk};
+ghost use Rattle.std.specs.Prelude.{◌≡◌, false, None, Some, IsTrue, IfErr, IfSome, OnOk};
 ghost use Rattle.crossbeam_queue.specs.Passes.{view};
 ghost use Rattle.hg_table.specs.Named.{table_of_worker};
 ghost use Rattle.hg_hosted.specs.Leaving.{IsIdle};
@@ -43,9 +43,10 @@ fn goes_to(
 ) -> Option<Box<WorkerState, Global>>
     requires kept { left.old.kept ≡ None }
     requires known { KnowsName state.value.policy (table_of_worker state.value.seat)
-        (view left.old.pass) }
-    ensures known { view left.new.pass ≡ view left.old.pass }
+        (view left.old.pass).known }
+    ensures known { (view left.new.pass).known ≡ (view left.old.pass).known }
     ensures kept { left.new.kept ≡ None }
+    ensures home { (view left.old.pass).out ≡ false → (view left.new.pass).out ≡ false }
     ensures back { IfSome result (λ back. back ≡ state) }
 {
     left.put(Left { state: Some(state) });

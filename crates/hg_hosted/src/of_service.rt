@@ -15,20 +15,24 @@ pub(crate) trait OfService {
     ghost of_service: { WorkerState → Self → Type 0 };
 }
 
-/// What whoever comes to a place knows of the service: the state of one of its workers, or nothing
-/// as long as nothing has come there. No value of it is made.
-pub(crate) type Known = Option<WorkerState>;
+/// What whoever comes to a place knows: the state of one of the service's workers, or nothing as
+/// long as nothing has come there; and whether a part is out with this caller. No value of it is
+/// made.
+pub(crate) struct Way {
+    pub(crate) known: Option<WorkerState>,
+    pub(crate) out: bool,
+}
 
 /// All that is parked at a place is of the one service that all who come there know of.
 pub(crate) struct OneService;
 
-impl<T: OfService> Protocol<T, Known> for OneService {
-    ghost use Rattle.std.specs.Prelude.{None};
-    ghost use Rattle.hg_hosted.specs.Parking.{AreOfOne};
+impl<T: OfService> Protocol<T, Way> for OneService {
+    ghost use Rattle.std.specs.Prelude.{None, false};
+    ghost use Rattle.hg_hosted.specs.Parking.{AreOfOne, way};
 
     ghost holds = { AreOfOne T.of_service };
 
-    ghost first = { None };
+    ghost first = { way None false };
 }
 
 /// The first part comes, of the service N.
@@ -36,36 +40,43 @@ pub(crate) struct Founds<N> {
     of: PhantomData<N>,
 }
 
-impl<T, N: ServiceName> Outcome<T, Known> for Founds<N> {
+impl<T, N: ServiceName> Outcome<T, Way> for Founds<N> {
+    ghost use Rattle.std.specs.Prelude.{◌≡◌, false};
     ghost use Rattle.hg_hosted.specs.Parking.{KnowsName};
 
-    ghost then = { λ before part after. KnowsName N.policy N.table after };
+    ghost then = { λ before part after.
+        KnowsName N.policy N.table after.known × (after.out ≡ false) };
 }
 
 /// A part comes.
 pub(crate) struct Comes;
 
-impl<T> Outcome<T, Known> for Comes {
-    ghost use Rattle.std.specs.Prelude.{◌≡◌};
+impl<T> Outcome<T, Way> for Comes {
+    ghost use Rattle.std.specs.Prelude.{◌≡◌, false};
+    ghost use Rattle.hg_hosted.specs.Parking.{way};
 
-    ghost then = { λ before part after. after ≡ before };
+    ghost then = { λ before part after. after ≡ way before.known false };
 }
 
 /// A part goes: it is of the service.
 pub(crate) struct Goes;
 
-impl<T: OfService> Outcome<T, Known> for Goes {
-    ghost use Rattle.std.specs.Prelude.{◌≡◌};
-    ghost use Rattle.hg_hosted.specs.Parking.{FitsKnown};
+impl<T: OfService> Outcome<T, Way> for Goes {
+    ghost use Rattle.std.specs.Prelude.{◌≡◌, true};
+    ghost use Rattle.hg_hosted.specs.Parking.{FitsKnown, way};
 
-    ghost then = { λ before part after. (after ≡ before) × FitsKnown T.of_service before part };
+    ghost then = { λ before part after.
+        (after ≡ way before.known true) × FitsKnown T.of_service before.known part };
 }
 
-/// Another comes there, who knows as much.
+/// Another comes there, who knows as much and has nothing out.
 pub(crate) struct Twins;
 
-impl Split<Known> for Twins {
-    ghost left = { λ known. known };
+impl Split<Way> for Twins {
+    ghost use Rattle.std.specs.Prelude.{false};
+    ghost use Rattle.hg_hosted.specs.Parking.{way};
 
-    ghost right = { λ known. known };
+    ghost left = { λ own. own };
+
+    ghost right = { λ own. way own.known false };
 }

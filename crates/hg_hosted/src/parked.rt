@@ -1,12 +1,12 @@
 //! Where parts of a service stand parked between two calls.
 
-ghost use Rattle.std.specs.Prelude.{◌≡◌, ◌<◌, None, true, is_some, is_none, IfOk, IfSome};
+ghost use Rattle.std.specs.Prelude.{◌≡◌, ◌<◌, None, true, false, is_some, is_none, IfNone, IfOk, IfSome};
 ghost use Rattle.std.specs.Arc.{arc_value};
 ghost use Rattle.crossbeam_queue.specs.Passes.{view, IsPassOf};
 ghost use Rattle.hg_worker.specs.States.{IsNamed};
-ghost use Rattle.hg_hosted.specs.Parking.{FitsKept, FitsKnown, KnowsName};
+ghost use Rattle.hg_hosted.specs.Parking.{FitsKept, FitsKnown, IsHome, KnowsName, way};
 
-use crate::of_service::{Comes, Founds, Goes, Known, OfService, OneService, Twins};
+use crate::of_service::{Comes, Founds, Goes, OfService, OneService, Twins, Way};
 use crossbeam_queue::{Pass, RuledArrayQueue};
 use hg_worker::ServiceName;
 use std::alloc::{AllocError, Global};
@@ -16,12 +16,12 @@ use std::sync::Arc;
 /// part is with one of them at a time, or stands parked.
 #[derive(Drop)]
 pub(crate) struct Parked<T: OfService> {
-    pub(crate) place: Arc<RuledArrayQueue<T, Known, OneService>, Global>,
-    pub(crate) pass: Pass<T, Known>,
+    pub(crate) place: Arc<RuledArrayQueue<T, Way, OneService>, Global>,
+    pub(crate) pass: Pass<T, Way>,
     /// A part that found no room when it was put back, and is kept here until it is taken again.
     pub(crate) kept: Option<T>,
     ghost at: { IsPassOf (arc_value place) pass },
-    ghost known: { is_some (view pass) ≡ true },
+    ghost known: { is_some (view pass).known ≡ true },
 }
 
 impl<T: OfService + Drop> Parked<T> {
@@ -33,8 +33,9 @@ impl<T: OfService + Drop> Parked<T> {
     ) -> Result<Parked<T>, AllocError>
         requires room { 0 < room }
         requires of { (of : _) × IsNamed N.policy N.table of × T.of_service of first }
-        ensures known { IfOk result (λ parked. KnowsName N.policy N.table (view parked.pass)) }
-        ensures kept { IfOk result (λ parked. parked.kept ≡ None) }
+        ensures known { IfOk result (λ parked. KnowsName N.policy N.table (view parked.pass).known) }
+        ensures home { IfOk result (λ parked. ((view parked.pass).out ≡ false)
+            × (parked.kept ≡ None)) }
     {
         let (place, mut pass) = RuledArrayQueue::ruled(alloc, room)?;
         if place.try_push_as::<Founds<N>>(&mut pass, first).is_err() {
@@ -51,7 +52,7 @@ impl<T: OfService + Drop> Parked<T> {
     pub(crate) fn share(&mut self) -> Result<Parked<T>, AllocError>
         ensures own { view self.new.pass ≡ view self.old.pass }
         ensures own_kept { self.new.kept ≡ self.old.kept }
-        ensures other { IfOk result (λ other. view other.pass ≡ view self.old.pass) }
+        ensures other { IfOk result (λ other. view other.pass ≡ way (view self.old.pass).known false) }
         ensures other_kept { IfOk result (λ other. other.kept ≡ None) }
     {
         let place = Arc::try_clone(&self.place)?;
@@ -65,10 +66,11 @@ impl<T: OfService + Drop> Parked<T> {
 
     /// One of the parts that stand there. `None` where none does, or another call was quicker.
     pub(crate) fn take(&mut self) -> Option<T>
-        requires { FitsKept T.of_service (view self.old.pass) self.old.kept }
-        ensures known { view self.new.pass ≡ view self.old.pass }
+        requires { FitsKept T.of_service (view self.old.pass).known self.old.kept }
+        ensures known { (view self.new.pass).known ≡ (view self.old.pass).known }
         ensures kept { self.new.kept ≡ None }
-        ensures part { IfSome result (FitsKnown T.of_service (view self.old.pass)) }
+        ensures part { IfSome result (FitsKnown T.of_service (view self.old.pass).known) }
+        ensures out { IsHome (view self.old.pass) self.old.kept → IsHome (view self.new.pass) result }
     {
         if let Some(part) = self.kept.take() {
             return Some(part);
@@ -80,9 +82,11 @@ impl<T: OfService + Drop> Parked<T> {
     /// first the next time.
     pub(crate) fn put(&mut self, part: T)
         requires kept { self.old.kept ≡ None }
-        requires part { FitsKnown T.of_service (view self.old.pass) part }
-        ensures known { view self.new.pass ≡ view self.old.pass }
-        ensures kept { IfSome self.new.kept (λ kept. kept ≡ part) }
+        requires part { FitsKnown T.of_service (view self.old.pass).known part }
+        ensures known { (view self.new.pass).known ≡ (view self.old.pass).known }
+        ensures kept { IfSome self.new.kept (λ kept. (kept ≡ part)
+            × ((view self.new.pass).out ≡ (view self.old.pass).out)) }
+        ensures home { IfNone self.new.kept ((view self.new.pass).out ≡ false) }
     {
         if let Err(part) = self.place.try_push_as::<Comes>(&mut self.pass, part) {
             self.kept = Some(part);
@@ -91,9 +95,11 @@ impl<T: OfService + Drop> Parked<T> {
 
     /// Puts back what found no room before. Whether nothing is kept here any more.
     pub(crate) fn settle(&mut self) -> bool
-        requires { FitsKept T.of_service (view self.old.pass) self.old.kept }
-        ensures known { view self.new.pass ≡ view self.old.pass }
-        ensures kept { FitsKept T.of_service (view self.new.pass) self.new.kept }
+        requires { FitsKept T.of_service (view self.old.pass).known self.old.kept }
+        ensures known { (view self.new.pass).known ≡ (view self.old.pass).known }
+        ensures kept { FitsKept T.of_service (view self.new.pass).known self.new.kept }
+        ensures home { IsHome (view self.old.pass) self.old.kept
+            → IsHome (view self.new.pass) self.new.kept }
         ensures settled { result ≡ is_none self.new.kept }
     {
         if let Some(part) = self.kept.take() {

@@ -21,7 +21,7 @@ pub struct HostedService {
     pub(crate) shared: Shared,
     /// By number, whether the worker is known to have left.
     pub(crate) came: Vec<bool>,
-    ghost of: { (one : _) → view shared.left.pass ≡ Some one
+    ghost of: { (one : _) → (view shared.left.pass).known ≡ Some one
         → AreOfService policy (table_of_worker one.seat) shared },
 }
 

@@ -3,7 +3,7 @@
 ghost use Rattle.std.specs.Prelude.{◌≡◌, length, None, IfOk, IsTrue};
 ghost use Rattle.atomic_table.specs.Seated.{TableId};
 ghost use Rattle.hg_machine.specs.Policy.{Policy};
-ghost use Rattle.hg_hosted.specs.Shared.{AreOfService};
+ghost use Rattle.hg_hosted.specs.Shared.{AreHome, AreListsHome, AreOfService};
 
 use crate::parked::Parked;
 use crate::parts::{Left, Segments, Sent};
@@ -27,6 +27,7 @@ impl Shared {
             → AreOfService policy table self.new }
         ensures other { IfOk result (λ other. (policy : Policy) (table : TableId)
             → AreOfService policy table self.old → AreOfService policy table other) }
+        ensures home { IfOk result AreHome }
     {
         let lists = shared_lists(alloc, &mut self.lists)?;
         let segments = self.segments.share()?;
@@ -43,6 +44,7 @@ impl Shared {
         requires { (policy : Policy) × (table : TableId) × AreOfService policy table self.old }
         ensures of { (policy : Policy) (table : TableId) → AreOfService policy table self.old
             → AreOfService policy table self.new }
+        ensures home { AreHome self.old → AreHome self.new }
         ensures left { IsTrue result → self.new.left.kept ≡ None }
     {
         let segments = self.segments.settle();
@@ -52,7 +54,8 @@ impl Shared {
 }
 
 fn settle_lists(lists: &mut Vec<Parked<Sent>>) -> bool
-    ensures { length lists.new.items ≡ length lists.old.items }
+    ensures all { length lists.new.items ≡ length lists.old.items }
+    ensures home { AreListsHome lists.old.items → AreListsHome lists.new.items }
 {
     let mut settled = true;
     for at in 0..lists.len() {
@@ -69,6 +72,7 @@ fn shared_lists(
 ) -> Result<Vec<Parked<Sent>>, AllocError>
     ensures own { length lists.new.items ≡ length lists.old.items }
     ensures other { IfOk result (λ others. length others.items ≡ length lists.old.items) }
+    ensures home { IfOk result (λ others. AreListsHome others.items) }
 {
     let mut others = Vec::with_capacity(alloc, lists.len())?;
     for at in 0..lists.len() {

@@ -4,7 +4,7 @@ ghost use Rattle.std.specs.Prelude.{◌≡◌, MatchOption};
 ghost use Rattle.hg_worker.specs.States.{IsNamed};
 ghost use Rattle.hg_hosted.specs.Behind.{Sends, TakesIn, TakesOne, GivesUp, Stays};
 ghost use Rattle.hg_hosted.specs.Serving.{Serves};
-ghost use Rattle.hg_hosted.specs.Shared.{AreOfService};
+ghost use Rattle.hg_hosted.specs.Shared.{AreHome, AreOfService};
 
 use crate::parts::Segments;
 use crate::shared::Shared;
@@ -20,10 +20,12 @@ fn deliver_by<N: ServiceName>(
 ) -> (Option<Answer>, Box<WorkerState, Global>)
     requires named { IsNamed N.policy N.table state.value }
     requires of { AreOfService N.policy N.table shared.old }
+    requires home { AreHome shared.old }
     ensures done { MatchOption result.0 (Stays state.value result.1.value)
         (λ answer. Sends answer state.value result.1.value) }
     ensures named { IsNamed N.policy N.table result.1.value }
     ensures of { AreOfService N.policy N.table shared.new }
+    ensures home { AreHome shared.new }
 {
     let mut worker = Worker::<N>::with_name(state);
     let Some(place) = worker.hand() else {
@@ -45,10 +47,12 @@ fn take_by<N: ServiceName>(
 ) -> (Option<Answer>, Box<WorkerState, Global>)
     requires named { IsNamed N.policy N.table state.value }
     requires of { AreOfService N.policy N.table shared.old }
+    requires home { AreHome shared.old }
     ensures done { MatchOption result.0 (Stays state.value result.1.value)
         (λ answer. TakesIn segment answer state.value result.1.value) }
     ensures named { IsNamed N.policy N.table result.1.value }
     ensures of { AreOfService N.policy N.table shared.new }
+    ensures home { AreHome shared.new }
 {
     let mut worker = Worker::<N>::with_name(state);
     if !worker.holds(segment) {
@@ -70,10 +74,12 @@ fn refill_by<N: ServiceName>(
 ) -> (Option<Answer>, Box<WorkerState, Global>)
     requires named { IsNamed N.policy N.table state.value }
     requires of { AreOfService N.policy N.table shared.old }
+    requires home { AreHome shared.old }
     ensures done { MatchOption result.0 (Stays state.value result.1.value)
         (λ answer. TakesOne arena answer state.value result.1.value) }
     ensures named { IsNamed N.policy N.table result.1.value }
     ensures of { AreOfService N.policy N.table shared.new }
+    ensures home { AreHome shared.new }
 {
     let mut worker = Worker::<N>::with_name(state);
     let Some(segments) = shared.segments.take() else {
@@ -94,10 +100,12 @@ fn abandon_by<N: ServiceName>(
 ) -> (Option<Answer>, Box<WorkerState, Global>)
     requires named { IsNamed N.policy N.table state.value }
     requires of { AreOfService N.policy N.table shared.old }
+    requires home { AreHome shared.old }
     ensures done { MatchOption result.0 (Stays state.value result.1.value)
         (λ answer. GivesUp segment answer state.value result.1.value) }
     ensures named { IsNamed N.policy N.table result.1.value }
     ensures of { AreOfService N.policy N.table shared.new }
+    ensures home { AreHome shared.new }
 {
     let mut worker = Worker::<N>::with_name(state);
     if !worker.holds(segment) {

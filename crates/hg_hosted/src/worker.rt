@@ -4,7 +4,7 @@ ghost use Rattle.std.specs.Prelude.{◌≡◌, true, Some, is_some, option_map};
 ghost use Rattle.hg_heap.specs.Held.{is_held};
 ghost use Rattle.hg_table.specs.Named.{table_of_worker};
 ghost use Rattle.hg_worker.specs.Seats.{number_in};
-ghost use Rattle.hg_hosted.specs.Shared.{AreOfService};
+ghost use Rattle.hg_hosted.specs.Shared.{AreHome, AreOfService};
 
 use crate::shared::Shared;
 use hg_place::Place;
@@ -20,12 +20,14 @@ pub struct HostedWorker {
     ghost there: { is_some state ≡ true },
     ghost of: { (own : _) → state ≡ Some own
         → AreOfService own.value.policy (table_of_worker own.value.seat) shared },
+    ghost home: { AreHome shared },
 }
 
 impl HostedWorker {
     /// The worker with this state, which is of the service that has what is shared.
     pub(crate) fn made(state: Box<WorkerState, Global>, shared: Shared) -> HostedWorker
-        requires { AreOfService state.value.policy (table_of_worker state.value.seat) shared }
+        requires of { AreOfService state.value.policy (table_of_worker state.value.seat) shared }
+        requires home { AreHome shared }
         ensures state { result.state ≡ Some state }
         ensures shared { result.shared ≡ shared }
     {

@@ -5,7 +5,8 @@ use crate::tests::opened::{
 };
 use crate::tests::same::same;
 use hg_close::CloseFault;
-use hg_hosted::{HostedUnclosed, HostedWorker};
+use hg_core::Core;
+use hg_hosted::{HostedService, HostedUnclosed, HostedWorker};
 use hg_machine::{Answer, Event, Rule};
 use hg_place::Handle;
 use std::alloc::Global;
@@ -155,6 +156,30 @@ fn both_leave(rt: &impl Abort, one: HostedWorker, other: HostedWorker) {
     assert!(rt; other.leave().is_ok());
 }
 
+/// The service must go on, for want of worker 0.
+fn goes_on(rt: &impl Abort, service: HostedService, alloc: Global) -> HostedService {
+    match service.close(alloc) {
+        Err(HostedUnclosed::Running(service, CloseFault::StillOut(0))) => service,
+        _ => panic!(rt; "worker 0 is out"),
+    }
+}
+
+/// The core that the service closes into.
+fn closed(rt: &impl Abort, service: HostedService, alloc: Global) -> Core {
+    match service.close(alloc) {
+        Ok(core) => core,
+        Err(_) => panic!(rt; "it doesn't close"),
+    }
+}
+
+/// The word of a block that lives on in the core.
+fn word_in(rt: &impl Abort, core: Core, handle: Handle) -> Option<u64> {
+    let mut core = core;
+    assert!(rt; 0 < core.policy().workers());
+    assert!(rt; core.refill(0, MAIN).is_ok());
+    core.read(0, ALICE, handle, 0).ok()
+}
+
 // A service closes into a core once its workers have left, and what lives goes on there.
 #[test]
 fn closes_into_a_core(rt: HostRuntime) {
@@ -162,16 +187,44 @@ fn closes_into_a_core(rt: HostRuntime) {
     let handle = block(&rt, &mut one);
     answers(&rt, &mut one, write(ALICE, handle, 5), Answer::Done);
     answers(&rt, &mut one, Event::Abandon { segment: 0 }, Answer::Done);
-    let Err(HostedUnclosed::Running(service, CloseFault::StillOut(0))) = service.close(rt.alloc())
-    else {
-        panic!(&rt; "two workers are out")
-    };
+    let service = goes_on(&rt, service, rt.alloc());
     both_leave(&rt, one, other);
-    let Ok(mut core) = service.close(rt.alloc()) else {
-        panic!(&rt; "it doesn't close")
-    };
-    same(&rt, core.refill(0, MAIN), Ok(0));
-    same(&rt, core.read(0, ALICE, handle, 0), Ok(5));
+    let core = closed(&rt, service, rt.alloc());
+    same(&rt, word_in(&rt, core, handle), Some(5));
+}
+
+/// How many places come home in the core that the service closes into, of segment 1.
+fn taken_in(rt: &impl Abort, core: Core) -> Option<u32> {
+    let mut core = core;
+    assert!(rt; 0 < core.policy().workers());
+    assert!(rt; core.refill(0, MAIN).is_ok());
+    assert!(rt; core.refill(0, MAIN).is_ok());
+    core.take(0, 1).ok()
+}
+
+/// The other holds segment 1, and the one frees its block there and delivers; then both hold nothing.
+fn sent_to_segment_1(rt: &impl Abort, one: &mut HostedWorker, other: &mut HostedWorker) {
+    answers(
+        rt,
+        other,
+        Event::Refill { arena: MAIN },
+        Answer::Refilled(1),
+    );
+    let handle = block(rt, other);
+    answers(rt, one, free(ALICE, handle), Answer::Parted);
+    answers(rt, one, Event::Deliver, Answer::Done);
+    answers(rt, one, Event::Abandon { segment: 0 }, Answer::Done);
+    answers(rt, other, Event::Abandon { segment: 1 }, Answer::Done);
+}
+
+// What was sent and not taken in comes home in the core that the service closes into.
+#[test]
+fn sent_block_is_in_the_core(rt: HostRuntime) {
+    let (service, mut one, mut other) = pair(&rt, rt.alloc());
+    sent_to_segment_1(&rt, &mut one, &mut other);
+    both_leave(&rt, one, other);
+    let core = closed(&rt, service, rt.alloc());
+    same(&rt, taken_in(&rt, core), Some(1));
 }
 
 // A worker that is dropped keeps its service from closing.
@@ -180,23 +233,35 @@ fn dropped_worker_is_out(rt: HostRuntime) {
     let (service, one, other) = pair(&rt, rt.alloc());
     drop(other);
     drop(one);
-    let Err(HostedUnclosed::Running(_, CloseFault::StillOut(0))) = service.close(rt.alloc()) else {
-        panic!(&rt; "two workers are out")
-    };
+    drop(goes_on(&rt, service, rt.alloc()));
 }
 
-// A service opens and serves, or memory was refused: for a run in which requests are refused in
-// turn.
+/// The service closes, or memory was refused, and it goes on.
+fn closes_or_goes_on(rt: &impl Abort, service: HostedService, alloc: Global) {
+    match service.close(alloc) {
+        Ok(core) => drop(core),
+        Err(HostedUnclosed::Running(service, CloseFault::Memory)) => drop(service),
+        Err(_) => panic!(rt; "nothing else is wrong"),
+    }
+}
+
+/// The worker takes a segment, lists its one block, or memory was refused, and gives the segment up.
+fn serves(rt: &impl Abort, one: &mut HostedWorker, alloc: Global) {
+    answers(rt, one, Event::Refill { arena: MAIN }, Answer::Refilled(0));
+    let _block = block(rt, one);
+    if let Ok(rows) = one.list(alloc, ALICE) {
+        same(rt, rows.len(), 1);
+    }
+    answers(rt, one, Event::Abandon { segment: 0 }, Answer::Done);
+}
+
+// A service opens, serves and closes, or memory was refused: for a run in which requests are refused
+// in turn.
 #[test]
 fn service_refused_in_turn(rt: HostRuntime) {
     if let Ok((service, mut one, other)) = opened(rt.alloc()) {
-        same(&rt, one.refill(MAIN), Some(Answer::Refilled(0)));
-        let _block = block(&rt, &mut one);
-        if let Ok(rows) = one.list(rt.alloc(), ALICE) {
-            same(&rt, rows.len(), 1);
-        }
-        drop(one);
-        drop(other);
-        drop(service);
+        serves(&rt, &mut one, rt.alloc());
+        both_leave(&rt, one, other);
+        closes_or_goes_on(&rt, service, rt.alloc());
     }
 }

@@ -6,4 +6,5 @@ use Rattle.hg_hosted.proofs.closing.gather.Given as goal
 
 abbrev pub invariant-loop : goal.invariant-loop
 invariant-loop l =
-    (view l.left.pass ≡ view l.fn.left.pass) × FitsKept HasLeft (view l.left.pass) l.left.kept
+    ((view l.left.pass).known ≡ (view l.fn.left.pass).known)
+    × FitsKept HasLeft (view l.left.pass).known l.left.kept

@@ -7,8 +7,8 @@ use Rattle.hg_hosted.proofs.opening.hosted_one.Goals as goal
 pub returns-in_err-shared-clause-of : goal.returns-in_err-shared-clause-of
 returns-in_err-shared-clause-of g c = c.share.ensures.own _ _ c.requires.of
 
-pub made-requires : goal.made-requires
-made-requires g c =
+pub made-requires-clause-of : goal.made-requires-clause-of
+made-requires-clause-of g c =
     subst (λ o. AreOfService o.value.policy (table_of_worker o.value.seat) c.in_ok-shared.shared)
     (sym c.without_name.ensures)
     (by_state c.args.worker.named (c.in_ok-shared.ensures.other _ _ c.requires.of))

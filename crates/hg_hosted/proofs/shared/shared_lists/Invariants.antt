@@ -1,6 +1,10 @@
 use Rattle.std.proofs.Common.{◌≡◌, length}
+use Rattle.hg_hosted.specs.Shared.{AreListsHome}
 use Rattle.hg_hosted.proofs.shared.shared_lists.Given as goal
 
 abbrev pub invariant-loop-at : goal.invariant-loop-at
-invariant-loop-at l =
-    (length l.others.items ≡ l.at) × (length l.lists.items ≡ length l.fn.lists.items)
+invariant-loop-at l = record {
+  made : length l.others.items ≡ l.at;
+  all : length l.lists.items ≡ length l.fn.lists.items;
+  home : AreListsHome l.others.items;
+}

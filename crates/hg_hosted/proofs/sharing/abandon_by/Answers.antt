@@ -1,11 +1,12 @@
 use Rattle.std.proofs.Common.{sym, subst}
+use Rattle.crossbeam_queue.specs.Passes.{view}
 use Rattle.hg_machine.specs.declared.Answer.TheVariants as answer
 use Rattle.hg_hosted.specs.Behind.{GivesUp}
 use Rattle.hg_hosted.specs.Parking.{FitsKnown, KnowsName}
 use Rattle.hg_hosted.specs.Parts.{HasSegments}
 use Rattle.hg_hosted.specs.declared.parts.Segments.{Segments}
 use Rattle.hg_hosted.proofs.Named.{put_of, taken_of}
-use Rattle.hg_hosted.proofs.Undone.{gives_up_nothing, kept_fits}
+use Rattle.hg_hosted.proofs.Undone.{gives_up_nothing, kept_fits, put_home}
 use Rattle.hg_hosted.proofs.sharing.abandon_by.Goals as goal
 
 pub returns-then-not-holds-clause-done : goal.returns-then-not-holds-clause-done
@@ -40,9 +41,17 @@ returns-clause-of g c =
     record {
       segments = subst (KnowsName g.N.ServiceName.policy g.N.TableName.table)
           (sym c.put.ensures.known) known;
-      segments_kept = kept_fits HasSegments _ c.put.ensures.kept
+      segments_kept = kept_fits HasSegments _ _ c.put.ensures.kept
           (subst (λ k. FitsKnown HasSegments k parts) (sym c.put.ensures.known) parked);
       left = of.left;
       left_kept = of.left_kept;
       all = of.all;
     }
+
+pub returns-clause-home : goal.returns-clause-home
+returns-clause-home g c = record {
+  segments = put_home _ (view c.take.new.self.pass) (view c.put.new.self.pass) _ c.put.ensures.kept c.put.ensures.home
+      (c.in-Some.ensures.out c.requires.home.segments);
+  left = c.requires.home.left;
+  lists = c.requires.home.lists;
+}

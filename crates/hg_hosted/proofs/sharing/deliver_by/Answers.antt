@@ -1,8 +1,11 @@
-use Rattle.std.proofs.Common.{ap, length, sym, subst, arith}
+use Rattle.std.proofs.Common.{◌<◌, ◌∙◌, ap, length, sym, subst, arith, Some}
+use Rattle.std.proofs.lemmas.Option.{slice_get-get_or}
+use Rattle.crossbeam_queue.specs.Passes.{view}
 use Rattle.hg_machine.specs.declared.Answer.TheVariants as answer
 use Rattle.hg_service.proofs.Behind.{in_reach}
 use Rattle.hg_hosted.specs.Behind.{Sends}
-use Rattle.hg_hosted.proofs.Undone.{sends_nothing}
+use Rattle.hg_hosted.specs.Parking.{IsHome}
+use Rattle.hg_hosted.proofs.Undone.{each_set, put_home, sends_nothing}
 use Rattle.hg_hosted.proofs.sharing.deliver_by.Goals as goal
 
 pub returns-in_default-clause-done : goal.returns-in_default-clause-done
@@ -22,3 +25,26 @@ index_mut-list-requires g c =
     let counted = c.args.shared.now.lists.ok.0 in
     let at = c.from.ensures in
     omega (arith, below, same, all, counted, at)
+
+pub returns-clause-home : goal.returns-clause-home
+returns-clause-home g c =
+    let home = c.requires.home in
+    let lists = c.args.shared.now.lists in
+    let list = c.index_mut-list.result.now in
+    let own = c.with_name-worker.result.inner.value in
+    let below = in_reach own.policy own.hand c.in-Some.place c.in-Some.ensures own.reach in
+    let same = ap (λ policy. length policy.segments) c.with_name-worker.result.named.serves in
+    let all = c.requires.of.all in
+    let at = c.from.ensures in
+    let low : c.from.result < length lists.items = omega (arith, below, same, all, at) in
+    let there = slice_get-get_or lists.items c.from.result list low
+    ∙ ap Some (sym c.index_mut-list.ensures.value) in
+    let out = c.in-Some-take.ensures.out (home.lists c.from.result list there) in
+    record {
+      segments = home.segments;
+      left = home.left;
+      lists = each_set (λ one. IsHome (view one.pass) one.kept) lists.items c.from.result
+          c.put.new.self home.lists
+          (put_home _ (view c.take.new.self.pass) (view c.put.new.self.pass) _
+          c.put.ensures.kept c.put.ensures.home out);
+    }

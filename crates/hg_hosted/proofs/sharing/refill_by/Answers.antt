@@ -1,4 +1,5 @@
 use Rattle.std.proofs.Common.{◌++◌, sym, subst}
+use Rattle.crossbeam_queue.specs.Passes.{view}
 use Rattle.hg_heap.specs.Policies.{AreOf}
 use Rattle.hg_service.proofs.Behind.{came}
 use Rattle.hg_worker.specs.Seats.{number_in, records_in, part_of_seat}
@@ -8,7 +9,7 @@ use Rattle.hg_hosted.specs.Parking.{FitsKnown, KnowsName}
 use Rattle.hg_hosted.specs.Parts.{HasSegments}
 use Rattle.hg_hosted.specs.declared.parts.Segments.{Segments}
 use Rattle.hg_hosted.proofs.Named.{put_of, taken_of}
-use Rattle.hg_hosted.proofs.Undone.{kept_fits}
+use Rattle.hg_hosted.proofs.Undone.{kept_fits, put_home}
 use Rattle.hg_hosted.proofs.sharing.refill_by.Goals as goal
 
 pub with_name-pool-requires-clause-named : goal.with_name-pool-requires-clause-named
@@ -34,7 +35,7 @@ returns-clause-of g c =
     record {
       segments = subst (KnowsName g.N.ServiceName.policy g.N.TableName.table)
           (sym c.put.ensures.known) known;
-      segments_kept = kept_fits HasSegments _ c.put.ensures.kept
+      segments_kept = kept_fits HasSegments _ _ c.put.ensures.kept
           (subst (λ k. FitsKnown HasSegments k parts) (sym c.put.ensures.known) parked);
       left = of.left;
       left_kept = of.left_kept;
@@ -68,3 +69,11 @@ returns-clause-done g c =
       home = said.home;
       rest = said.rest;
     })
+
+pub returns-clause-home : goal.returns-clause-home
+returns-clause-home g c = record {
+  segments = put_home _ (view c.take.new.self.pass) (view c.put.new.self.pass) _ c.put.ensures.kept c.put.ensures.home
+      (c.in-Some.ensures.out c.requires.home.segments);
+  left = c.requires.home.left;
+  lists = c.requires.home.lists;
+}

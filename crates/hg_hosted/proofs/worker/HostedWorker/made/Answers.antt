@@ -9,5 +9,6 @@ invariant_of-result c = record {
   there = refl;
   of = λ own is. subst
       (λ o. AreOfService o.value.policy (table_of_worker o.value.seat) c.args.shared)
-      (same_Some c.args.state own is) c.requires;
+      (same_Some c.args.state own is) c.requires.of;
+  home = c.requires.home;
 }
