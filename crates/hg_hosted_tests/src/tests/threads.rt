@@ -41,10 +41,10 @@ fn turn(worker: &mut HostedWorker) -> bool {
 
 /// So many turns. How many were done.
 fn turns(worker: &mut HostedWorker) -> u32 {
-    let mut done = 0;
+    let mut done = 0u32;
     for _ in 0..BLOCKS {
         if turn(worker) {
-            done += 1;
+            done = done.saturating_add(1);
         }
     }
     done
