@@ -118,6 +118,11 @@ enum hg_status {
     HG_NOT_HELD = 22,
     HG_NO_SEGMENT = 23,
     HG_FULL = 24,            /* all cores of the bank are open that there may be */
+    /* of a service and its workers (heapguard_service.h) */
+    HG_AGAIN = 25,           /* another call has what this one needs: it did nothing; make it again */
+    HG_STILL_OUT = 26,       /* value: the lowest worker that hasn't left */
+    HG_STILL_HELD = 27,      /* value: the lowest segment that is held */
+    HG_LOST = 28,            /* value: the lowest place that isn't accounted for */
     /* denied, by the first rule that refuses */
     HG_STRANGER = 32,
     HG_STALE = 33,           /* detail: the generation that is there, 0 where none is */
@@ -140,7 +145,7 @@ enum hg_status {
     HG_CLOSED = 64,
     HG_NO_WORKER = 65,
     HG_NO_BLOCK = 66,        /* no handle's word, or no place's number */
-    HG_HELD = 67,            /* to be opened, and open already */
+    HG_HELD = 67,            /* to be opened, and open already; what stands there stays */
     HG_NO_NAME = 68,         /* nothing has the name, or no tenant the number */
     HG_NO_COUNT = 69         /* a bank has 1 to 16384 cores */
 };
@@ -339,6 +344,10 @@ static inline const char *hg_status_text(unsigned status)
     case HG_NOT_HELD: return "notheld";
     case HG_NO_SEGMENT: return "nosegment";
     case HG_FULL: return "full";
+    case HG_AGAIN: return "again";
+    case HG_STILL_OUT: return "a worker hasn't left";
+    case HG_STILL_HELD: return "a segment is held";
+    case HG_LOST: return "a place is lost";
     case HG_STRANGER: return "denied stranger";
     case HG_STALE: return "denied stale";
     case HG_ALREADY_FREED: return "denied freed";

@@ -1,6 +1,6 @@
-// heapguard.hpp: heapguard's core and bank as classes of C++17 that close what they opened. The
-// duties at the head of heapguard.h are their caller's too, but for those on the 16 bytes of a core
-// or a bank: a moved-from Core is a closed one, and so is a moved-from Bank.
+// heapguard.hpp: heapguard's core, bank and service as classes of C++17 that close what they opened.
+// The duties at the head of heapguard.h and heapguard_service.h are their caller's too, but for those
+// on 16 bytes: a moved-from Core, Bank or Service is a closed one, and a moved-from ServiceWorker none.
 #ifndef HEAPGUARD_HPP
 #define HEAPGUARD_HPP
 
@@ -9,6 +9,7 @@
 #else
 
 #include "heapguard.h"
+#include "heapguard_service.h"
 
 #include <cstddef>
 #include <cstdint>
@@ -315,6 +316,7 @@ public:
     }
 
 private:
+    friend class Service;
     hg_core core_ HG_CORE_INIT;
 };
 
@@ -495,6 +497,174 @@ public:
 
 private:
     hg_bank bank_ HG_BANK_INIT;
+};
+
+/// A worker of a service, for one thread: its calls take no lock. Dropped, it is given up with all
+/// that it holds, and its service closes no more: leave() comes before that. deliver, take, refill and
+/// abandon ask again where another call has what they need.
+class ServiceWorker : detail::Shared {
+public:
+    /// None, which answers HG_CLOSED.
+    ServiceWorker() noexcept = default;
+
+    ServiceWorker(const ServiceWorker &) = delete;
+    ServiceWorker &operator=(const ServiceWorker &) = delete;
+
+    ServiceWorker(ServiceWorker &&other) noexcept
+        : worker_(std::exchange(other.worker_, hg_worker HG_WORKER_INIT)) {}
+
+    ServiceWorker &operator=(ServiceWorker &&other) noexcept
+    {
+        if (this != &other) {
+            (void)hg_worker_drop(&worker_);
+            worker_ = std::exchange(other.worker_, hg_worker HG_WORKER_INIT);
+        }
+        return *this;
+    }
+
+    ~ServiceWorker() { (void)hg_worker_drop(&worker_); }
+
+    [[nodiscard]] Reply alloc(Tenant actor, Arena arena, std::uint64_t bytes)
+    {
+        return hg_worker_alloc(&worker_, number(actor), number(arena), bytes);
+    }
+
+    [[nodiscard]] Reply free(Tenant actor, Handle block)
+    {
+        return hg_worker_free(&worker_, number(actor), block);
+    }
+
+    [[nodiscard]] Reply read(Tenant actor, Handle block, std::uint32_t index)
+    {
+        return hg_worker_read(&worker_, number(actor), block, index);
+    }
+
+    [[nodiscard]] Reply write(Tenant actor, Handle block, std::uint32_t index, std::uint64_t value)
+    {
+        return hg_worker_write(&worker_, number(actor), block, index, value);
+    }
+
+    [[nodiscard]] Reply look(Tenant actor, Place place)
+    {
+        return hg_worker_look(&worker_, number(actor), number(place));
+    }
+
+    [[nodiscard]] Reply collect() { return hg_worker_collect(&worker_); }
+
+    [[nodiscard]] Reply deliver() { return hg_worker_deliver_now(&worker_); }
+
+    [[nodiscard]] Reply take(Segment segment)
+    {
+        return hg_worker_take_now(&worker_, number(segment));
+    }
+
+    [[nodiscard]] Reply refill(Arena arena) { return hg_worker_refill_now(&worker_, number(arena)); }
+
+    [[nodiscard]] Reply abandon(Segment segment)
+    {
+        return hg_worker_abandon_now(&worker_, number(segment));
+    }
+
+    /// The blocks that it holds and the actor may list, as far as there is room for that many; the
+    /// value is how many there are.
+    [[nodiscard]] Reply list(Tenant actor, Reply *room, std::size_t count)
+    {
+        return hg_worker_list(&worker_, number(actor), room, count);
+    }
+
+    /// Its number, if there is one.
+    std::optional<Worker> own() { return found<Worker>(hg_worker_number(&worker_)); }
+
+    bool holds(Segment segment) { return hg_worker_holds(&worker_, number(segment)).value == 1; }
+
+    /// The place of the block in its hand, if it has one there.
+    std::optional<Place> hand() { return found<Place>(hg_worker_hand(&worker_)); }
+
+    /// Sends what is in hand, gives up each segment that it holds, and goes back to its service; or
+    /// what the first call that wasn't served was answered, and then it stays.
+    [[nodiscard]] Reply leave() { return hg_worker_leave_now(&worker_); }
+
+private:
+    friend class Service;
+    hg_worker worker_ HG_WORKER_INIT;
+};
+
+/// A service: what a core is, served by several threads at once, each of which is one of its workers.
+/// Dropped, it is given up, and its workers go on.
+class Service : detail::Shared {
+public:
+    /// A closed one, which answers HG_CLOSED.
+    Service() noexcept = default;
+
+#ifdef __cpp_exceptions
+    /// Opens by the text of a policy, or throws its first fault.
+    explicit Service(std::string_view policy)
+    {
+        std::string line;
+        Reply opened = open(policy, line);
+        if (opened.status != HG_DONE) throw PolicyFault(opened.status, line);
+    }
+#endif
+
+    Service(const Service &) = delete;
+    Service &operator=(const Service &) = delete;
+
+    Service(Service &&other) noexcept
+        : service_(std::exchange(other.service_, hg_service HG_SERVICE_INIT)) {}
+
+    Service &operator=(Service &&other) noexcept
+    {
+        if (this != &other) {
+            (void)hg_service_drop(&service_);
+            service_ = std::exchange(other.service_, hg_service HG_SERVICE_INIT);
+        }
+        return *this;
+    }
+
+    ~Service() { (void)hg_service_drop(&service_); }
+
+    /// Opens a closed one by the text of a policy; with a fault, `line` is the line that tells it,
+    /// as far as 1,024 bytes go.
+    [[nodiscard]] Reply open(std::string_view policy, std::string &line)
+    {
+        return written<1024>(line, [&](char *room, std::size_t length) {
+            return hg_service_open(&service_, policy.data(), policy.size(), room, length);
+        });
+    }
+
+    /// Gives the worker of a number, where `worker` is none yet.
+    [[nodiscard]] Reply give(Worker numbered, ServiceWorker &worker)
+    {
+        return hg_service_worker(&service_, number(numbered), &worker.worker_);
+    }
+
+    /// Becomes a core, where `core` is a closed one, once each worker that it gave has left.
+    [[nodiscard]] Reply close(Core &core) { return hg_service_close(&service_, &core.core_); }
+
+    /// How many workers there are, 0 where it is closed.
+    std::uint32_t workers()
+    {
+        return static_cast<std::uint32_t>(hg_service_workers(&service_).value);
+    }
+
+    /// How many segments all arenas have, 0 where it is closed.
+    std::uint32_t segments()
+    {
+        return static_cast<std::uint32_t>(hg_service_segments(&service_).value);
+    }
+
+    std::optional<Tenant> tenant(std::string_view name)
+    {
+        return found<Tenant>(hg_service_tenant(&service_, name.data(), name.size()));
+    }
+
+    std::optional<Arena> arena(std::string_view name)
+    {
+        return found<Arena>(hg_service_arena(&service_, name.data(), name.size()));
+    }
+
+private:
+    hg_service service_ HG_SERVICE_INIT;
 };
 
 } // namespace heapguard

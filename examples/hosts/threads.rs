@@ -1,9 +1,11 @@
-//! Threads behind one mutex: a thread for each worker of the policy makes, reads and frees blocks
-//! of its tenant, and hands each third one to the other thread, which frees it from afar.
+//! Threads of one service, with no lock: each is a worker of the policy, makes, reads and frees blocks
+//! of its tenant, and hands each third one to the other thread, which frees it from afar. In the end
+//! the service becomes a core, in which the rest is told.
 
-use heapguard::{Arena, Core, Freed, Handle, Refusal, Rule, Segment, Tenant, Worker};
+use heapguard::{
+    Arena, Freed, Handle, Refusal, Rule, Segment, Service, ServiceWorker, Tenant, Worker,
+};
 use std::sync::mpsc::{channel, Receiver, Sender};
-use std::sync::{Arc, Mutex};
 use std::thread;
 
 const BLOCKS: u64 = 300;
@@ -27,46 +29,36 @@ struct Seen {
 }
 
 struct Server {
-    core: Arc<Mutex<Core>>,
-    worker: Worker,
+    worker: ServiceWorker,
     tenant: Tenant,
 }
 
 impl Server {
-    fn with<T>(&self, call: impl FnOnce(&mut Core) -> T) -> T {
-        call(&mut self.core.lock().unwrap())
-    }
-
-    /// A block that holds a value, read back under another lock than it was written.
-    fn make(&self, value: u64, seen: &mut Seen) -> Result<Handle, Refusal> {
-        let block = self.with(|core| core.alloc(self.worker, self.tenant, MAIN, 16))?;
-        self.with(|core| core.write(self.worker, self.tenant, block, 1, value))?;
-        let read = self.with(|core| core.read(self.worker, self.tenant, block, 1))?;
+    /// A block that holds a value, read back.
+    fn make(&mut self, value: u64, seen: &mut Seen) -> Result<Handle, Refusal> {
+        let block = self.worker.alloc(self.tenant, MAIN, 16)?;
+        self.worker.write(self.tenant, block, 1, value)?;
+        let read = self.worker.read(self.tenant, block, 1)?;
         seen.read_back += u64::from(read == value);
         Ok(block)
     }
 
-    fn free(&self, block: Handle, seen: &mut Seen) -> Result<(), Refusal> {
-        let (freed, again) = self.with(|core| {
-            (
-                core.free(self.worker, self.tenant, block),
-                core.free(self.worker, self.tenant, block),
-            )
-        });
-        if freed? == Freed::Here {
+    fn free(&mut self, block: Handle, seen: &mut Seen) -> Result<(), Refusal> {
+        if self.worker.free(self.tenant, block)? == Freed::Here {
             seen.freed_here += 1;
         }
+        let again = self.worker.free(self.tenant, block);
         seen.stale += u64::from(again == Err(Refusal::Denied(Rule::AlreadyFreed)));
         Ok(())
     }
 
     /// Frees what the other thread handed over. Its segment is the other worker's, so the block
     /// goes into this one's hand, and from there to that worker.
-    fn free_afar(&self, block: Handle, seen: &mut Seen) -> Result<(), Refusal> {
-        match self.with(|core| core.free(self.worker, self.tenant, block)) {
+    fn free_afar(&mut self, block: Handle, seen: &mut Seen) -> Result<(), Refusal> {
+        match self.worker.free(self.tenant, block) {
             Ok(_) => {
                 seen.freed_afar += 1;
-                self.with(|core| core.deliver(self.worker))
+                self.worker.deliver()
             }
             Err(Refusal::Denied(Rule::NotGranted)) => {
                 seen.refused_afar += 1;
@@ -76,7 +68,11 @@ impl Server {
         }
     }
 
-    fn work(self, to_other: Sender<Handle>, from_other: Receiver<Handle>) -> Result<Seen, Refusal> {
+    fn work(
+        mut self,
+        to_other: Sender<Handle>,
+        from_other: Receiver<Handle>,
+    ) -> Result<Seen, Refusal> {
         let mut seen = Seen::default();
         for n in 0..BLOCKS {
             let block = self.make(n, &mut seen)?;
@@ -90,33 +86,30 @@ impl Server {
         for block in from_other {
             self.free_afar(block, &mut seen)?;
         }
+        self.worker.leave().map_err(|left| left.why)?;
         Ok(seen)
     }
 }
 
 fn main() -> Result<(), Box<dyn std::error::Error>> {
-    println!("version 3: {}", Core::open("version = 3").err().unwrap());
-    let mut core = Core::open(POLICY)?;
-    for worker in 0..core.workers() {
-        core.refill(Worker(worker), MAIN)?;
-    }
+    println!("version 3: {}", Service::open("version = 3").err().unwrap());
+    let mut service = Service::open(POLICY)?;
     let names = ["red", "blue"];
-    let tenants = names.map(|name| core.tenant(name).unwrap());
-    let core = Arc::new(Mutex::new(core));
+    let tenants = names.map(|name| service.tenant(name).unwrap());
+    let mut servers = Vec::new();
+    for (number, tenant) in (0..).zip(tenants) {
+        let mut worker = service.worker(Worker(number))?.unwrap();
+        worker.refill(MAIN)?;
+        servers.push(Server { worker, tenant });
+    }
 
     let (to_blue, from_red) = channel();
     let (to_red, from_blue) = channel();
     let ends = [(to_blue, from_blue), (to_red, from_red)];
-    let threads: Vec<_> = (0..)
-        .zip(tenants)
+    let threads: Vec<_> = servers
+        .into_iter()
         .zip(ends)
-        .map(|((number, tenant), (to_other, from_other))| {
-            let core = Arc::clone(&core);
-            let server = Server {
-                core,
-                worker: Worker(number),
-                tenant,
-            };
+        .map(|(server, (to_other, from_other))| {
             thread::spawn(move || server.work(to_other, from_other))
         })
         .collect();
@@ -128,15 +121,15 @@ fn main() -> Result<(), Box<dyn std::error::Error>> {
         );
     }
 
-    let mut core = Arc::try_unwrap(core).ok().unwrap().into_inner()?;
-    for worker in 0..core.workers() {
-        println!(
-            "{} came home to worker {worker}",
-            core.take(Worker(worker), Segment(worker))?
-        );
-    }
-
+    let mut core = service.close()?;
     let (worker, red) = (Worker(0), tenants[0]);
+    for _ in 0..core.segments() {
+        core.refill(worker, MAIN)?;
+    }
+    for segment in 0..core.segments() {
+        let came = core.take(worker, Segment(segment))?;
+        println!("{came} came home to segment {segment}");
+    }
     core.collect(worker)?;
     let block = core.alloc(worker, red, MAIN, 65536)?;
     core.write(worker, red, block, 8191, 7)?;

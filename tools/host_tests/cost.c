@@ -1,6 +1,6 @@
 /* cost: the time of each call over the boundary, the best of many rounds, in ns. */
 #define _POSIX_C_SOURCE 199309L
-#include "heapguard.h"
+#include "heapguard_service.h"
 #include <stdio.h>
 #include <time.h>
 
@@ -69,6 +69,35 @@ static void cost_of_bank(uint32_t cores)
     drop(hg_bank_close(&bank));
 }
 
+/* A worker of a service, alone at it. */
+static void cost_of_worker(void)
+{
+    static hg_service service = HG_SERVICE_INIT;
+    static hg_worker one = HG_WORKER_INIT, two = HG_WORKER_INIT;
+    if (hg_service_open(&service, POLICY, sizeof POLICY - 1, NULL, 0).status != HG_DONE) return;
+    drop(hg_service_worker(&service, 0, &one));
+    drop(hg_service_worker(&service, 1, &two));
+    drop(hg_worker_refill(&one, 0));
+    hg_handle block = hg_worker_alloc(&one, 0, 0, 24).value;
+    printf("a worker of a service\n");
+    COST("misuse: a word of no handle", hg_worker_read(&one, 0, n & 0, 0));
+    COST("deliver, with nothing in hand", hg_worker_deliver(&one));
+    COST("read, not granted", hg_worker_read(&one, 1, block, n & 1));
+    COST("read, served", hg_worker_read(&one, 0, block, n & 1));
+    COST("write, served", hg_worker_write(&one, 0, block, 1, n));
+    COST("look, served", hg_worker_look(&one, 0, hg_place_of(block)));
+    COST("take, of nothing", hg_worker_take(&one, 0));
+    COST("question: whether it holds", hg_worker_holds(&one, n & 1));
+    COST("alloc and free of the block",
+         hg_worker_free(&one, 0, hg_worker_alloc(&one, 0, 0, 24).value));
+    COST("the same, freed and sent by another",
+         (drop(hg_worker_free(&two, 0, hg_worker_alloc(&one, 0, 0, 24).value)),
+          drop(hg_worker_deliver(&two)), hg_worker_take(&one, 0)));
+    drop(hg_worker_drop(&one));
+    drop(hg_worker_drop(&two));
+    drop(hg_service_drop(&service));
+}
+
 int main(void)
 {
     if (hg_open(&core, POLICY, sizeof POLICY - 1, NULL, 0).status != HG_DONE) return 1;
@@ -111,5 +140,6 @@ int main(void)
     drop(hg_close(&core));
     cost_of_bank(1);
     cost_of_bank(256);
+    cost_of_worker();
     return 0;
 }

@@ -12,6 +12,11 @@ const PLACES: u32 = 64 * 8192;
 pub struct Place(u32);
 
 impl Place {
+    /// The place of a number that the library told.
+    pub(crate) fn of(number: u32) -> Place {
+        Place(number)
+    }
+
     /// The place of a segment below 64, a page below 16 and an index below 512.
     pub fn new(segment: Segment, page: u8, index: u16) -> Option<Place> {
         (segment.0 < 64 && page < 16 && index < 512)

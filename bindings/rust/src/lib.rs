@@ -1,4 +1,4 @@
-//! heapguard's cores and banks in a Rust program: blocks of a memory of its own that tenants share
+//! heapguard's cores, banks and services in a Rust program: blocks of a memory of its own that tenants share
 //! under a written policy, named by handles and never by addresses.
 //!
 //! ```
@@ -20,7 +20,8 @@
 //! # Ok::<(), heapguard::OpenError>(())
 //! ```
 //!
-//! A [`Core`] has 4 MiB of blocks; a [`Bank`] is many cores under one policy.
+//! A [`Core`] has 4 MiB of blocks; a [`Bank`] is many cores under one policy; and a [`Service`] is
+//! what a core is, served by several threads at once.
 //!
 //! All calls are safe. What the library proves of each is in `crates/hg_c/README.md`.
 
@@ -30,6 +31,7 @@ mod handle;
 mod number;
 mod raw;
 mod refusal;
+mod service;
 mod told;
 
 pub use bank::Bank;
@@ -37,6 +39,7 @@ pub use bank_handle::{BankHandle, NoBankHandle};
 pub use handle::{Handle, NoHandle, Place};
 pub use number::{Arena, CoreNumber, Segment, Tenant, Worker};
 pub use refusal::{FaultKind, OpenError, PolicyFault, Refusal, Rule};
+pub use service::{NotClosed, NotLeft, Service, ServiceWorker, Unclosed};
 
 use raw::{RawCore, RawReply};
 use std::fmt;

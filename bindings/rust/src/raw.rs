@@ -1,4 +1,4 @@
-//! The calls of `include/heapguard.h`.
+//! The calls of `include/heapguard.h` and `include/heapguard_service.h`.
 
 /// The 16 bytes of a core, which the library alone looks into.
 #[repr(C)]
@@ -32,6 +32,38 @@ impl RawBank {
     }
 }
 
+/// The 16 bytes of a service, which the library alone looks into.
+#[repr(C)]
+pub struct RawService {
+    at: *mut u8,
+    mark: u64,
+}
+
+impl RawService {
+    pub fn closed() -> RawService {
+        RawService {
+            at: std::ptr::null_mut(),
+            mark: 0,
+        }
+    }
+}
+
+/// The 16 bytes of a worker of a service, which the library alone looks into.
+#[repr(C)]
+pub struct RawWorker {
+    at: *mut u8,
+    mark: u64,
+}
+
+impl RawWorker {
+    pub fn none() -> RawWorker {
+        RawWorker {
+            at: std::ptr::null_mut(),
+            mark: 0,
+        }
+    }
+}
+
 /// A block of a bank.
 #[repr(C)]
 #[derive(Clone, Copy)]
@@ -57,6 +89,11 @@ pub const TAKEN: u16 = 5;
 pub const PAGES: u16 = 6;
 pub const REFILLED: u16 = 7;
 pub const LISTED: u16 = 8;
+pub const AGAIN: u16 = 25;
+pub const STILL_OUT: u16 = 26;
+pub const STILL_HELD: u16 = 27;
+pub const LOST: u16 = 28;
+pub const NO_MEMORY: u16 = 57;
 
 extern "C" {
     pub fn hg_version() -> u32;
@@ -213,4 +250,57 @@ extern "C" {
         room: *mut u8,
         room_length: usize,
     ) -> RawReply;
+    pub fn hg_service_open(
+        service: *mut RawService,
+        policy: *const u8,
+        policy_length: usize,
+        room: *mut u8,
+        room_length: usize,
+    ) -> RawReply;
+    pub fn hg_service_worker(
+        service: *mut RawService,
+        number: u32,
+        worker: *mut RawWorker,
+    ) -> RawReply;
+    pub fn hg_service_close(service: *mut RawService, core: *mut RawCore) -> RawReply;
+    pub fn hg_service_drop(service: *mut RawService) -> RawReply;
+    pub fn hg_service_workers(service: *mut RawService) -> RawReply;
+    pub fn hg_service_segments(service: *mut RawService) -> RawReply;
+    pub fn hg_service_tenant(
+        service: *mut RawService,
+        name: *const u8,
+        name_length: usize,
+    ) -> RawReply;
+    pub fn hg_service_arena(
+        service: *mut RawService,
+        name: *const u8,
+        name_length: usize,
+    ) -> RawReply;
+    pub fn hg_worker_alloc(worker: *mut RawWorker, actor: u32, arena: u32, bytes: u64) -> RawReply;
+    pub fn hg_worker_free(worker: *mut RawWorker, actor: u32, block: u64) -> RawReply;
+    pub fn hg_worker_read(worker: *mut RawWorker, actor: u32, block: u64, index: u32) -> RawReply;
+    pub fn hg_worker_write(
+        worker: *mut RawWorker,
+        actor: u32,
+        block: u64,
+        index: u32,
+        value: u64,
+    ) -> RawReply;
+    pub fn hg_worker_look(worker: *mut RawWorker, actor: u32, place: u32) -> RawReply;
+    pub fn hg_worker_collect(worker: *mut RawWorker) -> RawReply;
+    pub fn hg_worker_deliver(worker: *mut RawWorker) -> RawReply;
+    pub fn hg_worker_take(worker: *mut RawWorker, segment: u32) -> RawReply;
+    pub fn hg_worker_refill(worker: *mut RawWorker, arena: u32) -> RawReply;
+    pub fn hg_worker_abandon(worker: *mut RawWorker, segment: u32) -> RawReply;
+    pub fn hg_worker_list(
+        worker: *mut RawWorker,
+        actor: u32,
+        room: *mut RawReply,
+        count: usize,
+    ) -> RawReply;
+    pub fn hg_worker_number(worker: *mut RawWorker) -> RawReply;
+    pub fn hg_worker_holds(worker: *mut RawWorker, segment: u32) -> RawReply;
+    pub fn hg_worker_hand(worker: *mut RawWorker) -> RawReply;
+    pub fn hg_worker_leave(worker: *mut RawWorker) -> RawReply;
+    pub fn hg_worker_drop(worker: *mut RawWorker) -> RawReply;
 }

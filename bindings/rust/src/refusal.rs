@@ -53,7 +53,9 @@ pub enum Refusal {
     NoSegment,
     /// All cores of the bank are open that there may be.
     Full,
-    /// Memory for one core more was refused.
+    /// Another call of the service has what this one needs: it did nothing, and may be made again.
+    Again,
+    /// Memory was refused.
     NoMemory,
     NoWorker,
     /// A status that this crate doesn't know, of a later library.
@@ -72,6 +74,7 @@ impl Refusal {
             22 => Refusal::NotHeld,
             23 => Refusal::NoSegment,
             24 => Refusal::Full,
+            25 => Refusal::Again,
             32 => Refusal::Denied(Rule::Stranger),
             33 => Refusal::Denied(Rule::Stale {
                 generation: raw.detail,
@@ -101,6 +104,7 @@ impl fmt::Display for Refusal {
             Refusal::NotHeld => f.write_str("notheld"),
             Refusal::NoSegment => f.write_str("nosegment"),
             Refusal::Full => f.write_str("full"),
+            Refusal::Again => f.write_str("again"),
             Refusal::NoMemory => f.write_str("no memory"),
             Refusal::NoWorker => f.write_str("no such worker"),
             Refusal::Other(status) => write!(f, "status {status}"),
@@ -139,7 +143,7 @@ impl fmt::Display for PolicyFault {
 
 impl std::error::Error for PolicyFault {}
 
-/// Why no core, or no bank, was opened.
+/// Why no core, no bank or no service was opened.
 #[derive(Clone, Debug, PartialEq, Eq)]
 #[non_exhaustive]
 pub enum OpenError {

@@ -16,6 +16,8 @@ use Rattle.hg_c.specs.declared.host_bank.HostBank.{HostBank}
 use Rattle.hg_bank.specs.State.{BankState}
 use Rattle.hg_c.specs.Banks as banks
 use Rattle.hg_c.specs.BankAtOnce as many
+use Rattle.hg_c.specs.declared.host_part.HostPart.{HostPart}
+use Rattle.hg_c.specs.Parts as parts
 
 both_ways : {X : Type 0} {b : Bool} → b ≡ true → b ≡ false → X
 both_ways is isnt = absurd (subst T (sym is ∙ isnt) tt)
@@ -60,5 +62,20 @@ pub on_bank_at_once : {old new : HostBank} {worker word : ℕ} {does : Handle �
     → (is_handle word ≡ true) × (word ≡ handle_word handle) → many.DoesAtOnce old worker (does handle) stays reply new → many.DoesOn old worker word does stays reply new
 on_bank_at_once handle is done = record {
   named = λ _. (handle, is.1, done);
+  unnamed = λ no. both_ways is.0 no;
+}
+
+-- the same of a worker
+pub on_part_handle : {old new : HostPart} {word : ℕ} {event : Handle → Event} {reply : Reply} (handle : Handle)
+    → (is_handle word ≡ true) × (word ≡ handle_word handle) → parts.Serves old (event handle) reply new → parts.ServesOn old word event reply new
+on_part_handle handle is serves = record {
+  named = λ _. (handle, is.1, serves);
+  unnamed = λ no. both_ways is.0 no;
+}
+
+pub at_part_place : {old new : HostPart} {number : ℕ} {event : Place → Event} {reply : Reply} (place : Place)
+    → (is_place number ≡ true) × (number ≡ number_of place) → parts.Serves old (event place) reply new → parts.ServesAt old number event reply new
+at_part_place place is serves = record {
+  named = λ _. (place, is.1, serves);
   unnamed = λ no. both_ways is.0 no;
 }

@@ -1,5 +1,5 @@
 -- Who holds a segment, and what a tenant is charged with a worker.
-use Rattle.std.specs.Prelude.{◌≡◌, ◌≢◌, ℕ, ◌<◌, ◌≤◌, Option, Some, None, length}
+use Rattle.std.specs.Prelude.{◌≡◌, ◌≢◌, ℕ, ◌<◌, ◌≤◌, length}
 use Rattle.hg_machine.specs.Charge.{charge}
 use Rattle.hg_machine.specs.Lists.{Kept}
 use Rattle.hg_machine.specs.State.{holder_at}

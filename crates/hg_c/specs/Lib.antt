@@ -9,3 +9,5 @@ pub mod AtOnce
 pub mod Banks
 pub mod BankOpening
 pub mod BankAtOnce
+pub mod Parts
+pub mod PartOpening

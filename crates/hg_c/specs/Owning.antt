@@ -1,10 +1,10 @@
--- What a core and a bank in a host's hands own.
-use Rattle.std.specs.Prelude.{ℕ, ◌==◌, Bool, true, false, []}
+-- What a core, a bank and a part of a service in a host's hands own.
+use Rattle.std.specs.Prelude.{ℕ, ◌==◌, Bool, true, false, [], Option, None, Some}
 use Rattle.hg_machine.specs.Lists.{Kept}
 use Rattle.hg_machine.specs.Policy.{Policy}
 use Rattle.hg_machine.specs.State.{opening}
 use Rattle.hg_bank.specs.State.{BankState}
-use base.Fml.{Lft, Share, Fml, ftrue, fsep, fex, flft}
+use base.Fml.{Lft, Share, Fml, ffalse, ftrue, fsep, fex, flft}
 use denote.RattleType.{RattleType}
 use denote.RawPtr.{Ptr}
 use denote.Struct.Lending.{lent_at}
@@ -13,12 +13,15 @@ use Rattle.std.specs.Global.{Global}
 use Rattle.std.specs.contracts.impls.GlobalAllocator.TheImpl.{ghosts}
 use Rattle.std.specs.Box.Ownership.{box_owns}
 
--- the mark of a core that is open, and of a bank: so neither is taken for the other
+-- the mark of a core that is open, of a bank, and of a part of a service: so none is taken for another
 abbrev pub open_mark : ℕ
 open_mark = 3550334381634438984
 
 abbrev pub bank_mark : ℕ
 bank_mark = 3552018773301872456
+
+abbrev pub part_mark : ℕ
+part_mark = 3554556446373660488
 
 -- the program's one heap: its handle holds nothing
 abbrev pub heap : Global
@@ -38,6 +41,14 @@ owns_if_open R mark at value = when (mark == open_mark) (box_owns may_free R at 
 
 abbrev pub owns_if_bank : (R : RattleType) → ℕ → Ptr → R.Denot → Fml
 owns_if_bank R mark at value = when (mark == bank_mark) (box_owns may_free R at value)
+
+-- this value on the heap, and the right to free it; where there is none, nobody owns it
+abbrev pub owns_some : (R : RattleType) → Ptr → Option R.Denot → Fml
+owns_some R at None = ffalse
+owns_some R at (Some value) = box_owns may_free R at value
+
+abbrev pub owns_if_part : (R : RattleType) → ℕ → Ptr → Option R.Denot → Fml
+owns_if_part R mark at value = when (mark == part_mark) (owns_some R at value)
 
 -- a value that may be read for a lifetime, and some part of what keeps that from ending: both can be
 -- had twice, so this can

@@ -1,4 +1,4 @@
-//! heapguard's cores and banks for hosts in C, C++ and Rust: each call that they make is an export of
+//! heapguard's cores, banks and services for hosts in C, C++ and Rust: each call that they make is an export of
 //! this static library. No export has a `requires`: what a host passes wrongly is answered, and nothing
 //! changes.
 #![tactic(auto)]
@@ -15,9 +15,13 @@ mod exports;
 mod holding;
 mod host_bank;
 mod host_core;
+mod host_part;
 mod lent_bank;
 mod lent_core;
 mod naming;
 mod opening;
+mod part_opening;
+mod part_serving;
+mod service_exports;
 mod serving;
 mod version;

@@ -23,7 +23,7 @@ use std::marker::Brand;
 /// A service that didn't close.
 #[derive(Drop)]
 pub enum HostedUnclosed {
-    /// It goes on, for this reason.
+    /// It goes on, for this reason: who has left stays so, and each other is as before.
     Running(HostedService, CloseFault),
     /// The lowest place that isn't accounted for, and the parts of a core that was to be made of the
     /// service, which is given up.

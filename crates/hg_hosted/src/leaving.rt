@@ -16,6 +16,7 @@ use std::alloc::Global;
 impl HostedWorker {
     /// Gives the worker back to its service. It holds no segment then and has nothing in hand; else
     /// it comes back as it was, and so it does where a call of another keeps what it has to put back.
+    /// Who lets that go drops the worker, with all that it holds, and its service closes no more.
     pub fn leave(self) -> Result<(), HostedWorker>
         ensures idle { OnOk result ((own : _) → self.state ≡ Some own → IsIdle own.value) }
         ensures back { IfErr result (λ back. back.state ≡ self.state) }

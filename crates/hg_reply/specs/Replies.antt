@@ -41,6 +41,10 @@ full = plain 24
 abbrev pub no_count : Reply
 no_count = plain 69
 
+-- of a service: another call has what this one needs
+abbrev pub again : Reply
+again = plain 25
+
 -- each rule has a status of its own
 abbrev pub denial : Rule → Reply
 denial rule.Stranger = plain 32

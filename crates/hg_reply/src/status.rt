@@ -6,11 +6,29 @@ pub const DONE: u16 = 2;
 /// A number is told, or a word.
 pub const VALUE: u16 = 4;
 
+/// The worker has another place in hand.
+pub const BUSY: u16 = 20;
+
+/// The worker has nothing in hand.
+pub const NOTHING_IN_HAND: u16 = 21;
+
 /// Nobody holds the segment.
 pub const NOT_HELD: u16 = 22;
 
 /// All cores of a bank are open that there may be.
 pub const FULL: u16 = 24;
+
+/// Another call has what this one needs, and nothing was done.
+pub const AGAIN: u16 = 25;
+
+/// A worker hasn't left.
+pub const STILL_OUT: u16 = 26;
+
+/// A worker holds a segment.
+pub const STILL_HELD: u16 = 27;
+
+/// A place isn't accounted for.
+pub const LOST: u16 = 28;
 
 /// Memory was refused.
 pub const NO_MEMORY: u16 = 57;

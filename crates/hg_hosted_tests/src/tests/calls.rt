@@ -193,38 +193,48 @@ fn closes_into_a_core(rt: HostRuntime) {
     same(&rt, word_in(&rt, core, handle), Some(5));
 }
 
-/// How many places come home in the core that the service closes into, of segment 1.
-fn taken_in(rt: &impl Abort, core: Core) -> Option<u32> {
+/// How many places come home in the core that the service closes into, of segments 0 and 1.
+fn taken_in(rt: &impl Abort, core: Core) -> (Option<u32>, Option<u32>) {
     let mut core = core;
     assert!(rt; 0 < core.policy().workers());
     assert!(rt; core.refill(0, MAIN).is_ok());
     assert!(rt; core.refill(0, MAIN).is_ok());
-    core.take(0, 1).ok()
+    let first = core.take(0, 0).ok();
+    (first, core.take(0, 1).ok())
 }
 
-/// The other holds segment 1, and the one frees its block there and delivers; then both hold nothing.
-fn sent_to_segment_1(rt: &impl Abort, one: &mut HostedWorker, other: &mut HostedWorker) {
+/// The one frees a new block of the other's, and delivers.
+fn sends(rt: &impl Abort, one: &mut HostedWorker, other: &mut HostedWorker) {
+    let handle = block(rt, other);
+    answers(rt, one, free(ALICE, handle), Answer::Parted);
+    answers(rt, one, Event::Deliver, Answer::Done);
+}
+
+/// The other holds segment 1. It is sent one place there, and the one two in segment 0; then both
+/// hold nothing.
+fn sent_to_both(rt: &impl Abort, one: &mut HostedWorker, other: &mut HostedWorker) {
     answers(
         rt,
         other,
         Event::Refill { arena: MAIN },
         Answer::Refilled(1),
     );
-    let handle = block(rt, other);
-    answers(rt, one, free(ALICE, handle), Answer::Parted);
-    answers(rt, one, Event::Deliver, Answer::Done);
+    sends(rt, one, other);
+    sends(rt, other, one);
+    sends(rt, other, one);
     answers(rt, one, Event::Abandon { segment: 0 }, Answer::Done);
     answers(rt, other, Event::Abandon { segment: 1 }, Answer::Done);
 }
 
-// What was sent and not taken in comes home in the core that the service closes into.
+// What was sent and not taken in comes home in the core that the service closes into, each place in
+// its own segment.
 #[test]
-fn sent_block_is_in_the_core(rt: HostRuntime) {
+fn sent_blocks_are_in_the_core(rt: HostRuntime) {
     let (service, mut one, mut other) = pair(&rt, rt.alloc());
-    sent_to_segment_1(&rt, &mut one, &mut other);
+    sent_to_both(&rt, &mut one, &mut other);
     both_leave(&rt, one, other);
     let core = closed(&rt, service, rt.alloc());
-    same(&rt, taken_in(&rt, core), Some(1));
+    same(&rt, taken_in(&rt, core), (Some(2), Some(1)));
 }
 
 // A worker that is dropped keeps its service from closing.

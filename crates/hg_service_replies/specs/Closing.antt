@@ -1,0 +1,53 @@
+-- How a service becomes a core.
+use Rattle.std.specs.Prelude.{◌≡◌, Option, None, Some, Result, MatchResult}
+use Rattle.std.specs.Prelude.{length}
+use Rattle.hg_place.specs.declared.Place.{Place}
+use Rattle.hg_place.specs.Places.{number_of}
+use Rattle.hg_machine.specs.Lists.{Kept}
+use Rattle.hg_close.specs.Closed.{IsQuiet}
+use Rattle.hg_close.specs.declared.fault.CloseFault.{CloseFault}
+use Rattle.hg_close.specs.declared.fault.CloseFault.TheVariants as fault
+use Rattle.hg_reply.specs.declared.reply.Reply.{Reply}
+use Rattle.hg_reply.specs.Replies.{again, no_memory, valued}
+use Rattle.hg_service_replies.specs.declared.part.HostedPart.{HostedPart}
+use Rattle.hg_service_replies.specs.declared.part.HostedPart.TheVariants as part
+use Rattle.hg_service_replies.specs.declared.part.OpenService.{OpenService}
+use Rattle.hg_service_replies.specs.Serving.{IsOther}
+
+-- why it doesn't close: the fault, or that another call has what a worker puts back
+abbrev pub told_fault : CloseFault → Reply
+told_fault fault.Memory = no_memory
+told_fault (fault.StillOut worker) = valued 26 worker
+told_fault (fault.StillHeld segment) = valued 27 segment
+
+abbrev pub told_why : Option CloseFault → Reply
+told_why None = again
+told_why (Some fault) = told_fault fault
+
+-- it goes on with the same policy and as many places for workers, and the reply tells why
+pub record GoesOn (old : OpenService) (reply : Reply) (new : OpenService) : Type 0 where
+  pub policy : new.service.policy ≡ old.service.policy
+  pub workers : length new.workers.items ≡ length old.workers.items
+  pub why : Option CloseFault
+  pub told : reply ≡ told_why why
+
+-- what is left of it: it goes on, or it is lost with a place and nothing is left
+abbrev pub IsUnclosed : OpenService → HostedPart → Reply → Type 0
+IsUnclosed old (part.Service new) reply = GoesOn old reply new
+IsUnclosed old part.Gone reply = (place : Place) × (reply ≡ valued 28 (number_of place))
+IsUnclosed old (part.Worker worker) reply = ⊥
+IsUnclosed old (part.Core core) reply = ⊥
+
+-- A service becomes a core in which nobody holds a segment and each hand is empty, and is gone; or
+-- it goes on, or is lost. A core that waits is handed out. Any other part is answered as closed, and
+-- stays
+abbrev pub PartCloses : HostedPart → Result Kept Reply → HostedPart → Type 0
+PartCloses (part.Service old) result new =
+    MatchResult result (λ core. (new ≡ part.Gone) × IsQuiet old.service.policy core)
+    (λ reply. IsUnclosed old new reply)
+PartCloses (part.Core old) result new =
+    MatchResult result (λ core. (new ≡ part.Gone) × (core ≡ old)) (λ reply. ⊥)
+PartCloses (part.Worker old) result new =
+    MatchResult result (λ core. ⊥) (λ reply. IsOther (part.Worker old) reply new)
+PartCloses part.Gone result new =
+    MatchResult result (λ core. ⊥) (λ reply. IsOther part.Gone reply new)

@@ -1,0 +1,55 @@
+-- How a worker leaves its service.
+use Rattle.std.specs.Prelude.{◌≡◌, ◌≢◌, ℕ, ◌<◌, true, Option, None, Some, Result}
+use Rattle.std.specs.Prelude.{MatchOption, MatchResult}
+use Rattle.hg_place.specs.declared.geometry.TheConstants.{MAX_SEGMENTS}
+use Rattle.hg_heap.specs.Held.{is_held}
+use Rattle.hg_worker.specs.Seats.{number_in}
+use Rattle.hg_worker.specs.declared.state.WorkerState.{WorkerState}
+use Rattle.hg_hosted.specs.declared.worker.HostedWorker.{HostedWorker}
+use Rattle.hg_hosted.specs.Leaving.{HoldsNoneBelow, IsIdle}
+use Rattle.hg_reply.specs.declared.reply.Reply.{Reply}
+use Rattle.hg_reply.specs.Replies.{again, plain, valued}
+use Rattle.hg_service_replies.specs.declared.part.HostedPart.{HostedPart}
+use Rattle.hg_service_replies.specs.declared.part.HostedPart.TheVariants as part
+use Rattle.hg_service_replies.specs.Serving.{IsOther}
+
+-- what is said of its state
+abbrev pub Has : (WorkerState → Type 0) → HostedWorker → Type 0
+Has Is worker = (own : _) → worker.state ≡ Some own → Is own.value
+
+-- the segment is the lowest that it holds
+pub record HoldsFirst (segment : ℕ) (state : WorkerState) : Type 0 where
+  pub below : segment < MAX_SEGMENTS
+  pub held : is_held number_in state.heap.segments segment ≡ true
+  pub lower : HoldsNoneBelow state segment
+
+abbrev pub HoldsNone : WorkerState → Type 0
+HoldsNone state = HoldsNoneBelow state MAX_SEGMENTS
+
+-- why it stays, by the first that is so: a block in hand, the lowest segment that it holds, or that
+-- another call has what it has to put back
+pub record StaysFor (worker : HostedWorker) (reply : Reply) : Type 0 where
+  pub hand : Has (λ state. state.hand ≢ None) worker → reply ≡ plain 20
+  pub holds :
+      Has (λ state. state.hand ≡ None) worker → Has (λ state. ¬ (HoldsNone state)) worker
+      → (segment : ℕ) × Has (HoldsFirst segment) worker × (reply ≡ valued 27 segment)
+  pub shared : Has IsIdle worker → reply ≡ again
+
+-- it is idle and left, or comes back in its state with the reason
+abbrev pub Leaves : HostedWorker → Result (Unit {0}) (HostedWorker × Reply) → Type 0
+Leaves worker result =
+    MatchResult result (λ left. Has IsIdle worker)
+    (λ back. (back.0.state ≡ worker.state) × StaysFor worker back.1)
+
+-- a worker leaves and is gone, or stays; any other part is answered as closed, and stays
+pub record WorkerLeaves (old : HostedWorker) (reply : Reply) (new : HostedPart) : Type 0 where
+  pub back : Option HostedWorker
+  pub either :
+      MatchOption back ((reply ≡ plain 2) × (new ≡ part.Gone) × Has IsIdle old)
+      (λ back. (new ≡ part.Worker back) × (back.state ≡ old.state) × StaysFor old reply)
+
+abbrev pub PartLeaves : HostedPart → Reply → HostedPart → Type 0
+PartLeaves (part.Worker old) reply new = WorkerLeaves old reply new
+PartLeaves (part.Service service) reply new = IsOther (part.Service service) reply new
+PartLeaves (part.Core core) reply new = IsOther (part.Core core) reply new
+PartLeaves part.Gone reply new = IsOther part.Gone reply new

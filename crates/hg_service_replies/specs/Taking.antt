@@ -1,0 +1,44 @@
+-- What a service gives of its workers.
+use Rattle.std.specs.Prelude.{◌≡◌, ◌≢◌, ℕ, List, Option, None, Some, Result, MatchResult}
+use Rattle.std.specs.Prelude.{slice_get, slice_set}
+use Rattle.hg_hosted.specs.declared.worker.HostedWorker.{HostedWorker}
+use Rattle.hg_reply.specs.declared.reply.Reply.{Reply}
+use Rattle.hg_reply.specs.Replies.{no_worker}
+use Rattle.hg_service_replies.specs.declared.part.HostedPart.{HostedPart}
+use Rattle.hg_service_replies.specs.declared.part.HostedPart.TheVariants as part
+use Rattle.hg_service_replies.specs.declared.part.OpenService.{OpenService}
+use Rattle.hg_service_replies.specs.Serving.{IsOther}
+
+-- the worker of the number was there, and is no more; the others are
+pub record IsTaken (old : List (Option HostedWorker)) (number : ℕ) (worker : HostedWorker)
+    (new : List (Option HostedWorker)) : Type 0 where
+  pub there : slice_get old number ≡ Some (Some worker)
+  pub others : new ≡ slice_set old number None
+
+-- no worker of the number was there, and those that were are
+pub record IsNone (old : List (Option HostedWorker)) (number : ℕ)
+    (new : List (Option HostedWorker)) : Type 0 where
+  pub out : (worker : HostedWorker) → slice_get old number ≢ Some (Some worker)
+  pub same : new ≡ old
+
+-- a service changes its workers so, and nothing else
+pub record Changes (old : OpenService)
+    (does : List (Option HostedWorker) → List (Option HostedWorker) → Type 0) (new : HostedPart)
+    : Type 0 where
+  pub left : OpenService
+  pub now : new ≡ part.Service left
+  pub service : left.service ≡ old.service
+  pub workers : does old.workers.items left.workers.items
+
+-- a service gives a worker, or has none of that number; any other part is answered as closed, and
+-- stays
+abbrev pub GivesWorker : HostedPart → ℕ → Result HostedWorker Reply → HostedPart → Type 0
+GivesWorker (part.Service old) number result new =
+    MatchResult result (λ worker. Changes old (λ was is. IsTaken was number worker is) new)
+    (λ reply. (reply ≡ no_worker) × Changes old (λ was is. IsNone was number is) new)
+GivesWorker (part.Worker old) number result new =
+    MatchResult result (λ worker. ⊥) (λ reply. IsOther (part.Worker old) reply new)
+GivesWorker (part.Core core) number result new =
+    MatchResult result (λ worker. ⊥) (λ reply. IsOther (part.Core core) reply new)
+GivesWorker part.Gone number result new =
+    MatchResult result (λ worker. ⊥) (λ reply. IsOther part.Gone reply new)

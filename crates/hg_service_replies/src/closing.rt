@@ -1,0 +1,94 @@
+//! A service becomes a core.
+
+ghost use Rattle.std.specs.Prelude.{◌≡◌, ◌≢◌, length, IfErr, MatchResult};
+ghost use Rattle.hg_close.specs.Closed.{IsQuiet};
+ghost use Rattle.hg_service_replies.specs.Closing.{IsUnclosed, PartCloses, told_fault};
+
+use crate::leaving::leave_one;
+use crate::part::{HostedPart, OpenService};
+use hg_close::CloseFault;
+use hg_core::Core;
+use hg_hosted::{HostedUnclosed, HostedWorker};
+use hg_reply::Reply;
+use hg_reply::status::{AGAIN, CLOSED, LOST, NO_MEMORY, STILL_HELD, STILL_OUT};
+use std::alloc::Global;
+use std::mem;
+
+/// The core that a service becomes, once each worker that a thread had has left. Else the service
+/// goes on: `STILL_OUT` with the lowest worker that hasn't left, `STILL_HELD` with the lowest
+/// segment that is held, `AGAIN` where another call has what one that no thread had puts back, or
+/// `NO_MEMORY`. `LOST` with the lowest place that isn't accounted for, as one whose block was in the
+/// hand of a worker that was dropped: then the service is gone. Any other part is answered `CLOSED`.
+pub fn close(alloc: Global, part: &mut HostedPart) -> Result<Core, Reply>
+    ensures closes { PartCloses part.old result part.new }
+    ensures refused { IfErr result (λ why. why.status ≢ 2) }
+{
+    match mem::replace(part, HostedPart::Gone) {
+        HostedPart::Service(service) => match close_open(alloc, service) {
+            Ok(core) => Ok(core),
+            Err((left, why)) => {
+                *part = left;
+                Err(why)
+            }
+        },
+        HostedPart::Core(core) => Ok(core),
+        other => {
+            *part = other;
+            Err(Reply::plain(CLOSED))
+        }
+    }
+}
+
+/// A service becomes a core, or goes on, or is lost.
+fn close_open(alloc: Global, opened: OpenService) -> Result<Core, (HostedPart, Reply)>
+    ensures closes { MatchResult result (IsQuiet opened.service.policy)
+        (λ unclosed. IsUnclosed opened unclosed.0 unclosed.1) }
+    ensures refused { IfErr result (λ unclosed. unclosed.1.status ≢ 2) }
+{
+    let OpenService {
+        service,
+        mut workers,
+    } = opened;
+    if !let_leave(&mut workers) {
+        let left = HostedPart::Service(OpenService { service, workers });
+        return Err((left, Reply::plain(AGAIN)));
+    }
+    match service.close(alloc) {
+        Ok(core) => Ok(core),
+        Err(HostedUnclosed::Running(service, fault)) => {
+            let left = HostedPart::Service(OpenService { service, workers });
+            Err((left, fault_reply(fault)))
+        }
+        Err(HostedUnclosed::Lost(place, _parts)) => {
+            Err((HostedPart::Gone, Reply::valued(LOST, place.number() as u64)))
+        }
+    }
+}
+
+/// The workers that no thread has leave. Whether all did.
+fn let_leave(workers: &mut Vec<Option<HostedWorker>>) -> bool
+    ensures { length workers.new.items ≡ length workers.old.items }
+{
+    let mut left = true;
+    for at in 0..workers.len() {
+        if let Some(worker) = workers[at].take() {
+            if let Err((back, _why)) = leave_one(worker) {
+                workers[at] = Some(back);
+                left = false;
+            }
+        }
+    }
+    left
+}
+
+/// Why it doesn't close.
+fn fault_reply(fault: CloseFault) -> Reply
+    ensures told { result ≡ told_fault fault }
+    ensures refused { result.status ≢ 2 }
+{
+    match fault {
+        CloseFault::Memory => Reply::plain(NO_MEMORY),
+        CloseFault::StillOut(worker) => Reply::valued(STILL_OUT, u64::from(worker)),
+        CloseFault::StillHeld(segment) => Reply::valued(STILL_HELD, u64::from(segment)),
+    }
+}

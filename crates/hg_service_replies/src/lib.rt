@@ -1,0 +1,20 @@
+//! What a host asks the parts of a service by numbers, and what it is answered in 16 bytes.
+#![tactic(auto)]
+
+mod asking;
+mod closing;
+mod leaving;
+mod listing;
+mod opening;
+mod part;
+mod serving;
+mod taking;
+
+pub use asking::{PartQuestion, answer, find};
+pub use closing::close;
+pub use leaving::leave;
+pub use listing::list;
+pub use opening::open;
+pub use part::{HostedPart, OpenService};
+pub use serving::serve;
+pub use taking::take_worker;

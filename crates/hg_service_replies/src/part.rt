@@ -1,0 +1,25 @@
+//! A part of a service, as its host keeps it.
+
+use hg_core::Core;
+use hg_hosted::{HostedService, HostedWorker};
+
+/// A part of a service, as its host keeps it.
+#[derive(Drop)]
+pub enum HostedPart {
+    /// A worker, for one thread.
+    Worker(HostedWorker),
+    /// What there is beside the workers that threads have.
+    Service(OpenService),
+    /// The core that a service became, as long as there is no memory to hand it out.
+    Core(Core),
+    /// Nothing any more: a worker that has left, or a service that was closed.
+    Gone,
+}
+
+/// A service, and its workers that no thread has yet.
+#[derive(Drop)]
+pub struct OpenService {
+    pub service: HostedService,
+    /// By number.
+    pub workers: Vec<Option<HostedWorker>>,
+}

@@ -1,0 +1,2 @@
+mod opened;
+mod parts;

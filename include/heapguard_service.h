@@ -1,0 +1,179 @@
+/* heapguard_service.h: heapguard in the threads of a program in C11 or C++17. docs/EMBEDDING.md has
+ * how to link it, and a host to begin from.
+ *
+ * A service is what a core is, served by several threads at once: each thread is one of its workers,
+ * and makes its calls with no lock, whatever the others do. Blocks, handles, policies and answers
+ * are a core's. What is in crates/hg_c/README.md is what each call promises, and what of it is
+ * proved.
+ *
+ * No call waits for another, and none has a condition on what its numbers, texts and handles are: as
+ * heapguard.h says of a core's. What workers share stands ready between two calls. A Deliver, a Take,
+ * a Refill or an Abandon that finds another call at it is answered HG_AGAIN, and has done nothing:
+ * the host makes the call again, as the functions at the end of this file do. No call but
+ * hg_service_open, hg_service_worker, hg_service_close and hg_worker_list takes memory.
+ *
+ * What the caller owes, beside what heapguard.h says of lengths, the allocator, signals and forks:
+ *  1. One call at a time on a service, and one at a time on a worker. Calls on two workers, or on a
+ *     worker and the service, need no order: they are the point. A worker may go to another thread,
+ *     and calls of several threads on one worker are then ordered by a lock, by starting or joining
+ *     a thread, or by sequentially consistent atomics.
+ *  2. A service is 16 bytes of the caller, aligned to 8, and begins as HG_SERVICE_INIT, which is
+ *     zeros, and a worker as HG_WORKER_INIT. Left without that, or copied: as heapguard.h says of a
+ *     core.
+ */
+#ifndef HEAPGUARD_SERVICE_H
+#define HEAPGUARD_SERVICE_H
+
+#include "heapguard.h"
+
+#if (defined(__cplusplus) && __cplusplus >= 201703L) \
+    || (defined(__STDC_VERSION__) && __STDC_VERSION__ > 201710L)
+#define HG_MUST_USE [[nodiscard]]
+#elif defined(__GNUC__)
+#define HG_MUST_USE __attribute__((warn_unused_result))
+#else
+#define HG_MUST_USE
+#endif
+
+#ifdef __cplusplus
+#define HG_AS(type, value) static_cast<type>(value)
+extern "C" {
+#else
+#define HG_AS(type, value) ((type)(value))
+#endif
+
+/* A service. Its fields are the library's. */
+typedef struct hg_service {
+    void *at;
+    uint64_t mark;
+} hg_service;
+
+/* A service that is closed. */
+#define HG_SERVICE_INIT {0, 0}
+
+/* A worker of a service. Its fields are the library's. */
+typedef struct hg_worker {
+    void *at;
+    uint64_t mark;
+} hg_worker;
+
+/* No worker. */
+#define HG_WORKER_INIT {0, 0}
+
+/* Opens a service by the text of its policy, with all of its workers: as hg_open. */
+HG_MUST_USE hg_reply hg_service_open(hg_service *service, const char *policy, size_t policy_length,
+                                     char *room, size_t room_length);
+
+/* Gives the worker of a number: HG_DONE; HG_HELD where one stands in `worker` already; HG_NO_WORKER
+ * where the policy has none of that number, or it was given; or HG_NO_MEMORY. */
+HG_MUST_USE hg_reply hg_service_worker(hg_service *service, uint32_t number, hg_worker *worker);
+
+/* The service becomes a core, in which nobody holds a segment and no hand has a block: HG_DONE, once
+ * each worker that was given has left. Else it goes on: HG_STILL_OUT with the lowest worker that
+ * hasn't left, HG_STILL_HELD with the lowest segment that is held, HG_AGAIN, HG_NO_MEMORY, or HG_HELD
+ * where a core is open in `core`. Workers that weren't given leave by it, and aren't given any more.
+ * HG_LOST with the number of the lowest place that isn't accounted for, as one that a worker had in
+ * hand that was dropped: then the service is gone. */
+HG_MUST_USE hg_reply hg_service_close(hg_service *service, hg_core *core);
+
+/* Gives a service up, and frees what no worker has: HG_DONE. Its workers go on, until they are
+ * dropped or leave; the blocks come into no core. */
+HG_MUST_USE hg_reply hg_service_drop(hg_service *service);
+
+/* Questions: HG_VALUE with the number, or HG_NO_NAME. */
+HG_MUST_USE hg_reply hg_service_workers(hg_service *service);
+HG_MUST_USE hg_reply hg_service_segments(hg_service *service);
+HG_MUST_USE hg_reply hg_service_tenant(hg_service *service, const char *name, size_t name_length);
+HG_MUST_USE hg_reply hg_service_arena(hg_service *service, const char *name, size_t name_length);
+
+/* The ten events of a worker, answered as a core's are; and HG_AGAIN, of four of them. */
+HG_MUST_USE hg_reply hg_worker_alloc(hg_worker *worker, uint32_t actor, uint32_t arena,
+                                     uint64_t bytes);
+HG_MUST_USE hg_reply hg_worker_free(hg_worker *worker, uint32_t actor, hg_handle block);
+HG_MUST_USE hg_reply hg_worker_read(hg_worker *worker, uint32_t actor, hg_handle block,
+                                    uint32_t index);
+HG_MUST_USE hg_reply hg_worker_write(hg_worker *worker, uint32_t actor, hg_handle block,
+                                     uint32_t index, uint64_t value);
+HG_MUST_USE hg_reply hg_worker_look(hg_worker *worker, uint32_t actor, uint32_t place);
+HG_MUST_USE hg_reply hg_worker_collect(hg_worker *worker);
+HG_MUST_USE hg_reply hg_worker_deliver(hg_worker *worker);                   /* or HG_AGAIN */
+HG_MUST_USE hg_reply hg_worker_take(hg_worker *worker, uint32_t segment);    /* or HG_AGAIN */
+HG_MUST_USE hg_reply hg_worker_refill(hg_worker *worker, uint32_t arena);    /* or HG_AGAIN */
+HG_MUST_USE hg_reply hg_worker_abandon(hg_worker *worker, uint32_t segment); /* or HG_AGAIN */
+
+/* The blocks that the worker holds and the actor may list, in rising order of their places: HG_DONE
+ * with how many there are, each a Look that was answered HG_LISTED, of which as many stand in the
+ * room as have one there; what is behind them is as it was. Or HG_NO_MEMORY. */
+HG_MUST_USE hg_reply hg_worker_list(hg_worker *worker, uint32_t actor, hg_reply *room,
+                                    size_t count);
+
+/* Questions: HG_VALUE with the worker's number; with 1 or 0; with the number of the place of the
+ * block in its hand, or HG_NOTHING_IN_HAND. */
+HG_MUST_USE hg_reply hg_worker_number(hg_worker *worker);
+HG_MUST_USE hg_reply hg_worker_holds(hg_worker *worker, uint32_t segment);
+HG_MUST_USE hg_reply hg_worker_hand(hg_worker *worker);
+
+/* The worker goes back to its service: HG_DONE, and there is none any more. HG_BUSY where it has a
+ * block in hand, HG_STILL_HELD with the lowest segment that it holds, or HG_AGAIN: then it stays. */
+HG_MUST_USE hg_reply hg_worker_leave(hg_worker *worker);
+
+/* Gives a worker up with all that it holds and has in hand: HG_DONE. Its service closes no more. */
+HG_MUST_USE hg_reply hg_worker_drop(hg_worker *worker);
+
+#ifdef __cplusplus
+}
+#endif
+
+/* What four calls do where another call is there: they ask again. A host that has something else to
+ * do meanwhile makes the calls themselves. */
+HG_MUST_USE static inline hg_reply hg_worker_deliver_now(hg_worker *worker)
+{
+    hg_reply reply;
+    do reply = hg_worker_deliver(worker);
+    while (reply.status == HG_AGAIN);
+    return reply;
+}
+
+HG_MUST_USE static inline hg_reply hg_worker_take_now(hg_worker *worker, uint32_t segment)
+{
+    hg_reply reply;
+    do reply = hg_worker_take(worker, segment);
+    while (reply.status == HG_AGAIN);
+    return reply;
+}
+
+HG_MUST_USE static inline hg_reply hg_worker_refill_now(hg_worker *worker, uint32_t arena)
+{
+    hg_reply reply;
+    do reply = hg_worker_refill(worker, arena);
+    while (reply.status == HG_AGAIN);
+    return reply;
+}
+
+HG_MUST_USE static inline hg_reply hg_worker_abandon_now(hg_worker *worker, uint32_t segment)
+{
+    hg_reply reply;
+    do reply = hg_worker_abandon(worker, segment);
+    while (reply.status == HG_AGAIN);
+    return reply;
+}
+
+/* Sends what is in hand, gives up each segment that the worker holds, in rising order, and leaves:
+ * HG_DONE, or what the first call that wasn't served was answered, and then the worker stays. */
+HG_MUST_USE static inline hg_reply hg_worker_leave_now(hg_worker *worker)
+{
+    hg_reply reply = hg_worker_deliver_now(worker);
+    if (reply.status != HG_DONE && reply.status != HG_NOTHING_IN_HAND) return reply;
+    for (;;) {
+        reply = hg_worker_leave(worker);
+        if (reply.status == HG_AGAIN) continue;
+        if (reply.status != HG_STILL_HELD) return reply;
+        reply = hg_worker_abandon_now(worker, HG_AS(uint32_t, reply.value));
+        if (reply.status != HG_DONE) return reply;
+    }
+}
+
+#undef HG_AS
+#undef HG_MUST_USE
+
+#endif

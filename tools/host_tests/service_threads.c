@@ -1,0 +1,191 @@
+/* service_threads [EVENTS [THREADS]]: threads that are the workers of one service, with no lock. Each
+ * makes blocks and leaves them in places that all share, takes what others left there and frees it,
+ * and now and then frees what stands there still, so that several free one block at once: one alone
+ * is served. In the end each leaves, the service becomes a core, and what lives there is what
+ * stands in the places, each with the word that was written in it.
+ */
+#include "heapguard_service.h"
+#include <pthread.h>
+#include <stdatomic.h>
+#include <stdio.h>
+#include <stdlib.h>
+#include <string.h>
+
+enum { MOST = 16, PLACES = 512, TENANT = 0, ARENA = 0, TIDY = 300 };
+
+static const char POLICY[] =
+    "version = 1\n"
+    "workers = %u\n"
+    "tenant = [ {name = \"host\", limit = 1000000000} ]\n"
+    "arena = [ {name = \"main\", segments = 48} ]\n";
+
+/* Handles of blocks that live, and 0. */
+static _Atomic uint64_t places[PLACES];
+
+typedef struct thread {
+    pthread_t id;
+    hg_worker worker;
+    uint64_t seed, events, made, freed, rivals, again, wrong;
+} thread;
+
+static uint64_t next(thread *of)
+{
+    uint64_t x = of->seed += UINT64_C(0x9e3779b97f4a7c15);
+    x = (x ^ x >> 30) * UINT64_C(0xbf58476d1ce4e5b9);
+    x = (x ^ x >> 27) * UINT64_C(0x94d049bb133111eb);
+    return x ^ x >> 31;
+}
+
+static void wrong(thread *of, const char *call, hg_reply reply)
+{
+    if (of->wrong++ == 0) printf("service_threads: %s: %s\n", call, hg_status_text(reply.status));
+}
+
+/* Makes a call again as long as it is answered so. */
+#define ASKING(of, reply, call)                                          \
+    do {                                                                 \
+        (of)->events++;                                                  \
+        (reply) = (call);                                                \
+    } while ((reply).status == HG_AGAIN && ++(of)->again)
+
+/* Frees a block; whether this ended its life. */
+static int free_block(thread *of, hg_handle block)
+{
+    of->events++;
+    hg_reply reply = hg_worker_free(&of->worker, TENANT, block);
+    if (reply.status == HG_PARTED) {
+        hg_reply sent;
+        ASKING(of, sent, hg_worker_deliver(&of->worker));
+        if (sent.status != HG_DONE) wrong(of, "deliver", sent);
+    }
+    int ended = reply.status == HG_DONE || reply.status == HG_PARTED;
+    if (!ended && reply.status != HG_STALE && reply.status != HG_ALREADY_FREED)
+        wrong(of, "free", reply);
+    of->freed += (unsigned)ended;
+    return ended;
+}
+
+/* Takes in what others freed, and gives back what is empty. */
+static void tidy(thread *of)
+{
+    hg_reply reply;
+    for (uint32_t segment = 0; segment < 48; segment++) {
+        if (hg_worker_holds(&of->worker, segment).value != 1) continue;
+        ASKING(of, reply, hg_worker_take(&of->worker, segment));
+        if (reply.status != HG_TAKEN) wrong(of, "take", reply);
+        if (next(of) % 64 == 0) {
+            ASKING(of, reply, hg_worker_abandon(&of->worker, segment));
+            if (reply.status != HG_DONE) wrong(of, "abandon", reply);
+        }
+    }
+    of->events++;
+    reply = hg_worker_collect(&of->worker);
+    if (reply.status != HG_PAGES) wrong(of, "collect", reply);
+}
+
+/* A block with its own handle in its first word, or 0 where there is no room anywhere. */
+static hg_handle new_block(thread *of)
+{
+    for (;;) {
+        of->events++;
+        hg_reply made = hg_worker_alloc(&of->worker, TENANT, ARENA, 1 + next(of) % 512);
+        if (made.status == HG_BLOCK) {
+            of->events++;
+            hg_reply done = hg_worker_write(&of->worker, TENANT, made.value, 0, made.value);
+            if (done.status != HG_DONE) wrong(of, "write", done);
+            of->made++;
+            return made.value;
+        }
+        if (made.status != HG_NO_ROOM) wrong(of, "alloc", made);
+        hg_reply more;
+        ASKING(of, more, hg_worker_refill(&of->worker, ARENA));
+        if (more.status == HG_NO_SEGMENT) return 0;
+        if (more.status != HG_REFILLED) wrong(of, "refill", more);
+    }
+}
+
+static uint64_t most;
+
+static void *serve(void *given)
+{
+    thread *of = given;
+    while (of->events < most) {
+        _Atomic uint64_t *place = &places[next(of) % PLACES];
+        hg_handle block = atomic_load(place);
+        if (block != 0 && next(of) % 4 == 0) {
+            /* A rival of whoever takes it from there. */
+            if (free_block(of, block)) atomic_compare_exchange_strong(place, &block, 0);
+            of->rivals++;
+            continue;
+        }
+        block = new_block(of);
+        block = atomic_exchange(place, block);
+        if (block != 0) free_block(of, block);
+        if (next(of) % TIDY == 0) tidy(of);
+    }
+    hg_reply left = hg_worker_leave_now(&of->worker);
+    if (left.status != HG_DONE) wrong(of, "leave", left);
+    return NULL;
+}
+
+/* How many blocks live in the core that stand in no place, or stand there and don't live. */
+static uint64_t compare(hg_core *core, uint64_t *lives)
+{
+    uint64_t unlike = 0;
+    while (hg_refill(core, 0, ARENA).status == HG_REFILLED) {}
+    for (uint32_t place = 0; place < 48 * 8192; place++) {
+        hg_reply row = hg_look(core, 0, TENANT, place);
+        if (row.status != HG_LISTED) continue;
+        (*lives)++;
+        unlike += hg_read(core, 0, TENANT, row.value, 0).value != row.value;
+        unsigned found = 0;
+        for (unsigned at = 0; at < PLACES; at++) found += atomic_load(&places[at]) == row.value;
+        unlike += found != 1;
+    }
+    uint64_t stand = 0;
+    for (unsigned at = 0; at < PLACES; at++) stand += atomic_load(&places[at]) != 0;
+    return unlike + (stand != *lives);
+}
+
+int main(int count, char **words)
+{
+    uint64_t events = count > 1 ? strtoull(words[1], NULL, 10) : 400000;
+    unsigned threads = count > 2 ? (unsigned)strtoul(words[2], NULL, 10) : 4;
+    if (threads < 1 || threads > MOST || events < 1) return 2;
+    most = events / threads;
+    static thread all[MOST];
+    char policy[sizeof POLICY + 8];
+    int length = snprintf(policy, sizeof policy, POLICY, threads);
+    hg_service service = HG_SERVICE_INIT;
+    hg_core core = HG_CORE_INIT;
+    if (hg_service_open(&service, policy, (size_t)length, NULL, 0).status != HG_DONE) return 1;
+    for (unsigned n = 0; n < threads; n++) {
+        all[n].seed = n + 1;
+        if (hg_service_worker(&service, n, &all[n].worker).status != HG_DONE) return 1;
+    }
+    for (unsigned n = 0; n < threads; n++)
+        if (pthread_create(&all[n].id, NULL, serve, &all[n]) != 0) return 1;
+    /* The service may be asked meanwhile. */
+    hg_reply early = hg_service_close(&service, &core);
+    uint64_t made = 0, freed = 0, rivals = 0, again = 0, faults = 0, lives = 0, served = 0;
+    faults += early.status != HG_STILL_OUT && early.status != HG_DONE;
+    for (unsigned n = 0; n < threads; n++) {
+        pthread_join(all[n].id, NULL);
+        made += all[n].made, freed += all[n].freed, rivals += all[n].rivals;
+        again += all[n].again, faults += all[n].wrong, served += all[n].events;
+    }
+    hg_reply closed = early.status == HG_DONE ? early : hg_service_close(&service, &core);
+    if (closed.status != HG_DONE) {
+        printf("service_threads: close: %s %u\n", hg_status_text(closed.status),
+               (unsigned)closed.value);
+        return 1;
+    }
+    faults += compare(&core, &lives);
+    faults += made != freed + lives;
+    printf("service_threads: %llu events of %u threads: %llu blocks made, %llu freed, %llu live; %llu "
+           "tries of rivals, %llu calls made again, %llu faults\n",
+           (unsigned long long)served, threads, (unsigned long long)made, (unsigned long long)freed,
+           (unsigned long long)lives, (unsigned long long)rivals, (unsigned long long)again,
+           (unsigned long long)faults);
+    return faults != 0 || hg_close(&core).status != HG_DONE;
+}
