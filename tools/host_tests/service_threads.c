@@ -41,12 +41,13 @@ static void wrong(thread *of, const char *call, hg_reply reply)
     if (of->wrong++ == 0) printf("service_threads: %s: %s\n", call, hg_status_text(reply.status));
 }
 
-/* Makes a call again as long as it is answered so. */
+/* Makes a call again as long as it is answered so; that is one event. */
 #define ASKING(of, reply, call)                                          \
     do {                                                                 \
         (of)->events++;                                                  \
-        (reply) = (call);                                                \
-    } while ((reply).status == HG_AGAIN && ++(of)->again)
+        for ((reply) = (call); (reply).status == HG_AGAIN; (of)->again++) \
+            (reply) = (call);                                            \
+    } while (0)
 
 /* Frees a block; whether this ended its life. */
 static int free_block(thread *of, hg_handle block)
