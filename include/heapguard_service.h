@@ -9,17 +9,20 @@
  * No call waits for another, and none has a condition on what its numbers, texts and handles are: as
  * heapguard.h says of a core's. What workers share stands ready between two calls. A Deliver, a Take,
  * a Refill or an Abandon that finds another call at it is answered HG_AGAIN, and has done nothing:
- * the host makes the call again, as the functions at the end of this file do. No call but
- * hg_service_open, hg_service_worker, hg_service_close and hg_worker_list takes memory.
+ * the host makes the call again, as the functions at the end of this file do. A thread that is stopped
+ * in a call, or ended there, keeps the others asking. No call but hg_service_open, hg_service_worker,
+ * hg_service_close and hg_worker_list takes memory.
  *
  * What the caller owes, beside what heapguard.h says of lengths, the allocator, signals and forks:
- *  1. One call at a time on a service, and one at a time on a worker. Calls on two workers, or on a
- *     worker and the service, need no order: they are the point. A worker may go to another thread,
+ *  1. One call at a time on a service, and one at a time on a worker: questions too, which write the
+ *     16 bytes as the other calls do. Calls on two workers, or on a worker and the service, need no
+ *     order: they are the point. A worker may go to another thread,
  *     and calls of several threads on one worker are then ordered by a lock, by starting or joining
  *     a thread, or by sequentially consistent atomics.
  *  2. A service is 16 bytes of the caller, aligned to 8, and begins as HG_SERVICE_INIT, which is
  *     zeros, and a worker as HG_WORKER_INIT. Left without that, or copied: as heapguard.h says of a
- *     core.
+ *     core. A thread is handed a pointer to its worker, or its worker whole, and then the old place
+ *     isn't used again, not to drop it either. Of a call's two pointers none is the other.
  */
 #ifndef HEAPGUARD_SERVICE_H
 #define HEAPGUARD_SERVICE_H
@@ -65,15 +68,17 @@ HG_MUST_USE hg_reply hg_service_open(hg_service *service, const char *policy, si
                                      char *room, size_t room_length);
 
 /* Gives the worker of a number: HG_DONE; HG_HELD where one stands in `worker` already; HG_NO_WORKER
- * where the policy has none of that number, or it was given; or HG_NO_MEMORY. */
+ * where the policy has none of that number, or it was given, or has left; or HG_NO_MEMORY. */
 HG_MUST_USE hg_reply hg_service_worker(hg_service *service, uint32_t number, hg_worker *worker);
 
 /* The service becomes a core, in which nobody holds a segment and no hand has a block: HG_DONE, once
  * each worker that was given has left. Else it goes on: HG_STILL_OUT with the lowest worker that
- * hasn't left, HG_STILL_HELD with the lowest segment that is held, HG_AGAIN, HG_NO_MEMORY, or HG_HELD
- * where a core is open in `core`. Workers that weren't given leave by it, and aren't given any more.
- * HG_LOST with the number of the lowest place that isn't accounted for, as one that a worker had in
- * hand that was dropped: then the service is gone. */
+ * hasn't left, or that is leaving just then, HG_STILL_HELD with the lowest segment that is held,
+ * HG_AGAIN, or HG_HELD where a core is open in `core`. After HG_NO_MEMORY it is to be closed again
+ * before all else: its core may wait for memory, and each other call is answered HG_CLOSED then.
+ * Workers that weren't given leave by the first closing, and aren't given any more. A worker that was
+ * dropped keeps its service from closing: HG_STILL_OUT. HG_LOST with the number of the lowest place
+ * that isn't accounted for, which none of these calls is meant to bring: then the service is gone. */
 HG_MUST_USE hg_reply hg_service_close(hg_service *service, hg_core *core);
 
 /* Gives a service up, and frees what no worker has: HG_DONE. Its workers go on, until they are
@@ -124,8 +129,9 @@ HG_MUST_USE hg_reply hg_worker_drop(hg_worker *worker);
 }
 #endif
 
-/* What four calls do where another call is there: they ask again. A host that has something else to
- * do meanwhile makes the calls themselves. */
+/* What four calls do where another call is there: they ask again, at once and as often as it takes. A
+ * host that has something else to do meanwhile, or threads of several priorities on one processor,
+ * makes the calls themselves. */
 HG_MUST_USE static inline hg_reply hg_worker_deliver_now(hg_worker *worker)
 {
     hg_reply reply;

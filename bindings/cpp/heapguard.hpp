@@ -565,6 +565,24 @@ public:
         return hg_worker_abandon_now(&worker_, number(segment));
     }
 
+    /// As those without try_, asked once: HG_AGAIN where another call has what is needed.
+    [[nodiscard]] Reply try_deliver() { return hg_worker_deliver(&worker_); }
+
+    [[nodiscard]] Reply try_take(Segment segment)
+    {
+        return hg_worker_take(&worker_, number(segment));
+    }
+
+    [[nodiscard]] Reply try_refill(Arena arena)
+    {
+        return hg_worker_refill(&worker_, number(arena));
+    }
+
+    [[nodiscard]] Reply try_abandon(Segment segment)
+    {
+        return hg_worker_abandon(&worker_, number(segment));
+    }
+
     /// The blocks that it holds and the actor may list, as far as there is room for that many; the
     /// value is how many there are.
     [[nodiscard]] Reply list(Tenant actor, Reply *room, std::size_t count)
@@ -590,7 +608,8 @@ private:
 };
 
 /// A service: what a core is, served by several threads at once, each of which is one of its workers.
-/// Dropped, it is given up, and its workers go on.
+/// Dropped, it is given up, and its workers go on. Its calls are one at a time, questions too, and
+/// so are those of a worker.
 class Service : detail::Shared {
 public:
     /// A closed one, which answers HG_CLOSED.
@@ -638,7 +657,8 @@ public:
         return hg_service_worker(&service_, number(numbered), &worker.worker_);
     }
 
-    /// Becomes a core, where `core` is a closed one, once each worker that it gave has left.
+    /// Becomes a core, where `core` is a closed one, once each worker that it gave has left. Those that
+    /// it didn't give leave by the first such call. After HG_NO_MEMORY this comes again before all else.
     [[nodiscard]] Reply close(Core &core) { return hg_service_close(&service_, &core.core_); }
 
     /// How many workers there are, 0 where it is closed.

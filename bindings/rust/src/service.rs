@@ -44,6 +44,7 @@ pub struct Service {
 /// A worker of a service, for one thread: its calls take no lock. Deliver, take, refill and abandon
 /// ask again where another call has what they need. Dropped, it is given up with all that it holds,
 /// and its service closes no more: [leave](ServiceWorker::leave) it in place of that.
+#[must_use = "a worker that is dropped keeps its service from closing"]
 pub struct ServiceWorker {
     raw: RawWorker,
 }
@@ -87,8 +88,8 @@ impl std::error::Error for NotClosed {}
 pub enum Unclosed {
     /// It goes on, for this reason.
     Running(Service, NotClosed),
-    /// The lowest place that isn't accounted for, as one that a worker had in hand that was dropped.
-    /// The service is gone.
+    /// The lowest place that isn't accounted for, which no use of this crate is meant to bring. The
+    /// service is gone.
     Lost(Place),
 }
 
@@ -152,8 +153,8 @@ impl Service {
         Err(OpenError::of(reply.status, &room[..reply.value as usize]))
     }
 
-    /// Gives the worker of a number: none where the policy lacks it or it was given; the error is
-    /// want of memory.
+    /// Gives the worker of a number: none where the policy lacks it, it was given, or it has left; the
+    /// error is want of memory.
     pub fn worker(&mut self, number: Worker) -> Result<Option<ServiceWorker>, Refusal> {
         let mut raw = RawWorker::none();
         // SAFETY: the service is open and this call's alone, and no worker stands in the room.
@@ -166,7 +167,9 @@ impl Service {
     }
 
     /// The service becomes a core, once each worker that it gave has left. Those that it didn't give
-    /// leave by this call, and aren't given any more.
+    /// leave by the first such call, and aren't given any more. What comes back with an error is given
+    /// up where that is let go; after [`NotClosed::NoMemory`] close it again before all else, since its
+    /// core may wait for memory.
     pub fn close(mut self) -> Result<Core, Unclosed> {
         let mut raw = RawCore::closed();
         // SAFETY: the service is open and this call's alone, and no core stands in the room.
@@ -276,6 +279,30 @@ impl ServiceWorker {
         self.serve_now(raw::DONE, call).map(drop)
     }
 
+    /// As `deliver`, asked once: [`Refusal::Again`] where another call has the list. So the next three.
+    pub fn try_deliver(&mut self) -> Result<(), Refusal> {
+        let call = |worker| unsafe { raw::hg_worker_deliver(worker) };
+        self.serve(raw::DONE, call).map(drop)
+    }
+
+    /// As `take`, asked once.
+    pub fn try_take(&mut self, segment: Segment) -> Result<u64, Refusal> {
+        let call = |worker| unsafe { raw::hg_worker_take(worker, segment.0) };
+        Ok(self.serve(raw::TAKEN, call)?.value)
+    }
+
+    /// As `abandon`, asked once.
+    pub fn try_abandon(&mut self, segment: Segment) -> Result<(), Refusal> {
+        let call = |worker| unsafe { raw::hg_worker_abandon(worker, segment.0) };
+        self.serve(raw::DONE, call).map(drop)
+    }
+
+    /// As `refill`, asked once.
+    pub fn try_refill(&mut self, arena: Arena) -> Result<Segment, Refusal> {
+        let call = |worker| unsafe { raw::hg_worker_refill(worker, arena.0) };
+        Ok(Segment(self.serve(raw::REFILLED, call)?.value as u32))
+    }
+
     /// Takes a segment of an arena that nobody holds, and tells which.
     pub fn refill(&mut self, arena: Arena) -> Result<Segment, Refusal> {
         let call = |worker| unsafe { raw::hg_worker_refill(worker, arena.0) };
@@ -323,7 +350,8 @@ impl ServiceWorker {
         told::number(unsafe { raw::hg_worker_hand(&mut self.raw) }).map(Place::of)
     }
 
-    /// Sends what is in hand, gives up each segment that it holds, and goes back to its service.
+    /// Sends what is in hand, gives up each segment that it holds, and goes back to its service. The
+    /// worker that comes back with an error is dropped where that is let go.
     pub fn leave(mut self) -> Result<(), NotLeft> {
         match self.empty_out() {
             Ok(()) => Ok(()),
@@ -431,8 +459,11 @@ mod tests {
         assert_eq!(two.free(alice, block), Ok(Freed::InHand));
         assert_eq!(two.hand(), Some(block.place()));
         assert_eq!(two.free(alice, other), Err(Refusal::Busy));
-        assert_eq!(two.deliver(), Ok(()));
+        assert_eq!(two.try_deliver(), Ok(()));
         assert_eq!(two.deliver(), Err(Refusal::NothingInHand));
+        assert_eq!(two.try_refill(Arena(7)), Err(Refusal::NoSegment));
+        assert_eq!(two.try_take(held), Err(Refusal::NotHeld));
+        assert_eq!(two.try_abandon(held), Err(Refusal::NotHeld));
         assert_eq!(
             (one.take(held), two.take(held)),
             (Ok(1), Err(Refusal::NotHeld))
