@@ -182,6 +182,7 @@ int main(int words, char **word)
         const char *text = hg_status_text(status);
         if (strcmp(text, "unknown status") == 0) continue;
         if (status == HG_FULL) continue; /* of banks alone */
+        if (status >= HG_AGAIN && status <= HG_LOST) continue; /* of services alone */
         if (!answered[status]) printf("never answered: %s (%u)\n", text, status);
         missed += !answered[status];
     }

@@ -315,6 +315,7 @@ static unsigned missed(void)
     unsigned none = 0;
     for (unsigned status = HG_BLOCK; status <= HG_FORBIDDEN; status++) {
         if (strcmp(hg_status_text(status), "unknown status") == 0 || answered[status]) continue;
+        if (status >= HG_AGAIN && status <= HG_LOST) continue; /* of services alone */
         printf("never answered: %s (%u)\n", hg_status_text(status), status);
         none++;
     }
