@@ -23,46 +23,48 @@ fn core_of(told: Result<BankHandle, Refused>) -> Option<u16> {
     told.ok().map(|block| block.core)
 }
 
+/// Worker 0 takes up the segment of this core.
+fn takes_up(rt: &impl Abort, bank: &mut Bank, core: u16) {
+    same(
+        rt,
+        refill(rt, bank, 0, MAIN),
+        Ok(BankSegment { core, segment: 0 }),
+    );
+}
+
+/// A block for worker 0 comes from this core.
+fn is_given(rt: &impl Abort, bank: &mut Bank, actor: Actor, bytes: u64, core: u16) {
+    same(
+        rt,
+        core_of(alloc(rt, bank, 0, actor, MAIN, bytes)),
+        Some(core),
+    );
+}
+
+/// A block for worker 0 isn't given out, for this reason.
+fn is_refused(
+    rt: &impl Abort,
+    bank: &mut Bank,
+    (actor, arena, bytes): (Actor, u8, u64),
+    why: Refused,
+) {
+    same(rt, alloc(rt, bank, 0, actor, arena, bytes), Err(why));
+}
+
 // Cores are asked from the current one on, round and round; no room is told only where none has
 // any.
 #[test]
 fn asked_round_and_round(rt: HostRuntime) {
     let mut bank = bank(&rt, rt.alloc());
-    same(
-        &rt,
-        refill(&rt, &mut bank, 0, MAIN),
-        Ok(BankSegment {
-            core: 0,
-            segment: 0,
-        }),
-    );
+    takes_up(&rt, &mut bank, 0);
     same(&rt, refill(&rt, &mut bank, 0, MAIN), Err(NoSegment));
     let first = alloc(&rt, &mut bank, 0, ALICE, MAIN, SEGMENT).expect(&rt, "a block");
     same(&rt, first.core, 0);
-    same(
-        &rt,
-        alloc(&rt, &mut bank, 0, BOB, MAIN, 8),
-        Err(Refused::NoRoom),
-    );
+    is_refused(&rt, &mut bank, (BOB, MAIN, 8), Refused::NoRoom);
     same(&rt, grow(&rt, &mut bank, rt.alloc()), Some(1));
-    same(
-        &rt,
-        refill(&rt, &mut bank, 0, MAIN),
-        Ok(BankSegment {
-            core: 1,
-            segment: 0,
-        }),
-    );
-    same(
-        &rt,
-        core_of(alloc(&rt, &mut bank, 0, ALICE, MAIN, SEGMENT)),
-        Some(1),
-    );
-    same(
-        &rt,
-        alloc(&rt, &mut bank, 0, BOB, MAIN, 8),
-        Err(Refused::NoRoom),
-    );
+    takes_up(&rt, &mut bank, 1);
+    is_given(&rt, &mut bank, ALICE, SEGMENT, 1);
+    is_refused(&rt, &mut bank, (BOB, MAIN, 8), Refused::NoRoom);
     same(&rt, free(&rt, &mut bank, 0, ALICE, first), Ok(Freed::Here));
     let again = alloc(&rt, &mut bank, 0, ALICE, MAIN, SEGMENT).expect(&rt, "a block");
     same(&rt, again.core, 0);
@@ -77,11 +79,7 @@ fn held(rt: &impl Abort, memory: Global) -> Bank {
     same(rt, grow(rt, &mut bank, memory), Some(2));
     assert!(rt; bank.is_full());
     for core in 0..3 {
-        same(
-            rt,
-            refill(rt, &mut bank, 0, MAIN),
-            Ok(BankSegment { core, segment: 0 }),
-        );
+        takes_up(rt, &mut bank, core);
     }
     bank
 }
@@ -90,45 +88,25 @@ fn held(rt: &impl Abort, memory: Global) -> Bank {
 #[test]
 fn limit_over_all_cores(rt: HostRuntime) {
     let mut bank = held(&rt, rt.alloc());
-    same(
-        &rt,
-        core_of(alloc(&rt, &mut bank, 0, ALICE, MAIN, SEGMENT)),
-        Some(2),
-    );
-    same(
-        &rt,
-        core_of(alloc(&rt, &mut bank, 0, ALICE, MAIN, SEGMENT)),
-        Some(0),
-    );
+    is_given(&rt, &mut bank, ALICE, SEGMENT, 2);
+    is_given(&rt, &mut bank, ALICE, SEGMENT, 0);
     same(&rt, bank.charge(0, 0), Some(2 * SEGMENT));
-    same(
-        &rt,
-        alloc(&rt, &mut bank, 0, ALICE, MAIN, 16),
-        Err(Refused::Denied(Rule::OverLimit)),
-    );
-    same(
-        &rt,
-        core_of(alloc(&rt, &mut bank, 0, ALICE, MAIN, 8)),
-        Some(1),
-    );
+    let over = Refused::Denied(Rule::OverLimit);
+    is_refused(&rt, &mut bank, (ALICE, MAIN, 16), over);
+    is_given(&rt, &mut bank, ALICE, 8, 1);
     same(&rt, bank.charge(0, 0), Some(2 * SEGMENT + 8));
     same(&rt, bank.charge(1, 0), Some(0));
     same(&rt, bank.charge(2, 0), None);
     same(&rt, bank.charge(0, 2), None);
-    same(
+    let stranger = Refused::Denied(Rule::Stranger);
+    is_refused(&rt, &mut bank, (STRANGER, MAIN, 8), stranger);
+    let foreign = Refused::Denied(Rule::ForeignArena);
+    is_refused(&rt, &mut bank, (BOB, VAULT, 8), foreign);
+    is_refused(
         &rt,
-        alloc(&rt, &mut bank, 0, STRANGER, MAIN, 8),
-        Err(Refused::Denied(Rule::Stranger)),
-    );
-    same(
-        &rt,
-        alloc(&rt, &mut bank, 0, BOB, VAULT, 8),
-        Err(Refused::Denied(Rule::ForeignArena)),
-    );
-    same(
-        &rt,
-        alloc(&rt, &mut bank, 0, ALICE, MAIN, SEGMENT + 1),
-        Err(Refused::TooLarge),
+        &mut bank,
+        (ALICE, MAIN, SEGMENT + 1),
+        Refused::TooLarge,
     );
     drop(bank);
 }
