@@ -106,6 +106,15 @@ HG_MUST_USE hg_reply hg_worker_take(hg_worker *worker, uint32_t segment);    /* 
 HG_MUST_USE hg_reply hg_worker_refill(hg_worker *worker, uint32_t arena);    /* or HG_AGAIN */
 HG_MUST_USE hg_reply hg_worker_abandon(hg_worker *worker, uint32_t segment); /* or HG_AGAIN */
 
+/* Many words of a block in one call, as hg_read_words and hg_write_words: they are the calls of
+ * hg_worker_read or hg_worker_write for these words, one after another, and the first that is
+ * refused ends them; HG_DONE, or the status of that one, and the value is how many were read or
+ * written. Nothing is promised of what other workers do between two of them. */
+HG_MUST_USE hg_reply hg_worker_read_words(hg_worker *worker, uint32_t actor, hg_handle block,
+                                          uint32_t first, uint64_t *room, size_t count);
+HG_MUST_USE hg_reply hg_worker_write_words(hg_worker *worker, uint32_t actor, hg_handle block,
+                                           uint32_t first, const uint64_t *words, size_t count);
+
 /* The blocks that the worker holds and the actor may list, in rising order of their places: HG_DONE
  * with how many there are, each a Look that was answered HG_LISTED, of which as many stand in the
  * room as have one there; what is behind them is as it was. Or HG_NO_MEMORY. */

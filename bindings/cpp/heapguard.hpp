@@ -551,6 +551,20 @@ public:
 
     [[nodiscard]] Reply collect() { return hg_worker_collect(&worker_); }
 
+    /// As Core::read_words.
+    [[nodiscard]] Reply read_words(Tenant actor, Handle block, std::uint32_t first,
+                                   std::uint64_t *room, std::size_t count)
+    {
+        return hg_worker_read_words(&worker_, number(actor), block, first, room, count);
+    }
+
+    /// As Core::write_words.
+    [[nodiscard]] Reply write_words(Tenant actor, Handle block, std::uint32_t first,
+                                    const std::uint64_t *words, std::size_t count)
+    {
+        return hg_worker_write_words(&worker_, number(actor), block, first, words, count);
+    }
+
     [[nodiscard]] Reply deliver() { return hg_worker_deliver_now(&worker_); }
 
     [[nodiscard]] Reply take(Segment segment)

@@ -10,7 +10,7 @@
 #include "heapguard_service.h"
 #include <string.h>
 
-enum { ROUNDS = 200000, ROOM = 64, ROWS = 5 };
+enum { ROUNDS = 200000, ROOM = 64, ROWS = 5, WORDS = 9 };
 
 static const char POLICY[] =
     "version = 1\n"
@@ -24,6 +24,7 @@ static hg_reply any_call(hg_worker *worker, unsigned kind, hg_reply *rows)
     uint32_t actor = stranger();
     uint64_t word = below(2) ? next() : hg_handle_of(below(3), below(16), below(512), below(3));
     uint32_t at = below(2) ? (uint32_t)next() : below(8192);
+    uint64_t words[WORDS] = {next()};
     switch (kind) {
     case 0: return hg_worker_alloc(worker, actor, number(), below(2) ? next() : below(64));
     case 1: return hg_worker_free(worker, actor, word);
@@ -38,13 +39,18 @@ static hg_reply any_call(hg_worker *worker, unsigned kind, hg_reply *rows)
     case 10: return hg_worker_holds(worker, number());
     case 11: return hg_worker_hand(worker);
     case 12: return hg_worker_abandon(worker, number() | 1);
+    case 13: return hg_worker_read_words(worker, actor, word, at, words, below(WORDS + 1));
+    case 14: return hg_worker_write_words(worker, actor, word, at, words, below(WORDS + 1));
     default: return hg_worker_list(worker, actor, rows, below(ROWS + 1));
     }
 }
 
-enum { KINDS = 14 };
+enum { KINDS = 16 };
 
-static int is_unnamed(unsigned kind) { return kind == 1 || (kind >= 5 && kind <= 7); }
+static int is_unnamed(unsigned kind)
+{
+    return kind == 1 || (kind >= 5 && kind <= 7) || kind == 13 || kind == 14;
+}
 
 /* What isn't there, or is no worker, serves nothing. */
 static void try_no_worker(hg_worker *worker)
@@ -68,6 +74,7 @@ static void try_no_worker(hg_worker *worker)
 static void try_no_service(hg_service *service)
 {
     hg_service before = *service;
+    unsigned long shut = asked;
     hg_worker worker = HG_WORKER_INIT;
     hg_core core = HG_CORE_INIT;
     CHECK(is_plain(hg_service_workers(service), HG_CLOSED));
@@ -79,6 +86,7 @@ static void try_no_service(hg_service *service)
     CHECK(is_plain(hg_service_close(service, &core), HG_CLOSED));
     CHECK(service->at == before.at && service->mark == before.mark);
     CHECK(worker.at == NULL && worker.mark == 0 && core.at == NULL && core.mark == 0);
+    CHECK(asked == shut);
 }
 
 static void try_closed(void)
@@ -164,6 +172,44 @@ static void try_giving(void)
     try_no_service(&service);
     CHECK(hg_workers(&core).value == 2);
     CHECK(is_plain(hg_close(&core), HG_DONE));
+}
+
+/* Many words of a block, up to the first that is refused. */
+static void try_words(void)
+{
+    enum { SIZE = 5 };
+    static const uint64_t words[SIZE + 1] = {1, 2, 3, 4, UINT64_MAX, 6};
+    uint64_t room[SIZE + 1] = {0};
+    hg_service service = HG_SERVICE_INIT;
+    hg_worker one = HG_WORKER_INIT, two = HG_WORKER_INIT;
+    CHECK(is_plain(hg_service_open(&service, POLICY, sizeof POLICY - 1, NULL, 0), HG_DONE));
+    CHECK(is_plain(hg_service_worker(&service, 0, &one), HG_DONE));
+    CHECK(is_plain(hg_service_worker(&service, 1, &two), HG_DONE));
+    CHECK(is_plain(hg_worker_refill(&one, 0), HG_REFILLED));
+    hg_handle block = hg_worker_alloc(&one, 0, 0, 8 * SIZE).value;
+    hg_reply done = hg_worker_write_words(&one, 0, block, 0, words, SIZE);
+    CHECK(done.status == HG_DONE && done.value == SIZE);
+    for (uint32_t first = 0; first <= SIZE; first++) {
+        memset(room, 0, sizeof room);
+        hg_reply told = hg_worker_read_words(&one, 0, block, first, room, SIZE + 1);
+        CHECK(told.status == HG_OUT_OF_BLOCK && told.value == SIZE - first);
+        CHECK(memcmp(room, words + first, sizeof *room * (SIZE - first)) == 0);
+        CHECK(room[SIZE - first] == 0);
+    }
+    done = hg_worker_write_words(&one, 0, block, 3, words, SIZE);
+    CHECK(done.status == HG_OUT_OF_BLOCK && done.value == 2);
+    CHECK(hg_worker_read(&one, 0, block, 3).value == 1 && hg_worker_read(&one, 0, block, 4).value == 2);
+    CHECK(is_plain(hg_worker_read_words(&one, 0, block, 0, NULL, 0), HG_DONE));
+    CHECK(is_plain(hg_worker_write_words(&one, 0, block, UINT32_MAX, words, 2), HG_OUT_OF_BLOCK));
+    CHECK(is_plain(hg_worker_read_words(&one, 0, block, UINT32_MAX, room, 2), HG_OUT_OF_BLOCK));
+    CHECK(is_plain(hg_worker_write_words(&one, 1, block, 0, words, 2), HG_NOT_GRANTED));
+    CHECK(is_plain(hg_worker_read_words(&two, 0, block, 0, room, 2), HG_ELSEWHERE));
+    CHECK(is_plain(hg_worker_read_words(&one, 0, 1, 0, room, 2), HG_NO_BLOCK));
+    hg_reply stale = hg_worker_read_words(&one, 0, block + 1, 0, room, 2);
+    CHECK(stale.status == HG_STALE && stale.value == 0);
+    CHECK(is_plain(hg_worker_drop(&one), HG_DONE));
+    CHECK(is_plain(hg_worker_drop(&two), HG_DONE));
+    CHECK(is_plain(hg_service_drop(&service), HG_DONE));
 }
 
 /* A worker that was dropped keeps its service from closing; both can be given up. */
@@ -255,6 +301,7 @@ int main(void)
     try_closed();
     try_opening();
     try_giving();
+    try_words();
     try_dropping();
     try_open();
     printf(TEST ": %u checks, %u failed\n", checks, failed);

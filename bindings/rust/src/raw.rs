@@ -292,6 +292,22 @@ extern "C" {
     pub fn hg_worker_take(worker: *mut RawWorker, segment: u32) -> RawReply;
     pub fn hg_worker_refill(worker: *mut RawWorker, arena: u32) -> RawReply;
     pub fn hg_worker_abandon(worker: *mut RawWorker, segment: u32) -> RawReply;
+    pub fn hg_worker_read_words(
+        worker: *mut RawWorker,
+        actor: u32,
+        block: u64,
+        first: u32,
+        room: *mut u64,
+        count: usize,
+    ) -> RawReply;
+    pub fn hg_worker_write_words(
+        worker: *mut RawWorker,
+        actor: u32,
+        block: u64,
+        first: u32,
+        words: *const u64,
+        count: usize,
+    ) -> RawReply;
     pub fn hg_worker_list(
         worker: *mut RawWorker,
         actor: u32,

@@ -2,8 +2,8 @@
 
 use crate::raw::{self, RawCore, RawReply, RawService, RawWorker};
 use crate::{
-    told, Arena, Core, Freed, Handle, OpenError, Place, Refusal, Row, Segment, Tenant, Worker,
-    LINE_ROOM,
+    told, Arena, Core, Freed, Handle, OpenError, Place, Progress, Refusal, Row, Segment, Tenant,
+    Worker, LINE_ROOM,
 };
 use std::fmt;
 
@@ -267,6 +267,45 @@ impl ServiceWorker {
         self.serve(raw::DONE, call).map(drop)
     }
 
+    /// Reads as many words of a block as the room has, from the word of an index on, one after
+    /// another, until one is refused.
+    pub fn read_words(
+        &mut self,
+        actor: Tenant,
+        block: Handle,
+        first: u32,
+        room: &mut [u64],
+    ) -> Progress {
+        let (word, count) = (block.to_u64(), room.len());
+        // SAFETY: the worker is open and this call's alone; pointer and length are those of a slice
+        // that is borrowed for the call. So in the next.
+        told::progress(unsafe {
+            raw::hg_worker_read_words(
+                &mut self.raw,
+                actor.0,
+                word,
+                first,
+                room.as_mut_ptr(),
+                count,
+            )
+        })
+    }
+
+    /// Writes words into a block, from the word of an index on, one after another, until one is
+    /// refused.
+    pub fn write_words(
+        &mut self,
+        actor: Tenant,
+        block: Handle,
+        first: u32,
+        words: &[u64],
+    ) -> Progress {
+        let (word, count) = (block.to_u64(), words.len());
+        told::progress(unsafe {
+            raw::hg_worker_write_words(&mut self.raw, actor.0, word, first, words.as_ptr(), count)
+        })
+    }
+
     /// Looks at the block that stands at a place of a segment that it holds.
     pub fn look(&mut self, actor: Tenant, place: Place) -> Result<Row, Refusal> {
         let call = |worker| unsafe { raw::hg_worker_look(worker, actor.0, place.number()) };
@@ -456,6 +495,17 @@ mod tests {
             Err(Refusal::Denied(Rule::NotGranted))
         );
         assert_eq!(two.read(alice, block, 0), Err(Refusal::Elsewhere));
+        let all = |done| Progress {
+            done,
+            refused: None,
+        };
+        assert_eq!(one.write_words(alice, block, 1, &[7, 8]), all(2));
+        let mut room = [0; 4];
+        let past = one.read_words(alice, block, 0, &mut room);
+        assert_eq!((past.done, past.refused), (3, Some(Refusal::OutOfBlock)));
+        assert_eq!(room, [0, 7, 8, 0]);
+        let denied = two.write_words(alice, block, 0, &room);
+        assert_eq!((denied.done, denied.refused), (0, Some(Refusal::Elsewhere)));
         assert_eq!(two.free(alice, block), Ok(Freed::InHand));
         assert_eq!(two.hand(), Some(block.place()));
         assert_eq!(two.free(alice, other), Err(Refusal::Busy));

@@ -79,3 +79,10 @@ at_part_place place is serves = record {
   named = λ _. (place, is.1, serves);
   unnamed = λ no. both_ways is.0 no;
 }
+
+pub on_part_word : {does : Handle → Type 0} {stays : Type 0} {word : ℕ} (handle : Handle)
+    → (is_handle word ≡ true) × (word ≡ handle_word handle) → does handle → parts.OnWord word does stays
+on_part_word handle is done = record {
+  named = λ _. (handle, is.1, done);
+  unnamed = λ no. both_ways is.0 no;
+}

@@ -1,5 +1,5 @@
 -- How a service opens, gives its workers, and becomes a core.
-use Rattle.std.specs.Prelude.{◌≡◌, ◌≢◌, ℕ, List, Option, Some, Ok, Err, MatchOption}
+use Rattle.std.specs.Prelude.{◌≡◌, ◌≢◌, ◌⊎◌, ℕ, List, Option, Some, Ok, Err, MatchOption}
 use Rattle.hg_hosted.specs.declared.worker.HostedWorker.{HostedWorker}
 use Rattle.hg_machine.specs.Lists.{Kept}
 use Rattle.hg_reply.specs.declared.reply.Reply.{Reply}
@@ -33,12 +33,12 @@ pub record Gives (old : HostPart) (number : ℕ) (worker : HostedWorker) (new : 
   pub is_open : old.mark ≡ part_mark
   pub given : Changes old (λ was is. GivesWorker was number (Ok worker) is) new
 
--- it gives none: where there is no memory for one, nothing changes
-pub record GivesNone (old : HostPart) (number : ℕ) (reply : Reply) (new : HostPart) : Type 0 where
-  pub memory : reply ≡ no_memory → IsSame old new
-  pub none :
-      reply ≢ no_memory
-      → Does old closed (λ was is. GivesWorker was number (Err reply) is) reply new
+-- there is no memory for one, or an open service has none to give; a closed one is answered so. Nothing
+-- changes
+abbrev pub GivesNone : HostPart → ℕ → Reply → HostPart → Type 0
+GivesNone old number reply new =
+    Does old closed
+    (λ was is. ((is ≡ was) × (reply ≡ no_memory)) ⊎ GivesWorker was number (Err reply) is) reply new
 
 -- what stands where a worker goes stays where one stands already or none is given
 pub record HandsOut (old : HostPart) (number : ℕ) (place : HostPart) (reply : Reply)

@@ -14,6 +14,7 @@ use Rattle.hg_service_replies.specs.Asking.{PartFinds, PartTells}
 use Rattle.hg_service_replies.specs.Leaving.{PartLeaves}
 use Rattle.hg_service_replies.specs.Listing.{PartLists}
 use Rattle.hg_service_replies.specs.Serving.{PartServes}
+use Rattle.hg_service_replies.specs.Words.{PartReads, PartWrites}
 use Rattle.hg_service_replies.specs.declared.asking.PartQuestion.{PartQuestion}
 use Rattle.hg_service_replies.specs.declared.part.HostedPart.{HostedPart}
 use Rattle.hg_service_replies.specs.declared.part.HostedPart.TheVariants as part
@@ -76,6 +77,24 @@ pub record Lists (old : HostPart) (actor : Actor) (room : List Reply) (reply : R
   pub shut : old.mark ≢ part_mark → (reply ≡ closed) × IsSame old new × (told ≡ room)
   pub done :
       old.mark ≡ part_mark → Changes old (λ was is. PartLists was actor room reply is told) new
+
+-- a worker reads words of a block into the room
+pub record ReadsWords (old : HostPart) (actor : Actor) (handle : Handle) (first : ℕ)
+    (room : List ℕ) (reply : Reply) (new : HostPart) (told : List ℕ) : Type 0 where
+  pub shut : old.mark ≢ part_mark → (reply ≡ closed) × IsSame old new × (told ≡ room)
+  pub done :
+      old.mark ≡ part_mark
+      → Changes old (λ was is. PartReads was actor handle first room reply is told) new
+
+-- it writes words into a block
+abbrev pub WritesWords : HostPart → Actor → Handle → ℕ → List ℕ → Reply → HostPart → Type 0
+WritesWords old actor handle first words reply new =
+    Does old closed (λ was is. PartWrites was actor handle first words reply is) reply new
+
+-- what is done for a block that is named by a word, or what there is where that is no handle's
+pub record OnWord (word : ℕ) (does : Handle → Type 0) (stays : Type 0) : Type 0 where
+  pub named : is_handle word ≡ true → (handle : Handle) × (word ≡ handle_word handle) × does handle
+  pub unnamed : is_handle word ≡ false → stays
 
 -- a worker leaves
 abbrev pub Leaves : HostPart → Reply → HostPart → Type 0

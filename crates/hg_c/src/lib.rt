@@ -22,6 +22,7 @@ mod naming;
 mod opening;
 mod part_opening;
 mod part_serving;
+mod part_words;
 mod service_exports;
 mod serving;
 mod version;

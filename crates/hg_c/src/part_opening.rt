@@ -52,7 +52,7 @@ pub fn open_service(alloc: Global, text: &[u8], host: &mut HostPart, room: &mut 
     }
 }
 
-/// Memory for a worker, and then the worker of this number.
+/// The worker of this number, once there is memory for it.
 fn worker_for(
     alloc: Global,
     service: &mut HostPart,
@@ -63,11 +63,12 @@ fn worker_for(
     ensures none { IfErr result (λ why. GivesNone service.old number why service.new) }
     ensures refused { IfErr result (λ why. why.status ≢ 2) }
 {
-    let Ok(mut room) = Box::new(alloc, HostedPart::Gone) else {
-        return Err(Reply::plain(NO_MEMORY));
-    };
     let Some(mut part) = taken_part(alloc, service) else {
         return Err(Reply::plain(CLOSED));
+    };
+    let Ok(mut room) = Box::new(alloc, HostedPart::Gone) else {
+        *service = kept(part);
+        return Err(Reply::plain(NO_MEMORY));
     };
     let given = take_worker(&mut part, number);
     *service = kept(part);

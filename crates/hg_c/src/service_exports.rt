@@ -6,15 +6,17 @@ ghost use Rattle.hg_machine.specs.declared.Event.TheVariants as event;
 ghost use Rattle.hg_policy.specs.Names.{tenant_number, arena_number};
 ghost use Rattle.hg_reply.specs.Naming.{unnamed};
 ghost use Rattle.hg_reply.specs.Numbers.{actor_of, byte_of};
+ghost use Rattle.hg_reply.specs.Replies.{no_block};
 ghost use Rattle.hg_service_replies.specs.declared.asking.PartQuestion.TheVariants as question;
 ghost use Rattle.hg_c.specs.PartOpening.{Becomes, HandsOut, Opens};
 ghost use Rattle.hg_c.specs.Parts.{Closes, Finds, IsSame, Leaves, Lists, Serves, ServesAt, ServesOn};
-ghost use Rattle.hg_c.specs.Parts.{Tells};
+ghost use Rattle.hg_c.specs.Parts.{OnWord, ReadsWords, Tells, WritesWords};
 
 use crate::host_core::HostCore;
 use crate::host_part::HostPart;
 use crate::part_opening::{close_service, hand_worker, open_service};
 use crate::part_serving::{ask_part, drop_part, find_in_part, leave_part, list_part, serve_part};
+use crate::part_words::{read_part, write_part};
 use hg_machine::Event;
 use hg_place::Handle;
 use hg_reply::status::NO_BLOCK;
@@ -259,6 +261,51 @@ pub extern "C" fn hg_worker_refill(alloc: Global, host: &mut HostPart, arena: u3
 {
     let arena = byte_of(arena);
     serve_part(alloc, host, Event::Refill { arena })
+}
+
+/// It reads as many words of a block as the room has, from the word of an index on, until one is
+/// refused. The value is how many were read.
+#[unsafe(no_mangle)]
+pub extern "C" fn hg_worker_read_words(
+    alloc: Global,
+    host: &mut HostPart,
+    actor: u32,
+    word: u64,
+    first: u32,
+    room: &mut [u64],
+) -> Reply
+    ensures { OnWord word
+        (λ handle. ReadsWords host.old (actor_of actor) handle first room.old result
+        host.new room.new)
+        ((result ≡ no_block) × IsSame host.old host.new × (room.new ≡ room.old)) }
+{
+    let actor = actor_of(actor);
+    match Handle::from_u64(word) {
+        Some(handle) => read_part(alloc, host, actor, handle, first, room),
+        None => Reply::plain(NO_BLOCK),
+    }
+}
+
+/// It writes words into a block, from the word of an index on, until one is refused. The value is
+/// how many were written.
+#[unsafe(no_mangle)]
+pub extern "C" fn hg_worker_write_words(
+    alloc: Global,
+    host: &mut HostPart,
+    actor: u32,
+    word: u64,
+    first: u32,
+    words: &[u64],
+) -> Reply
+    ensures { OnWord word
+        (λ handle. WritesWords host.old (actor_of actor) handle first words.now result host.new)
+        ((result ≡ no_block) × IsSame host.old host.new) }
+{
+    let actor = actor_of(actor);
+    match Handle::from_u64(word) {
+        Some(handle) => write_part(alloc, host, actor, handle, first, words),
+        None => Reply::plain(NO_BLOCK),
+    }
 }
 
 /// It shows an actor the blocks that it holds: the value is how many there are, of which as many

@@ -2,3 +2,4 @@ pub mod Parking
 pub mod Named
 pub mod Idle
 pub mod Undone
+pub mod Coming

@@ -16,7 +16,7 @@ use Rattle.hg_hosted.specs.declared.parts.Segments.{Segments}
 use Rattle.hg_hosted.specs.declared.shared.Shared.{Shared}
 use Rattle.hg_hosted.specs.Parking.{FitsKnown, KnowsName}
 use Rattle.hg_hosted.specs.Parts.{ArePooled, HasLeft, HasSegments, IsOfOne}
-use Rattle.hg_hosted.specs.Shared.{AreOfService, known_table}
+use Rattle.hg_hosted.specs.Shared.{AreOfService, known_table, table_of_shared}
 
 -- what is shared is of the service of each state of its worker
 pub by_state :
@@ -90,6 +90,18 @@ still_of {policy = policy} {table = table} before after of known kept left_known
           (of.left_kept part (sym left_kept ∙ is));
       all = all ∙ of.all;
     }
+
+-- the table that is known is the service's
+known_is :
+    {policy : Policy} {table : TableId} (other : TableId) (known : Option WorkerState)
+    → KnowsName policy table known → known_table other known ≡ table
+known_is other None knows = absurd (true≢false (sym knows.some))
+known_is other (Some one) knows = (knows.named one refl).seated
+
+pub table_is :
+    {policy : Policy} {table : TableId} {shared : Shared} → AreOfService policy table shared
+    → table_of_shared shared ≡ table
+table_is of = known_is _ _ of.left
 
 -- what is shared is of the service that is known where workers go
 pub by_known :

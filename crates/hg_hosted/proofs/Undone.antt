@@ -4,6 +4,7 @@ use Rattle.std.proofs.lemmas.Option.{none-some, same_Some}
 use Rattle.hg_machine.specs.declared.Answer.{Answer}
 use Rattle.hg_machine.specs.declared.Answer.TheVariants as answer
 use Rattle.hg_heap.specs.Held.{is_held}
+use Rattle.hg_machine.specs.declared.Event.{Event}
 use Rattle.hg_place.specs.declared.Handle.{Handle}
 use Rattle.hg_service.proofs.Behind.{abandons_nothing, delivers_nothing, takes_nothing}
 use Rattle.hg_table.specs.declared.view.Part.{Part}
@@ -15,6 +16,7 @@ use Rattle.hg_hosted.specs.declared.worker.HostedWorker.{HostedWorker}
 use Rattle.hg_hosted.specs.Behind.{GivesUp, Sends, Stays, TakesIn}
 use Rattle.hg_hosted.specs.Parking.{FitsKept, FitsKnown, IsHome}
 use Rattle.hg_hosted.specs.Serving.{Serves}
+use Rattle.hg_hosted.specs.Waiting.{Waits}
 use Rattle.hg_hosted.specs.States.{LeavesLives}
 
 no_place :
@@ -100,19 +102,19 @@ each_set P (z ∷ zs) (suc i) y all one (suc k) x e =
     each_set P zs i y (λ k. all (suc k)) one k x e
 
 -- a worker serves by what its state does, or stays
-pub serves_or_stays :
-    (old new : HostedWorker) (Do : Answer → WorkerState → WorkerState → Type 0) (before after : _)
+pub serves_or_waits :
+    (event : Event) (old new : HostedWorker) (Do : Answer → WorkerState → WorkerState → Type 0) (before after : _)
     → old.state ≡ Some before → new.state ≡ Some after → (o : Option Answer)
-    → MatchOption o (Stays before.value after.value) (λ a. Do a before.value after.value)
-    → MatchOption o (Serves Stays old new) (λ a. Serves (Do a) old new)
-serves_or_stays old new Do before after was is None stays = record {
+    → MatchOption o (Waits event before.value after.value) (λ a. Do a before.value after.value)
+    → MatchOption o (Serves (Waits event) old new) (λ a. Serves (Do a) old new)
+serves_or_waits event old new Do before after was is None stays = record {
   before = before;
   after = after;
   was = was;
   is = is;
   does = stays;
 }
-serves_or_stays old new Do before after was is (Some a) does = record {
+serves_or_waits event old new Do before after was is (Some a) does = record {
   before = before;
   after = after;
   was = was;

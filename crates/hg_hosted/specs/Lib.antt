@@ -9,3 +9,4 @@ pub mod Leaving
 pub mod Serving
 pub mod Closing
 pub mod Steps
+pub mod Waiting

@@ -1,8 +1,13 @@
--- The workers that a service begins with.
+-- What a service begins with.
 use Rattle.std.specs.Prelude.{◌≡◌, ℕ, List, [], None, Some, slice_get, length}
+use Rattle.atomic_table.specs.Seated.{TableId}
+use Rattle.hg_machine.specs.Policy.{Policy}
 use Rattle.hg_table.specs.Seats.{KnowsNothing, part_on}
+use Rattle.hg_worker.specs.States.{IsNamed}
 use Rattle.hg_worker.specs.declared.state.WorkerState.{WorkerState}
+use Rattle.hg_hosted.specs.declared.service.HostedService.{HostedService}
 use Rattle.hg_hosted.specs.declared.worker.HostedWorker.{HostedWorker}
+use Rattle.hg_hosted.specs.Shared.{table_of_shared}
 
 -- of this number, it holds nothing, has nothing in hand, and its seat has seen and ended nothing
 pub record IsNewState (number : ℕ) (state : WorkerState) : Type 0 where
@@ -15,8 +20,22 @@ pub record IsNewState (number : ℕ) (state : WorkerState) : Type 0 where
 abbrev pub IsNewHosted : ℕ → HostedWorker → Type 0
 IsNewHosted number worker = (own : _) → worker.state ≡ Some own → IsNewState number own.value
 
--- so many new workers, each at its number
-pub record AreNewHosted (count : ℕ) (workers : List HostedWorker) : Type 0 where
-  pub all : length workers ≡ count
+-- it is of the service with this policy and table
+abbrev pub IsWorkerOf : Policy → TableId → HostedWorker → Type 0
+IsWorkerOf policy table worker = (own : _) → worker.state ≡ Some own → IsNamed policy table own.value
+
+-- the new workers of that service, each at its number
+pub record AreNewHosted (policy : Policy) (table : TableId) (workers : List HostedWorker)
+    : Type 0 where
+  pub all : length workers ≡ policy.workers
   pub each :
       (k : ℕ) (worker : HostedWorker) → slice_get workers k ≡ Some worker → IsNewHosted k worker
+  pub named :
+      (k : ℕ) (worker : HostedWorker) → slice_get workers k ≡ Some worker
+      → IsWorkerOf policy table worker
+
+-- a service of this policy, and its new workers
+pub record IsOpened (policy : Policy) (service : HostedService) (workers : List HostedWorker)
+    : Type 0 where
+  pub serves : service.policy ≡ policy
+  pub new : AreNewHosted policy (table_of_shared service.shared) workers

@@ -35,3 +35,12 @@ pub record AreHome (shared : Shared) : Type 0 where
 abbrev pub known_table : TableId → Option WorkerState → TableId
 known_table other None = other
 known_table other (Some of) = table_of_worker of.seat
+
+-- the table of the service that it is of
+abbrev pub table_of_shared : Shared → TableId
+table_of_shared shared = known_table shared.left.pass.table_id (view shared.left.pass).known
+
+-- the segments and the lists are with this caller only where it keeps them
+pub record AreParked (shared : Shared) : Type 0 where
+  pub segments : IsHome (view shared.segments.pass) shared.segments.kept
+  pub lists : AreListsHome shared.lists.items

@@ -1,5 +1,4 @@
 -- What a worker does by an event.
-use Rattle.std.specs.Prelude.{Bool, true, false}
 use Rattle.hg_machine.specs.declared.Answer.{Answer}
 use Rattle.hg_machine.specs.declared.Event.{Event}
 use Rattle.hg_machine.specs.declared.Event.TheVariants as event
@@ -19,16 +18,3 @@ Does (event.Write actor handle index value) answer = Writes actor handle index v
 Does (event.Look actor place) answer = LooksAt actor place answer
 Does (event.Abandon segment) answer = GivesUp segment answer
 Does (event.Refill arena) answer = TakesOne arena answer
-
--- whether its call needs what the workers of a service share
-abbrev pub needs_shared : Event → Bool
-needs_shared event.Deliver = true
-needs_shared (event.Take segment) = true
-needs_shared (event.Abandon segment) = true
-needs_shared (event.Refill arena) = true
-needs_shared (event.Alloc actor arena bytes) = false
-needs_shared (event.Free actor handle) = false
-needs_shared event.Collect = false
-needs_shared (event.Read actor handle index) = false
-needs_shared (event.Write actor handle index value) = false
-needs_shared (event.Look actor place) = false

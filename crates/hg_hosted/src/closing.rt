@@ -1,10 +1,11 @@
 //! A service becomes a core.
 
-ghost use Rattle.std.specs.Prelude.{◌≡◌, ◌<◌, length, IfOk, IfErr, IfNone};
+ghost use Rattle.std.specs.Prelude.{◌≡◌, ◌<◌, length, IfOk, IfErr, MatchOption};
 ghost use Rattle.crossbeam_queue.specs.Passes.{view};
 ghost use Rattle.hg_close.specs.Closed.{IsQuiet};
 ghost use Rattle.hg_close.specs.Rooms.{IsFilled, IsUnfilled};
-ghost use Rattle.hg_hosted.specs.Closing.{IsUnclosed};
+ghost use Rattle.hg_hosted.specs.Closing.{GoesOn, HaveCome, IsFirstOut, IsUnclosed, StayCome};
+ghost use Rattle.hg_hosted.specs.Closing.{has_come};
 ghost use Rattle.hg_hosted.specs.Parking.{FitsKept};
 ghost use Rattle.hg_hosted.specs.Parts.{HasLeft};
 ghost use Rattle.hg_hosted.specs.Shared.{AreOfService};
@@ -16,6 +17,7 @@ use hg_audit::Parts;
 use hg_close::{CloseFault, CloseRoom};
 use hg_core::Core;
 use hg_place::Place;
+use hg_policy::Policy;
 use hg_worker::{KeptPool, ServiceName};
 use std::alloc::Global;
 use std::marker::Brand;
@@ -42,13 +44,12 @@ impl HostedService {
     /// up.
     pub fn close(self, alloc: Global) -> Result<Core, HostedUnclosed>
         ensures quiet { IfOk result (IsQuiet self.policy) }
-        ensures unclosed { IfErr result (IsUnclosed self.policy) }
+        ensures unclosed { IfErr result (IsUnclosed self) }
     {
-        let mut service = self;
-        let Ok(mut room) = CloseRoom::new(alloc, &service.policy) else {
-            return Err(HostedUnclosed::Running(service, CloseFault::Memory));
+        let Ok(mut room) = CloseRoom::new(alloc, &self.policy) else {
+            return Err(HostedUnclosed::Running(self, CloseFault::Memory));
         };
-        if let Some(fault) = give_up::<Brand>(&mut service, &mut room) {
+        if let Err((service, fault)) = give_up::<Brand>(self, &mut room) {
             return Err(HostedUnclosed::Running(service, fault));
         }
         match room.into_core() {
@@ -56,46 +57,69 @@ impl HostedService {
             Err((place, parts)) => Err(HostedUnclosed::Lost(place, parts)),
         }
     }
-
-    /// The lowest worker that hasn't left.
-    fn first_out(&self) -> Option<u8> {
-        for number in 0..self.policy.workers() {
-            if self.came.get(usize::from(number)) != Some(&true) {
-                return Some(number);
-            }
-        }
-        None
-    }
 }
 
-/// What is parked goes over to this room, or why it can't.
-fn give_up<N: ServiceName>(service: &mut HostedService, room: &mut CloseRoom) -> Option<CloseFault>
-    requires policy { service.old.policy ≡ N.policy }
-    requires of { AreOfService N.policy N.table service.old.shared }
+/// What is parked goes over to this room, or the service comes back with why it can't.
+fn give_up<N: ServiceName>(
+    service: HostedService,
+    room: &mut CloseRoom,
+) -> Result<(), (HostedService, CloseFault)>
+    requires policy { service.policy ≡ N.policy }
+    requires of { AreOfService N.policy N.table service.shared }
     requires room_policy { room.old.parts.policy ≡ N.policy }
     requires unfilled { IsUnfilled room.old }
     requires lists { length room.old.parts.remotes.items ≡ length N.policy.segments }
-    ensures policy { service.new.policy ≡ N.policy }
-    ensures of { AreOfService N.policy N.table service.new.shared }
-    ensures room_policy { IfNone result (room.new.parts.policy ≡ N.policy) }
-    ensures filled { IfNone result (IsFilled room.new) }
+    ensures goes_on { IfErr result (λ left. GoesOn service left.1 left.0) }
+    ensures room_policy { IfOk result (λ given. room.new.parts.policy ≡ N.policy) }
+    ensures filled { IfOk result (λ given. IsFilled room.new) }
 {
-    gather(&mut service.shared.left, &mut service.came);
-    if let Some(worker) = service.first_out() {
-        return Some(CloseFault::StillOut(worker));
+    let HostedService {
+        policy,
+        mut shared,
+        mut came,
+    } = service;
+    gather(&mut shared.left, &mut came);
+    if let Some(worker) = first_out(&policy, &came) {
+        let service = HostedService::made::<N>(policy, shared, came);
+        return Err((service, CloseFault::StillOut(worker)));
     }
-    let Some(segments) = service.shared.segments.take() else {
-        return Some(CloseFault::StillHeld(0));
+    let Some(segments) = shared.segments.take() else {
+        let service = HostedService::made::<N>(policy, shared, came);
+        return Err((service, CloseFault::StillHeld(0)));
     };
     let mut pool = KeptPool::<N>::with_name(segments.pool);
-    if let Some(segment) = pool.first_missing(service.policy.segments()) {
-        let pool = pool.without_name();
-        service.shared.segments.put(Segments { pool });
-        return Some(CloseFault::StillHeld(segment));
+    if let Some(segment) = pool.first_missing(policy.segments()) {
+        shared.segments.put(Segments {
+            pool: pool.without_name(),
+        });
+        let service = HostedService::made::<N>(policy, shared, came);
+        return Err((service, CloseFault::StillHeld(segment)));
     }
-    give_lists(service.policy.segments(), &mut service.shared.lists, room);
+    give_lists(policy.segments(), &mut shared.lists, room);
     room.take_segments(&mut pool);
+    Ok(())
+}
+
+/// The lowest worker that isn't known to have left.
+fn first_out(policy: &Policy, came: &[bool]) -> Option<u8>
+    ensures { MatchOption result (HaveCome policy.now came.now) (IsFirstOut policy.now came.now) }
+{
+    for number in 0..policy.workers() {
+        if !has_come(came, number) {
+            return Some(number);
+        }
+    }
     None
+}
+
+/// Whether the worker is known to have left.
+fn has_come(came: &[bool], number: u8) -> bool
+    ensures { result ≡ has_come came.now number }
+{
+    match came.get(usize::from(number)) {
+        Some(came) => *came,
+        None => false,
+    }
 }
 
 /// Notes which workers have left.
@@ -103,16 +127,24 @@ fn gather(left: &mut Parked<Left>, came: &mut Vec<bool>)
     requires { FitsKept HasLeft (view left.old.pass).known left.old.kept }
     ensures known { (view left.new.pass).known ≡ (view left.old.pass).known }
     ensures kept { FitsKept HasLeft (view left.new.pass).known left.new.kept }
+    ensures came { StayCome came.old.items came.new.items }
 {
     for _ in 0..came.len() + 1 {
         let Some(one) = left.take() else {
             return;
         };
         if let Some(state) = one.state {
-            if let Some(came) = came.get_mut(usize::from(state.number())) {
-                *came = true;
-            }
+            note(came, state.number());
         }
+    }
+}
+
+/// Notes that a worker has left.
+fn note(came: &mut Vec<bool>, number: u8)
+    ensures { StayCome came.old.items came.new.items }
+{
+    if let Some(came) = came.get_mut(usize::from(number)) {
+        *came = true;
     }
 }
 

@@ -1,10 +1,12 @@
 //! A service opens.
 
 ghost use Rattle.std.specs.Prelude.{◌≡◌, length, Some, IfOk};
+ghost use Rattle.crossbeam_queue.specs.Passes.{view};
 ghost use Rattle.hg_table.specs.Named.{table_of};
 ghost use Rattle.hg_service.specs.New.{AreNew};
-ghost use Rattle.hg_hosted.specs.New.{AreNewHosted};
-ghost use Rattle.hg_hosted.specs.Shared.{AreOfService};
+ghost use Rattle.hg_hosted.specs.New.{AreNewHosted, IsOpened};
+ghost use Rattle.hg_hosted.specs.Parking.{IsHome};
+ghost use Rattle.hg_hosted.specs.Shared.{AreListsHome, AreOfService, AreParked};
 
 use crate::parked::Parked;
 use crate::parts::{Left, Segments, Sent};
@@ -16,9 +18,25 @@ use hg_service::{CallerLocked, KeptList};
 use hg_table::LifeTable;
 use hg_worker::{KeptPool, ServiceName, Worker};
 use std::alloc::{AllocError, Global};
+use std::marker::Brand;
+
+impl HostedService {
+    /// A service of this policy, and all of its workers, by number: none holds a segment or has a
+    /// block in hand. It takes all the memory that it will ever have; where some is refused, the
+    /// policy is given up.
+    pub fn open(
+        alloc: Global,
+        policy: Policy,
+    ) -> Result<(HostedService, Vec<HostedWorker>), AllocError>
+        ensures { IfOk result (λ opened. IsOpened policy opened.0 opened.1.items) }
+    {
+        let table = LifeTable::new(alloc, &policy)?;
+        opened::<Brand>(alloc, policy, table)
+    }
+}
 
 /// A new service of this name, and its workers, by number.
-pub(crate) fn opened<N: ServiceName>(
+fn opened<N: ServiceName>(
     alloc: Global,
     policy: Policy,
     table: LifeTable,
@@ -27,8 +45,7 @@ pub(crate) fn opened<N: ServiceName>(
     requires table { table_of table ≡ N.table }
     requires segments { table.segments ≡ length policy.segments }
     requires workers { table.workers ≡ policy.workers }
-    ensures policy { IfOk result (λ opened. opened.0.policy ≡ policy) }
-    ensures workers { IfOk result (λ opened. AreNewHosted policy.workers opened.1.items) }
+    ensures { IfOk result (λ opened. IsOpened policy opened.0 opened.1.items) }
 {
     let parts = CallerLocked::<N>::open(alloc, policy, table)?;
     let CallerLocked {
@@ -40,12 +57,7 @@ pub(crate) fn opened<N: ServiceName>(
     let mut shared = shared_parts(alloc, &policy, &workers, lists, pool)?;
     let came = Vec::from_elem(alloc, false, workers.len())?;
     let workers = hosted(alloc, workers, &mut shared)?;
-    let service = HostedService {
-        policy,
-        shared,
-        came,
-    };
-    Ok((service, workers))
+    Ok((HostedService::made::<N>(policy, shared, came), workers))
 }
 
 /// What the workers of a new service share.
@@ -57,7 +69,8 @@ fn shared_parts<N: ServiceName>(
     pool: KeptPool<N>,
 ) -> Result<Shared, AllocError>
     requires all { length lists.items ≡ length N.policy.segments }
-    ensures { IfOk result (AreOfService N.policy N.table) }
+    ensures of { IfOk result (AreOfService N.policy N.table) }
+    ensures home { IfOk result AreParked }
 {
     // a policy has a worker
     let Some(one) = workers.first() else {
@@ -82,7 +95,8 @@ fn parked_lists<N: ServiceName>(
     one: &Worker<N>,
     lists: Vec<KeptList<N>>,
 ) -> Result<Vec<Parked<Sent>>, AllocError>
-    ensures { IfOk result (λ parked. length parked.items ≡ length lists.items) }
+    ensures all { IfOk result (λ parked. length parked.items ≡ length lists.items) }
+    ensures home { IfOk result (λ parked. AreListsHome parked.items) }
 {
     let mut parked = Vec::with_capacity(alloc, lists.len())?;
     for kept in lists {
@@ -95,7 +109,9 @@ fn parked_list<N: ServiceName>(
     alloc: Global,
     one: &Worker<N>,
     kept: KeptList<N>,
-) -> Result<Parked<Sent>, AllocError> {
+) -> Result<Parked<Sent>, AllocError>
+    ensures { IfOk result (λ parked. IsHome (view parked.pass) parked.kept) }
+{
     let list = kept.without_name();
     Parked::new::<N>(alloc, 1, Sent { list })
 }
@@ -107,9 +123,11 @@ fn hosted<N: ServiceName>(
     shared: &mut Shared,
 ) -> Result<Vec<HostedWorker>, AllocError>
     requires of { AreOfService N.policy N.table shared.old }
+    requires home { AreParked shared.old }
     requires new { AreNew N.policy.workers workers.items }
     ensures of { AreOfService N.policy N.table shared.new }
-    ensures new { IfOk result (λ hosted. AreNewHosted N.policy.workers hosted.items) }
+    ensures home { AreParked shared.new }
+    ensures new { IfOk result (λ hosted. AreNewHosted N.policy N.table hosted.items) }
 {
     let mut hosted = Vec::with_capacity(alloc, workers.len())?;
     for worker in workers {
@@ -124,7 +142,9 @@ fn hosted_one<N: ServiceName>(
     shared: &mut Shared,
 ) -> Result<HostedWorker, AllocError>
     requires of { AreOfService N.policy N.table shared.old }
+    requires home { AreParked shared.old }
     ensures of { AreOfService N.policy N.table shared.new }
+    ensures home { AreParked shared.new }
     ensures own { IfOk result (λ hosted. hosted.state ≡ Some worker.inner) }
 {
     let shared = shared.share(alloc)?;

@@ -1,18 +1,13 @@
 //! A service without names.
 
-ghost use Rattle.std.specs.Prelude.{◌≡◌, Some, IfOk};
+ghost use Rattle.std.specs.Prelude.{◌≡◌, Some};
 ghost use Rattle.crossbeam_queue.specs.Passes.{view};
 ghost use Rattle.hg_table.specs.Named.{table_of_worker};
-ghost use Rattle.hg_hosted.specs.New.{AreNewHosted};
-ghost use Rattle.hg_hosted.specs.Shared.{AreOfService};
+ghost use Rattle.hg_hosted.specs.Shared.{AreOfService, AreParked};
 
-use crate::opening::opened;
 use crate::shared::Shared;
-use crate::worker::HostedWorker;
 use hg_policy::Policy;
-use hg_table::LifeTable;
-use std::alloc::{AllocError, Global};
-use std::marker::Brand;
+use hg_worker::ServiceName;
 
 /// What there is of a service beside its workers.
 #[derive(Drop)]
@@ -23,21 +18,28 @@ pub struct HostedService {
     pub(crate) came: Vec<bool>,
     ghost of: { (one : _) → (view shared.left.pass).known ≡ Some one
         → AreOfService policy (table_of_worker one.seat) shared },
+    ghost home: { AreParked shared },
 }
 
 impl HostedService {
-    /// A service of this policy, and all of its workers, by number: none holds a segment or has a
-    /// block in hand. It takes all the memory that it will ever have; where some is refused, the
-    /// policy is given up.
-    pub fn open(
-        alloc: Global,
+    /// The service with these parts.
+    pub(crate) fn made<N: ServiceName>(
         policy: Policy,
-    ) -> Result<(HostedService, Vec<HostedWorker>), AllocError>
-        ensures policy { IfOk result (λ opened. opened.0.policy ≡ policy) }
-        ensures workers { IfOk result (λ opened. AreNewHosted policy.workers opened.1.items) }
+        shared: Shared,
+        came: Vec<bool>,
+    ) -> HostedService
+        requires policy { policy ≡ N.policy }
+        requires of { AreOfService N.policy N.table shared }
+        requires home { AreParked shared }
+        ensures policy { result.policy ≡ policy }
+        ensures shared { result.shared ≡ shared }
+        ensures came { result.came ≡ came }
     {
-        let table = LifeTable::new(alloc, &policy)?;
-        opened::<Brand>(alloc, policy, table)
+        HostedService {
+            policy,
+            shared,
+            came,
+        }
     }
 
     /// The policy that it serves by.

@@ -3,7 +3,7 @@
 ghost use Rattle.std.specs.Prelude.{◌≡◌, length, None, IfOk, IsTrue};
 ghost use Rattle.atomic_table.specs.Seated.{TableId};
 ghost use Rattle.hg_machine.specs.Policy.{Policy};
-ghost use Rattle.hg_hosted.specs.Shared.{AreHome, AreListsHome, AreOfService};
+ghost use Rattle.hg_hosted.specs.Shared.{AreHome, AreListsHome, AreOfService, AreParked};
 
 use crate::parked::Parked;
 use crate::parts::{Left, Segments, Sent};
@@ -27,6 +27,7 @@ impl Shared {
             → AreOfService policy table self.new }
         ensures other { IfOk result (λ other. (policy : Policy) (table : TableId)
             → AreOfService policy table self.old → AreOfService policy table other) }
+        ensures own_home { AreParked self.old → AreParked self.new }
         ensures home { IfOk result AreHome }
     {
         let lists = shared_lists(alloc, &mut self.lists)?;
@@ -71,6 +72,7 @@ fn shared_lists(
     lists: &mut Vec<Parked<Sent>>,
 ) -> Result<Vec<Parked<Sent>>, AllocError>
     ensures own { length lists.new.items ≡ length lists.old.items }
+    ensures own_home { AreListsHome lists.old.items → AreListsHome lists.new.items }
     ensures other { IfOk result (λ others. length others.items ≡ length lists.old.items) }
     ensures home { IfOk result (λ others. AreListsHome others.items) }
 {

@@ -2,9 +2,11 @@
 
 ghost use Rattle.std.specs.Prelude.{◌≡◌, MatchOption};
 ghost use Rattle.hg_worker.specs.States.{IsNamed};
-ghost use Rattle.hg_hosted.specs.Behind.{Sends, TakesIn, TakesOne, GivesUp, Stays};
+ghost use Rattle.hg_machine.specs.declared.Event.TheVariants as event;
+ghost use Rattle.hg_hosted.specs.Behind.{Sends, TakesIn, TakesOne, GivesUp};
 ghost use Rattle.hg_hosted.specs.Serving.{Serves};
 ghost use Rattle.hg_hosted.specs.Shared.{AreHome, AreOfService};
+ghost use Rattle.hg_hosted.specs.Waiting.{Waits};
 
 use crate::parts::Segments;
 use crate::shared::Shared;
@@ -21,7 +23,7 @@ fn deliver_by<N: ServiceName>(
     requires named { IsNamed N.policy N.table state.value }
     requires of { AreOfService N.policy N.table shared.old }
     requires home { AreHome shared.old }
-    ensures done { MatchOption result.0 (Stays state.value result.1.value)
+    ensures done { MatchOption result.0 (Waits event.Deliver state.value result.1.value)
         (λ answer. Sends answer state.value result.1.value) }
     ensures named { IsNamed N.policy N.table result.1.value }
     ensures of { AreOfService N.policy N.table shared.new }
@@ -48,7 +50,7 @@ fn take_by<N: ServiceName>(
     requires named { IsNamed N.policy N.table state.value }
     requires of { AreOfService N.policy N.table shared.old }
     requires home { AreHome shared.old }
-    ensures done { MatchOption result.0 (Stays state.value result.1.value)
+    ensures done { MatchOption result.0 (Waits (event.Take segment) state.value result.1.value)
         (λ answer. TakesIn segment answer state.value result.1.value) }
     ensures named { IsNamed N.policy N.table result.1.value }
     ensures of { AreOfService N.policy N.table shared.new }
@@ -75,7 +77,7 @@ fn refill_by<N: ServiceName>(
     requires named { IsNamed N.policy N.table state.value }
     requires of { AreOfService N.policy N.table shared.old }
     requires home { AreHome shared.old }
-    ensures done { MatchOption result.0 (Stays state.value result.1.value)
+    ensures done { MatchOption result.0 (Waits (event.Refill arena) state.value result.1.value)
         (λ answer. TakesOne arena answer state.value result.1.value) }
     ensures named { IsNamed N.policy N.table result.1.value }
     ensures of { AreOfService N.policy N.table shared.new }
@@ -101,7 +103,7 @@ fn abandon_by<N: ServiceName>(
     requires named { IsNamed N.policy N.table state.value }
     requires of { AreOfService N.policy N.table shared.old }
     requires home { AreHome shared.old }
-    ensures done { MatchOption result.0 (Stays state.value result.1.value)
+    ensures done { MatchOption result.0 (Waits (event.Abandon segment) state.value result.1.value)
         (λ answer. GivesUp segment answer state.value result.1.value) }
     ensures named { IsNamed N.policy N.table result.1.value }
     ensures of { AreOfService N.policy N.table shared.new }
@@ -127,7 +129,7 @@ impl HostedWorker {
     /// `Busy` where the list has it already, and then it stays in the hand. `None`, and nothing is
     /// done, where another call has the list.
     pub fn deliver(&mut self) -> Option<Answer>
-        ensures { MatchOption result (Serves Stays self.old self.new)
+        ensures { MatchOption result (Serves (Waits event.Deliver) self.old self.new)
             (λ answer. Serves (Sends answer) self.old self.new) }
     {
         let Some(state) = self.state.take() else {
@@ -141,7 +143,7 @@ impl HostedWorker {
     /// Takes in what was sent to a segment that the worker holds, else `NotHeld`. `None`, and
     /// nothing is done, where another call has the list.
     pub fn take(&mut self, segment: u8) -> Option<Answer>
-        ensures { MatchOption result (Serves Stays self.old self.new)
+        ensures { MatchOption result (Serves (Waits (event.Take segment)) self.old self.new)
             (λ answer. Serves (TakesIn segment answer) self.old self.new) }
     {
         let Some(state) = self.state.take() else {
@@ -155,7 +157,7 @@ impl HostedWorker {
     /// Takes the oldest orphan of the arena, or else its lowest fresh segment; `NoSegment` where
     /// there is neither. `None`, and nothing is done, where another call has the segments.
     pub fn refill(&mut self, arena: u8) -> Option<Answer>
-        ensures { MatchOption result (Serves Stays self.old self.new)
+        ensures { MatchOption result (Serves (Waits (event.Refill arena)) self.old self.new)
             (λ answer. Serves (TakesOne arena answer) self.old self.new) }
     {
         let Some(state) = self.state.take() else {
@@ -169,7 +171,7 @@ impl HostedWorker {
     /// Gives up a segment that the worker holds, with the blocks that live there, else `NotHeld`.
     /// `None`, and nothing is done, where another call has the segments.
     pub fn abandon(&mut self, segment: u8) -> Option<Answer>
-        ensures { MatchOption result (Serves Stays self.old self.new)
+        ensures { MatchOption result (Serves (Waits (event.Abandon segment)) self.old self.new)
             (λ answer. Serves (GivesUp segment answer) self.old self.new) }
     {
         let Some(state) = self.state.take() else {

@@ -1,20 +1,20 @@
 //! One event of a worker.
 
-ghost use Rattle.std.specs.Prelude.{◌≡◌, true, false, is_some, MatchOption};
-ghost use Rattle.hg_hosted.specs.Behind.{Stays};
+ghost use Rattle.std.specs.Prelude.{MatchOption};
 ghost use Rattle.hg_hosted.specs.Serving.{Serves};
-ghost use Rattle.hg_hosted.specs.Steps.{Does, needs_shared};
+ghost use Rattle.hg_hosted.specs.Steps.{Does};
+ghost use Rattle.hg_hosted.specs.Waiting.{Waits};
 
 use crate::worker::HostedWorker;
 use hg_machine::{Answer, Event};
 
 impl HostedWorker {
     /// Serves an event by the call of its name. `None`, and nothing is done, where another call has
-    /// what it needs; that may be so of Deliver, Take, Refill and Abandon.
+    /// what it needs; that may be so of a Deliver with a block in hand, a Take or an Abandon of a
+    /// segment that the worker holds, and a Refill.
     pub fn step(&mut self, event: Event) -> Option<Answer>
-        ensures served { MatchOption result (Serves Stays self.old self.new)
+        ensures { MatchOption result (Serves (Waits event) self.old self.new)
             (λ answer. Serves (Does event answer) self.old self.new) }
-        ensures alone { needs_shared event ≡ false → is_some result ≡ true }
     {
         match event {
             Event::Alloc {

@@ -1,2 +1,5 @@
 mod Staying
+mod LetLeave
+mod Its
 mod Taken
+mod WordRuns

@@ -5,12 +5,13 @@ use Rattle.hg_place.specs.declared.Place.{Place}
 use Rattle.hg_reply.specs.declared.reply.Reply.{Reply}
 use Rattle.hg_reply.specs.Replies.{again, plain, valued}
 use Rattle.hg_hosted.specs.declared.worker.HostedWorker.{HostedWorker}
-use Rattle.hg_service_replies.specs.Leaving.{Has, HoldsFirst, HoldsNone, StaysFor}
+use Rattle.hg_service_replies.specs.Has.{Has}
+use Rattle.hg_service_replies.specs.Leaving.{HoldsFirst, HoldsNone, StaysFor}
 
 both_ways : {X : Type 0} {b : Bool} → b ≡ true → b ≡ false → X
 both_ways is isnt = absurd (subst T (sym is ∙ isnt) tt)
 
-some_of : {X : Type 0} (o : Option X) → is_some o ≡ true → (x : X) × (o ≡ Some x)
+pub some_of : {X : Type 0} (o : Option X) → is_some o ≡ true → (x : X) × (o ≡ Some x)
 some_of None isnt = both_ways isnt refl
 some_of (Some x) is = (x, refl)
 

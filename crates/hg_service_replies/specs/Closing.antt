@@ -1,14 +1,21 @@
 -- How a service becomes a core.
-use Rattle.std.specs.Prelude.{◌≡◌, Option, None, Some, Result, MatchResult}
-use Rattle.std.specs.Prelude.{length}
+use Rattle.std.specs.Prelude.{◌≡◌, ℕ, true, false, List, length, slice_get}
+use Rattle.std.specs.Prelude.{Option, None, Some, is_none, MatchOption, Result, MatchResult}
+use Rattle.std.specs.List.{list_all}
+use Rattle.hg_audit.specs.declared.parts.Parts.{Parts}
 use Rattle.hg_place.specs.declared.Place.{Place}
 use Rattle.hg_place.specs.Places.{number_of}
+use Rattle.hg_hosted.specs.Closing as hosted
+use Rattle.hg_hosted.specs.Leaving.{IsIdle}
+use Rattle.hg_hosted.specs.declared.worker.HostedWorker.{HostedWorker}
 use Rattle.hg_machine.specs.Lists.{Kept}
-use Rattle.hg_close.specs.Closed.{IsQuiet}
+use Rattle.hg_machine.specs.Policy.{Policy}
+use Rattle.hg_close.specs.Closed.{AreLost, IsQuiet}
 use Rattle.hg_close.specs.declared.fault.CloseFault.{CloseFault}
 use Rattle.hg_close.specs.declared.fault.CloseFault.TheVariants as fault
 use Rattle.hg_reply.specs.declared.reply.Reply.{Reply}
 use Rattle.hg_reply.specs.Replies.{again, no_memory, valued}
+use Rattle.hg_service_replies.specs.Has.{Has}
 use Rattle.hg_service_replies.specs.declared.part.HostedPart.{HostedPart}
 use Rattle.hg_service_replies.specs.declared.part.HostedPart.TheVariants as part
 use Rattle.hg_service_replies.specs.declared.part.OpenService.{OpenService}
@@ -24,17 +31,41 @@ abbrev pub told_why : Option CloseFault → Reply
 told_why None = again
 told_why (Some fault) = told_fault fault
 
--- it goes on with the same policy and as many places for workers, and the reply tells why
+-- a worker that no thread has leaves, or stays in its state
+abbrev pub PlaceLeaves : Option HostedWorker → Option HostedWorker → Type 0
+PlaceLeaves None new = new ≡ None
+PlaceLeaves (Some worker) None = Has IsIdle worker
+PlaceLeaves (Some worker) (Some back) = back.state ≡ worker.state
+
+-- each of them does so
+pub record AreLetLeave (old new : List (Option HostedWorker)) : Type 0 where
+  pub all : length new ≡ length old
+  pub each :
+      (number : ℕ) (was is : Option HostedWorker) → slice_get old number ≡ Some was
+      → slice_get new number ≡ Some is → PlaceLeaves was is
+
+-- a worker that no thread has doesn't leave, and the service wasn't asked; or it goes on for a reason
+-- of its own
 pub record GoesOn (old : OpenService) (reply : Reply) (new : OpenService) : Type 0 where
-  pub policy : new.service.policy ≡ old.service.policy
-  pub workers : length new.workers.items ≡ length old.workers.items
+  pub workers : AreLetLeave old.workers.items new.workers.items
   pub why : Option CloseFault
   pub told : reply ≡ told_why why
+  pub still :
+      MatchOption why
+      ((new.service ≡ old.service) × (list_all is_none new.workers.items ≡ false))
+      (λ fault. hosted.GoesOn old.service fault new.service
+      × (list_all is_none new.workers.items ≡ true))
+
+-- a place of parts of its policy is lost
+abbrev pub IsLost : Policy → Reply → Type 0
+IsLost policy reply =
+    (place : Place) × (parts : Parts) × AreLost policy place parts
+    × (reply ≡ valued 28 (number_of place))
 
 -- what is left of it: it goes on, or it is lost with a place and nothing is left
 abbrev pub IsUnclosed : OpenService → HostedPart → Reply → Type 0
 IsUnclosed old (part.Service new) reply = GoesOn old reply new
-IsUnclosed old part.Gone reply = (place : Place) × (reply ≡ valued 28 (number_of place))
+IsUnclosed old part.Gone reply = IsLost old.service.policy reply
 IsUnclosed old (part.Worker worker) reply = ⊥
 IsUnclosed old (part.Core core) reply = ⊥
 

@@ -1,5 +1,5 @@
 -- How a worker leaves its service.
-use Rattle.std.specs.Prelude.{◌≡◌, ◌≢◌, ℕ, ◌<◌, true, Option, None, Some, Result}
+use Rattle.std.specs.Prelude.{◌≡◌, ◌≢◌, ℕ, ◌<◌, true, Option, None, Result}
 use Rattle.std.specs.Prelude.{MatchOption, MatchResult}
 use Rattle.hg_place.specs.declared.geometry.TheConstants.{MAX_SEGMENTS}
 use Rattle.hg_heap.specs.Held.{is_held}
@@ -9,13 +9,10 @@ use Rattle.hg_hosted.specs.declared.worker.HostedWorker.{HostedWorker}
 use Rattle.hg_hosted.specs.Leaving.{HoldsNoneBelow, IsIdle}
 use Rattle.hg_reply.specs.declared.reply.Reply.{Reply}
 use Rattle.hg_reply.specs.Replies.{again, plain, valued}
+use Rattle.hg_service_replies.specs.Has.{Has}
 use Rattle.hg_service_replies.specs.declared.part.HostedPart.{HostedPart}
 use Rattle.hg_service_replies.specs.declared.part.HostedPart.TheVariants as part
 use Rattle.hg_service_replies.specs.Serving.{IsOther}
-
--- what is said of its state
-abbrev pub Has : (WorkerState → Type 0) → HostedWorker → Type 0
-Has Is worker = (own : _) → worker.state ≡ Some own → Is own.value
 
 -- the segment is the lowest that it holds
 pub record HoldsFirst (segment : ℕ) (state : WorkerState) : Type 0 where

@@ -1,7 +1,10 @@
+pub mod Has
+pub mod Owned
 pub mod Opening
 pub mod Serving
 pub mod Taking
 pub mod Leaving
 pub mod Closing
 pub mod Listing
+pub mod Words
 pub mod Asking

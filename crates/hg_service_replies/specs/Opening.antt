@@ -3,7 +3,7 @@ use Rattle.std.specs.Prelude.{◌≡◌, ℕ, List, Some, Ok, map}
 use Rattle.hg_machine.specs.Policy.{Policy}
 use Rattle.hg_policy_text.specs.Document.{document_of}
 use Rattle.hg_hosted.specs.declared.worker.HostedWorker.{HostedWorker}
-use Rattle.hg_hosted.specs.New.{AreNewHosted}
+use Rattle.hg_hosted.specs.New.{IsOpened}
 use Rattle.hg_service_replies.specs.declared.part.HostedPart.{HostedPart}
 use Rattle.hg_service_replies.specs.declared.part.HostedPart.TheVariants as part
 use Rattle.hg_service_replies.specs.declared.part.OpenService.{OpenService}
@@ -12,9 +12,8 @@ use Rattle.hg_service_replies.specs.declared.part.OpenService.{OpenService}
 pub record IsNewService (text : List ℕ) (service : OpenService) : Type 0 where
   pub policy : Policy
   pub read : document_of text ≡ Ok policy
-  pub serves : service.service.policy ≡ policy
   pub workers : List HostedWorker
-  pub new : AreNewHosted policy.workers workers
+  pub opened : IsOpened policy service.service workers
   pub there : service.workers.items ≡ map Some workers
 
 -- such a service

@@ -1,11 +1,11 @@
 -- What a part of a service answers an event.
-use Rattle.std.specs.Prelude.{◌≡◌, Option, None, Some, MatchOption, true, false, is_some}
+use Rattle.std.specs.Prelude.{◌≡◌, Option, None, Some, MatchOption}
 use Rattle.hg_machine.specs.declared.Answer.{Answer}
 use Rattle.hg_machine.specs.declared.Event.{Event}
 use Rattle.hg_hosted.specs.declared.worker.HostedWorker.{HostedWorker}
-use Rattle.hg_hosted.specs.Behind.{Stays}
 use Rattle.hg_hosted.specs.Serving.{Serves}
-use Rattle.hg_hosted.specs.Steps.{Does, needs_shared}
+use Rattle.hg_hosted.specs.Steps.{Does}
+use Rattle.hg_hosted.specs.Waiting.{Waits}
 use Rattle.hg_reply.specs.declared.reply.Reply.{Reply}
 use Rattle.hg_reply.specs.Replies.{again, closed, reply_of}
 use Rattle.hg_service_replies.specs.declared.part.HostedPart.{HostedPart}
@@ -16,15 +16,15 @@ abbrev pub told : Option Answer → Reply
 told None = again
 told (Some answer) = reply_of answer
 
--- A worker serves the event by the call of its name, and the reply stands for its answer. Only where
--- it needs what workers share it may be that nothing is done
+-- A worker serves the event by the call of its name, and the reply stands for its answer; or the
+-- event needs what workers share, and nothing is done
 pub record WorkerServes (old : HostedWorker) (event : Event) (reply : Reply) (new : HostedWorker)
     : Type 0 where
   pub answer : Option Answer
   pub told : reply ≡ told answer
   pub does :
-      MatchOption answer (Serves Stays old new) (λ answer. Serves (Does event answer) old new)
-  pub alone : needs_shared event ≡ false → is_some answer ≡ true
+      MatchOption answer (Serves (Waits event) old new)
+      (λ answer. Serves (Does event answer) old new)
 
 -- it isn't what was asked for, and stays
 pub record IsOther (old : HostedPart) (reply : Reply) (new : HostedPart) : Type 0 where

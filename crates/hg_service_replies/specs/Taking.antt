@@ -7,6 +7,7 @@ use Rattle.hg_reply.specs.Replies.{no_worker}
 use Rattle.hg_service_replies.specs.declared.part.HostedPart.{HostedPart}
 use Rattle.hg_service_replies.specs.declared.part.HostedPart.TheVariants as part
 use Rattle.hg_service_replies.specs.declared.part.OpenService.{OpenService}
+use Rattle.hg_service_replies.specs.Owned.{IsItsWorker}
 use Rattle.hg_service_replies.specs.Serving.{IsOther}
 
 -- the worker of the number was there, and is no more; the others are
@@ -30,11 +31,13 @@ pub record Changes (old : OpenService)
   pub service : left.service ≡ old.service
   pub workers : does old.workers.items left.workers.items
 
--- a service gives a worker, or has none of that number; any other part is answered as closed, and
--- stays
+-- a service gives its worker of this number, or has none there; any other part is answered as closed,
+-- and stays
 abbrev pub GivesWorker : HostedPart → ℕ → Result HostedWorker Reply → HostedPart → Type 0
 GivesWorker (part.Service old) number result new =
-    MatchResult result (λ worker. Changes old (λ was is. IsTaken was number worker is) new)
+    MatchResult result
+    (λ worker. IsItsWorker old.service number worker
+    × Changes old (λ was is. IsTaken was number worker is) new)
     (λ reply. (reply ≡ no_worker) × Changes old (λ was is. IsNone was number is) new)
 GivesWorker (part.Worker old) number result new =
     MatchResult result (λ worker. ⊥) (λ reply. IsOther (part.Worker old) reply new)

@@ -1,8 +1,10 @@
 //! A service becomes a core.
 
-ghost use Rattle.std.specs.Prelude.{◌≡◌, ◌≢◌, length, IfErr, MatchResult};
+ghost use Rattle.std.specs.Prelude.{◌≡◌, ◌≢◌, is_none, IfErr, MatchResult};
+ghost use Rattle.std.specs.List.{list_all};
 ghost use Rattle.hg_close.specs.Closed.{IsQuiet};
-ghost use Rattle.hg_service_replies.specs.Closing.{IsUnclosed, PartCloses, told_fault};
+ghost use Rattle.hg_service_replies.specs.Closing.{AreLetLeave, IsUnclosed, PartCloses};
+ghost use Rattle.hg_service_replies.specs.Closing.{PlaceLeaves, told_fault};
 
 use crate::leaving::leave_one;
 use crate::part::{HostedPart, OpenService};
@@ -67,18 +69,24 @@ fn close_open(alloc: Global, opened: OpenService) -> Result<Core, (HostedPart, R
 
 /// The workers that no thread has leave. Whether all did.
 fn let_leave(workers: &mut Vec<Option<HostedWorker>>) -> bool
-    ensures { length workers.new.items ≡ length workers.old.items }
+    ensures leave { AreLetLeave workers.old.items workers.new.items }
+    ensures all { result ≡ list_all is_none workers.new.items }
 {
-    let mut left = true;
     for at in 0..workers.len() {
-        if let Some(worker) = workers[at].take() {
-            if let Err((back, _why)) = leave_one(worker) {
-                workers[at] = Some(back);
-                left = false;
-            }
+        let_one_leave(&mut workers[at]);
+    }
+    workers.iter().all(|worker| worker.is_none())
+}
+
+/// The worker leaves, if there is one.
+fn let_one_leave(place: &mut Option<HostedWorker>)
+    ensures { PlaceLeaves place.old place.new }
+{
+    if let Some(worker) = place.take() {
+        if let Err((back, _why)) = leave_one(worker) {
+            *place = Some(back);
         }
     }
-    left
 }
 
 /// Why it doesn't close.

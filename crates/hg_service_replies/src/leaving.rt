@@ -1,7 +1,8 @@
 //! A worker leaves its service.
 
 ghost use Rattle.std.specs.Prelude.{◌≡◌, MatchOption};
-ghost use Rattle.hg_service_replies.specs.Leaving.{Has, HoldsFirst, HoldsNone, Leaves, PartLeaves};
+ghost use Rattle.hg_service_replies.specs.Has.{Has};
+ghost use Rattle.hg_service_replies.specs.Leaving.{HoldsFirst, HoldsNone, Leaves, PartLeaves};
 
 use crate::part::HostedPart;
 use hg_hosted::HostedWorker;

@@ -9,6 +9,7 @@ mod opening;
 mod part;
 mod serving;
 mod taking;
+mod words;
 
 pub use asking::{PartQuestion, answer, find};
 pub use closing::close;
@@ -18,3 +19,4 @@ pub use opening::open;
 pub use part::{HostedPart, OpenService};
 pub use serving::serve;
 pub use taking::take_worker;
+pub use words::{read_words, write_words};

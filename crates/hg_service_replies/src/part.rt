@@ -1,5 +1,7 @@
 //! A part of a service, as its host keeps it.
 
+ghost use Rattle.hg_service_replies.specs.Owned.{AreItsWorkers};
+
 use hg_core::Core;
 use hg_hosted::{HostedService, HostedWorker};
 
@@ -22,4 +24,5 @@ pub struct OpenService {
     pub service: HostedService,
     /// By number.
     pub workers: Vec<Option<HostedWorker>>,
+    ghost own: { AreItsWorkers service workers.items },
 }

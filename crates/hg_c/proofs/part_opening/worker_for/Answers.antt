@@ -12,7 +12,7 @@ returns-clause-given c = (
       was = c.in-Some.part.value;
       is = c.take_worker-given.new.part;
       before = c.in-Some.ensures.open.1;
-      after = c.kept.ensures;
+      after = c.kept-2.ensures;
       does = subst (λ p. GivesWorker p c.args.number (Ok c.in_ok-given.field-0) c.take_worker-given.new.part) c.deref_mut.ensures.value c.in_ok-given.ensures.given;
     };
   },

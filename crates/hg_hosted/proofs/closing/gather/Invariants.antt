@@ -1,5 +1,6 @@
 use Rattle.std.proofs.Common.{◌≡◌}
 use Rattle.crossbeam_queue.specs.Passes.{view}
+use Rattle.hg_hosted.specs.Closing.{StayCome}
 use Rattle.hg_hosted.specs.Parking.{FitsKept}
 use Rattle.hg_hosted.specs.Parts.{HasLeft}
 use Rattle.hg_hosted.proofs.closing.gather.Given as goal
@@ -8,3 +9,4 @@ abbrev pub invariant-loop : goal.invariant-loop
 invariant-loop l =
     ((view l.left.pass).known ≡ (view l.fn.left.pass).known)
     × FitsKept HasLeft (view l.left.pass).known l.left.kept
+    × StayCome l.fn.came.items l.came.items

@@ -2,7 +2,8 @@ use Rattle.std.proofs.Common.{◌≡◌, ℕ, suc, Some, subst, sym, ap, ◌∙�
 use Rattle.std.proofs.lemmas.Option.{same_Some}
 use Rattle.hg_service.specs.New.{IsNew}
 use Rattle.hg_service.proofs.Opened.{each_more}
-use Rattle.hg_hosted.specs.New.{IsNewHosted, IsNewState}
+use Rattle.hg_worker.specs.States.{IsNamed}
+use Rattle.hg_hosted.specs.New.{IsNewHosted, IsNewState, IsWorkerOf}
 use Rattle.hg_hosted.proofs.opening.hosted.Goals as goal
 
 pub loop-worker-preserved : goal.loop-worker-preserved
@@ -17,6 +18,7 @@ loop-worker-preserved g c =
     (before.left 0 c.in-Some.worker (ap (λ xs. slice_get xs 0) steps.0)) in
     record {
       of = c.hosted_one.ensures.of;
+      home = c.hosted_one.ensures.home;
       count = omega (arith, before.count, steps.1, more);
       left = λ k own at. subst (λ n. IsNew n own) (omega (arith, more))
           (before.left (suc k) own (ap (λ xs. slice_get xs (suc k)) steps.0 ∙ at));
@@ -31,4 +33,12 @@ loop-worker-preserved g c =
             hand = new.hand;
             seat = new.seat;
           }));
+      named = subst
+          (λ xs. (k : ℕ) (one : _) → slice_get xs k ≡ Some one
+          → IsWorkerOf g.N.ServiceName.policy g.N.TableName.table one) (sym pushed)
+          (each_more (λ k one. IsWorkerOf g.N.ServiceName.policy g.N.TableName.table one)
+          c.loop-worker.hosted.items made before.named
+          (λ own is. subst (λ o. IsNamed g.N.ServiceName.policy g.N.TableName.table o.value)
+          (same_Some c.in-Some.worker.inner own (sym c.in_ok-hosted_one.ensures.own ∙ is))
+          c.in-Some.worker.named));
     }

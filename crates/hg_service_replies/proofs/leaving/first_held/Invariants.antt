@@ -1,5 +1,5 @@
 use Rattle.hg_hosted.specs.Leaving.{HoldsNoneBelow}
-use Rattle.hg_service_replies.specs.Leaving.{Has}
+use Rattle.hg_service_replies.specs.Has.{Has}
 use Rattle.hg_service_replies.proofs.leaving.first_held.Given as goal
 
 abbrev pub invariant-loop-segment : goal.invariant-loop-segment

@@ -1,7 +1,8 @@
 use Rattle.std.proofs.Common.{rules, refl}
-use Rattle.hg_hosted.proofs.Undone.{serves_or_stays}
+use Rattle.hg_machine.specs.declared.Event.TheVariants as event
+use Rattle.hg_hosted.proofs.Undone.{serves_or_waits}
 use Rattle.hg_hosted.proofs.worker.HostedWorker.take.Goals as goal
 
 pub returns : goal.returns
-returns c = serves_or_stays _ _ _ c.in-Some.state c.take_by-answer.result.1 (search rules) refl
+returns c = serves_or_waits (event.Take c.args.segment) _ _ _ c.in-Some.state c.take_by-answer.result.1 (search rules) refl
     c.take_by-answer.result.0 c.take_by-answer.ensures.done

@@ -1,0 +1,20 @@
+use Rattle.std.proofs.Common.{◌∙◌, ap, sym, subst}
+use Rattle.atomic_table.specs.Seated.{TableId}
+use Rattle.hg_machine.specs.Policy.{Policy}
+use Rattle.hg_hosted.specs.New.{AreNewHosted}
+use Rattle.hg_hosted.specs.Shared.{table_of_shared}
+use Rattle.hg_hosted.proofs.Named.{table_is}
+use Rattle.hg_hosted.proofs.opening.opened.Goals as goal
+
+pub returns : goal.returns
+returns g c =
+    let workers = c.in_ok-workers.workers.items in
+    let table = ap table_of_shared c.made.ensures.shared ∙ table_is c.in_ok-workers.ensures.of in
+    record {
+      serves = c.made.ensures.policy ∙ c.in_ok-parts.ensures.policy;
+      new = subst
+          (λ (p : Policy). AreNewHosted p (table_of_shared c.made.result.shared) workers)
+          (sym c.requires.policy)
+          (subst (λ (t : TableId). AreNewHosted g.N.ServiceName.policy t workers) (sym table)
+          c.in_ok-workers.ensures.new);
+    }

@@ -1,0 +1,14 @@
+use Rattle.std.proofs.Common.{sym, subst}
+use Rattle.atomic_table.specs.Seated.{TableId}
+use Rattle.hg_machine.specs.Policy.{Policy}
+use Rattle.hg_hosted.specs.Shared.{AreOfService}
+use Rattle.hg_hosted.proofs.service.HostedService.made.Goals as goal
+
+pub invariant_of-result : goal.invariant_of-result
+invariant_of-result g c = record {
+  of = λ one is. subst (λ (t : TableId). AreOfService c.args.policy t c.args.shared)
+      (sym (c.requires.of.left.named one is).seated)
+      (subst (λ (p : Policy). AreOfService p g.N.TableName.table c.args.shared)
+      (sym c.requires.policy) c.requires.of);
+  home = c.requires.home;
+}

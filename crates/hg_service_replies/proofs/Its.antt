@@ -1,0 +1,69 @@
+-- The workers that a service keeps, as they come, go and stay.
+use Rattle.std.proofs.Common.{◌≡◌, ◌<◌, ℕ, zero, suc, List, [], ◌∷◌, map, Option, Some, None, MatchOption, length, get_or, slice_get, slice_set, refl, sym, ap, subst, ◌∙◌}
+use Rattle.std.proofs.lemmas.Option.{none-some, same_Some, slice_get-get_or, slice_get_within}
+use Rattle.atomic_table.specs.Seated.{TableId}
+use Rattle.hg_machine.specs.Policy.{Policy}
+use Rattle.hg_worker.specs.States.{IsNamed}
+use Rattle.hg_hosted.specs.New.{IsOpened}
+use Rattle.hg_hosted.specs.Shared.{table_of_shared}
+use Rattle.hg_hosted.specs.declared.service.HostedService.{HostedService}
+use Rattle.hg_hosted.specs.declared.worker.HostedWorker.{HostedWorker}
+use Rattle.hg_service_replies.specs.Closing.{AreLetLeave, PlaceLeaves}
+use Rattle.hg_service_replies.specs.Owned.{AreItsWorkers, IsItsWorker}
+use Rattle.hg_service_replies.specs.Taking.{IsNone, IsTaken}
+
+some_of_map : {X : Type 0} (xs : List X) (k : ℕ) (x : X) → slice_get (map Some xs) k ≡ Some (Some x) → slice_get xs k ≡ Some x
+some_of_map [] k x e = absurd (none-some _ e)
+some_of_map (y ∷ ys) zero x e = same_Some (Some y) (Some x) e
+some_of_map (y ∷ ys) (suc k) x e = some_of_map ys k x e
+
+-- those that a service begins with
+pub its_new : {policy : Policy} (service : HostedService) (workers : List HostedWorker) → IsOpened policy service workers → AreItsWorkers service (map Some workers)
+its_new service workers opened number worker there = let at = some_of_map workers number worker there in record {
+  number_is = λ own is. (opened.new.each number worker at own is).number_is;
+  of = λ own is. subst (λ (p : Policy). IsNamed p (table_of_shared service.shared) own.value) (sym opened.serves) (opened.new.named number worker at own is);
+}
+
+of_set : {X : Type 0} (xs : List (Option X)) (i k : ℕ) (x : X) → slice_get (slice_set xs i None) k ≡ Some (Some x) → slice_get xs k ≡ Some (Some x)
+of_set [] i k x e = e
+of_set (z ∷ zs) zero zero x e = absurd (none-some x (same_Some None (Some x) e))
+of_set (z ∷ zs) zero (suc k) x e = e
+of_set (z ∷ zs) (suc i) zero x e = e
+of_set (z ∷ zs) (suc i) (suc k) x e = of_set zs i k x e
+
+-- those that are left where one goes
+its_others : (service : HostedService) (workers : List (Option HostedWorker)) (number : ℕ) → AreItsWorkers service workers → AreItsWorkers service (slice_set workers number None)
+its_others service workers number its k worker there = its k worker (of_set workers number k worker there)
+
+pub its_taken :
+    (service : HostedService) (old new : List (Option HostedWorker)) (number : ℕ) (given : Option HostedWorker)
+    → MatchOption given (IsNone old number new) (λ worker. IsTaken old number worker new)
+    → AreItsWorkers service old → AreItsWorkers service new
+its_taken service old new number None none its = subst (AreItsWorkers service) (sym none.same) its
+its_taken service old new number (Some worker) taken its = subst (AreItsWorkers service) (sym taken.others) (its_others service old number its)
+
+same_its : (service : HostedService) (number : ℕ) (worker back : HostedWorker) → back.state ≡ worker.state → IsItsWorker service number worker → IsItsWorker service number back
+same_its service number worker back same its = record {
+  number_is = λ own at. its.number_is own (sym same ∙ at);
+  of = λ own at. its.of own (sym same ∙ at);
+}
+
+stayed_its : (service : HostedService) (number : ℕ) (was : Option HostedWorker) (back : HostedWorker) → ((worker : HostedWorker) → was ≡ Some worker → IsItsWorker service number worker) → PlaceLeaves was (Some back) → IsItsWorker service number back
+stayed_its service number None back its leaves = absurd (none-some back (sym leaves))
+stayed_its service number (Some worker) back its leaves = same_its service number worker back leaves (its worker refl)
+
+-- those that stay where all are let leave
+pub its_left : (service : HostedService) (old new : List (Option HostedWorker)) → AreLetLeave old new → AreItsWorkers service old → AreItsWorkers service new
+its_left service old new leave its number back there =
+    let below = slice_get_within new number (Some back) there in
+    let was = get_or old number (Some back) in
+    let at = slice_get-get_or old number (Some back) (subst (λ n. number < n) leave.all below) in
+    stayed_its service number was back (λ worker is. its number worker (at ∙ ap Some is)) (leave.each number was (Some back) at there)
+
+-- and those of a service that goes on
+pub its_still : (old new : HostedService) (workers : List (Option HostedWorker)) → new.policy ≡ old.policy → table_of_shared new.shared ≡ table_of_shared old.shared → AreItsWorkers old workers → AreItsWorkers new workers
+its_still old new workers policy table its number worker there = let it = its number worker there in record {
+  number_is = it.number_is;
+  of = λ own at. subst (λ (t : TableId). IsNamed new.policy t own.value) (sym table)
+      (subst (λ (p : Policy). IsNamed p (table_of_shared old.shared) own.value) (sym policy) (it.of own at));
+}
