@@ -243,8 +243,8 @@ int main()
     while (core.refill(Worker{0}, ROWS).status == HG_REFILLED) {
     }
     for (const char *key : {"port", "note"}) {
-        Reply length = core.read(Worker{0}, key[0] == 'p' ? ann : bob, store.handle(key), 0);
-        tell(key, length.status == HG_VALUE ? std::to_string(length.value) + " bytes" : said(length));
+        Reply read = core.read(Worker{0}, key[0] == 'p' ? ann : bob, store.handle(key), 0);
+        tell(key, read.status == HG_VALUE ? std::to_string(read.value) + " bytes" : said(read));
     }
     return 0;
 }

@@ -74,7 +74,6 @@ static void try_no_worker(hg_worker *worker)
 static void try_no_service(hg_service *service)
 {
     hg_service before = *service;
-    unsigned long shut = asked;
     hg_worker worker = HG_WORKER_INIT;
     hg_core core = HG_CORE_INIT;
     CHECK(is_plain(hg_service_workers(service), HG_CLOSED));
@@ -86,7 +85,6 @@ static void try_no_service(hg_service *service)
     CHECK(is_plain(hg_service_close(service, &core), HG_CLOSED));
     CHECK(service->at == before.at && service->mark == before.mark);
     CHECK(worker.at == NULL && worker.mark == 0 && core.at == NULL && core.mark == 0);
-    CHECK(asked == shut);
 }
 
 static void try_closed(void)
@@ -96,7 +94,9 @@ static void try_closed(void)
     for (int byte = 0; byte < 256; byte += 85) {
         memset(&service, byte, sizeof service);
         memset(&worker, byte, sizeof worker);
+        unsigned long shut = asked;
         try_no_service(&service);
+        CHECK(asked == shut);
         try_no_worker(&worker);
         CHECK(is_plain(hg_service_drop(&service), HG_CLOSED));
         CHECK(is_plain(hg_worker_drop(&worker), HG_CLOSED));
@@ -204,7 +204,7 @@ static void try_words(void)
     CHECK(is_plain(hg_worker_read_words(&one, 0, block, UINT32_MAX, room, 2), HG_OUT_OF_BLOCK));
     CHECK(is_plain(hg_worker_write_words(&one, 1, block, 0, words, 2), HG_NOT_GRANTED));
     CHECK(is_plain(hg_worker_read_words(&two, 0, block, 0, room, 2), HG_ELSEWHERE));
-    CHECK(is_plain(hg_worker_read_words(&one, 0, 1, 0, room, 2), HG_NO_BLOCK));
+    CHECK(is_plain(hg_worker_read_words(&one, 0, 0, 0, room, 2), HG_NO_BLOCK));
     hg_reply stale = hg_worker_read_words(&one, 0, block + 1, 0, room, 2);
     CHECK(stale.status == HG_STALE && stale.value == 0);
     CHECK(is_plain(hg_worker_drop(&one), HG_DONE));
