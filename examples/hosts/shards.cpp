@@ -142,8 +142,12 @@ public:
             const auto words = words_of(value);
             Reply made = room(worker, session.tenant, 8 * words.size());
             if (made.status != HG_BLOCK) return said(made);
+            const Reply written =
+                worker.write_words(session.tenant, made.value, 0, words.data(), words.size());
+            if (written.status != HG_DONE)
+                return said(written) + ", and freed: " + said(worker.free(session.tenant, made.value));
             block = made.value;
-            return said(worker.write_words(session.tenant, block, 0, words.data(), words.size()));
+            return said(written);
         });
         if (block != 0) rows_.insert({key, Row{block, &session.shard}});
         return told;

@@ -45,7 +45,7 @@ static hg_reply any_call(hg_worker *worker, unsigned kind, hg_reply *rows)
     }
 }
 
-enum { KINDS = 16 };
+enum { LISTS = 15, KINDS = 16 };
 
 static int is_unnamed(unsigned kind)
 {
@@ -66,6 +66,7 @@ static void try_no_worker(hg_worker *worker)
         CHECK(is_plain(reply, HG_CLOSED) || (is_unnamed(kind) && is_plain(reply, HG_NO_BLOCK)));
     }
     CHECK(is_plain(hg_worker_leave(worker), HG_CLOSED));
+    CHECK(is_plain(hg_worker_drop(worker), HG_CLOSED));
     CHECK(worker->at == before.at && worker->mark == before.mark);
     CHECK(memcmp(rows, untouched, sizeof rows) == 0);
     CHECK(asked == shut);
@@ -83,6 +84,7 @@ static void try_no_service(hg_service *service)
     CHECK(is_nobody(hg_service_arena(service, "\xff", 1), HG_NO_NAME));
     CHECK(is_plain(hg_service_worker(service, 0, &worker), HG_CLOSED));
     CHECK(is_plain(hg_service_close(service, &core), HG_CLOSED));
+    CHECK(is_plain(hg_service_drop(service), HG_CLOSED));
     CHECK(service->at == before.at && service->mark == before.mark);
     CHECK(worker.at == NULL && worker.mark == 0 && core.at == NULL && core.mark == 0);
 }
@@ -98,8 +100,6 @@ static void try_closed(void)
         try_no_service(&service);
         CHECK(asked == shut);
         try_no_worker(&worker);
-        CHECK(is_plain(hg_service_drop(&service), HG_CLOSED));
-        CHECK(is_plain(hg_worker_drop(&worker), HG_CLOSED));
     }
 }
 
@@ -270,9 +270,11 @@ static void try_open(void)
     for (unsigned n = 0; n < ROUNDS; n++) {
         unsigned kind = n % KINDS, who = below(2);
         if (kind == 12 && who == 0) continue; /* the worker of segment 0 is to keep it */
-        if (kind == 13 && below(64)) continue; /* it looks at each place of its segments */
+        if (kind == LISTS && below(64)) continue; /* it looks at each place of its segments */
         seed ^= n;
+        unsigned long before = asked;
         hg_reply reply = any_call(&workers[who], kind, rows);
+        CHECK(kind == LISTS || asked == before); /* nothing but a listing takes memory */
         checks++;
         if (strcmp(hg_status_text(reply.status), "unknown status") == 0
             || reply.status == HG_CLOSED || reply.status == HG_AGAIN) {

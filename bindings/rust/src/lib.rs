@@ -100,10 +100,10 @@ impl fmt::Debug for Core {
     }
 }
 
-// SAFETY: crates/hg_c proves `Send` of the type behind these fields.
+// SAFETY: crates/hg_ffi proves `Send` of the type behind these fields.
 unsafe impl Send for Core {}
 
-// SAFETY: crates/hg_c proves `Sync` of it too, and that what takes `&self` only reads it.
+// SAFETY: crates/hg_ffi proves `Sync` of it too, and that what takes `&self` only reads it.
 unsafe impl Sync for Core {}
 
 impl Core {

@@ -49,7 +49,7 @@ pub struct ServiceWorker {
     raw: RawWorker,
 }
 
-// SAFETY: crates/hg_c proves `Send` of the type behind these fields.
+// SAFETY: crates/hg_ffi proves `Send` of the type behind these fields.
 unsafe impl Send for Service {}
 // SAFETY: so it does of these.
 unsafe impl Send for ServiceWorker {}

@@ -6,18 +6,18 @@ use Rattle.hg_place.specs.declared.Place.{Place}
 use Rattle.hg_place.specs.Places.{number_of}
 use Rattle.hg_place.specs.HandleWords.{handle_word, is_handle, is_place}
 use Rattle.hg_reply.specs.declared.reply.Reply.{Reply}
-use Rattle.hg_c.specs.declared.host_core.HostCore.{HostCore}
+use Rattle.hg_ffi.specs.declared.host_core.HostCore.{HostCore}
 use Rattle.hg_machine.specs.Lists.{Kept}
-use Rattle.hg_c.specs.Calls.{Serves, ServesOn, ServesAt}
-use Rattle.hg_c.specs.AtOnce.{DoesAtOnce, DoesOn}
+use Rattle.hg_ffi.specs.Calls.{Serves, ServesOn, ServesAt}
+use Rattle.hg_ffi.specs.AtOnce.{DoesAtOnce, DoesOn}
 use Rattle.hg_bank_replies.specs.declared.block.BankBlock.{BankBlock}
 use Rattle.hg_bank_replies.specs.Blocks.{core_of}
-use Rattle.hg_c.specs.declared.host_bank.HostBank.{HostBank}
+use Rattle.hg_ffi.specs.declared.host_bank.HostBank.{HostBank}
 use Rattle.hg_bank.specs.State.{BankState}
-use Rattle.hg_c.specs.Banks as banks
-use Rattle.hg_c.specs.BankAtOnce as many
-use Rattle.hg_c.specs.declared.host_part.HostPart.{HostPart}
-use Rattle.hg_c.specs.Parts as parts
+use Rattle.hg_ffi.specs.Banks as banks
+use Rattle.hg_ffi.specs.BankAtOnce as many
+use Rattle.hg_ffi.specs.declared.host_part.HostPart.{HostPart}
+use Rattle.hg_ffi.specs.Parts as parts
 
 both_ways : {X : Type 0} {b : Bool} → b ≡ true → b ≡ false → X
 both_ways is isnt = absurd (subst T (sym is ∙ isnt) tt)

@@ -1,13 +1,1 @@
-pub mod Owning
-pub mod Calls
-pub mod Opening
-pub mod Asking
-pub mod Naming
-pub mod Holding
 pub mod Version
-pub mod AtOnce
-pub mod Banks
-pub mod BankOpening
-pub mod BankAtOnce
-pub mod Parts
-pub mod PartOpening

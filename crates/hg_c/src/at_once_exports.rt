@@ -1,11 +1,11 @@
 //! What a host calls for many words, or for many blocks.
 
 ghost use Rattle.std.specs.Prelude.{◌≡◌};
-ghost use Rattle.hg_c.specs.AtOnce.{DoesAtOnce, DoesOn, ReadsInto, Unloads, WritesFrom};
+ghost use Rattle.hg_ffi.specs.AtOnce.{DoesAtOnce, DoesOn, ReadsInto, Unloads, WritesFrom};
 ghost use Rattle.hg_reply.specs.Numbers.{actor_of, byte_of};
 
-use crate::at_once::{serve_free_all, serve_read_words, serve_write_words};
-use crate::host_core::HostCore;
+use hg_ffi::at_once::{serve_free_all, serve_read_words, serve_write_words};
+use hg_ffi::host_core::HostCore;
 use hg_place::Handle;
 use hg_reply::status::NO_BLOCK;
 use hg_reply::{Reply, actor_of, byte_of};

@@ -8,14 +8,14 @@ ghost use Rattle.hg_bank_replies.specs.declared.asking.BankQuestion.TheVariants 
 ghost use Rattle.hg_bank_replies.specs.Blocks.{core_of};
 ghost use Rattle.hg_reply.specs.Naming.{unnamed};
 ghost use Rattle.hg_reply.specs.Numbers.{actor_of, byte_of};
-ghost use Rattle.hg_c.specs.Banks.{Closes, Finds, Grows, Serves, ServesAt, ServesOn, Tells, TellsName};
-ghost use Rattle.hg_c.specs.BankOpening.{Opens};
+ghost use Rattle.hg_ffi.specs.Banks.{Closes, Finds, Grows, Serves, ServesAt, ServesOn, Tells, TellsName};
+ghost use Rattle.hg_ffi.specs.BankOpening.{Opens};
 
-use crate::bank_opening::open_bank;
-use crate::bank_serving::{ask_bank, find_bank_name, find_bank_number, grow_bank, serve_bank};
-use crate::host_bank::HostBank;
-use crate::lent_bank::LentBank;
 use hg_bank_replies::{BankBlock, BankQuestion, core_of};
+use hg_ffi::bank_opening::open_bank;
+use hg_ffi::bank_serving::{ask_bank, find_bank_name, find_bank_number, grow_bank, serve_bank};
+use hg_ffi::host_bank::HostBank;
+use hg_ffi::lent_bank::LentBank;
 use hg_machine::Event;
 use hg_place::Handle;
 use hg_reply::status::{CLOSED, DONE, NO_BLOCK};

@@ -3,26 +3,9 @@
 //! changes.
 #![tactic(auto)]
 
-mod asking;
-mod at_once;
 mod at_once_exports;
-mod bank_at_once;
+mod bank_at_once_exports;
 mod bank_exports;
-mod bank_opening;
-mod bank_serving;
-mod box_pointer;
 mod exports;
-mod holding;
-mod host_bank;
-mod host_core;
-mod host_part;
-mod lent_bank;
-mod lent_core;
-mod naming;
-mod opening;
-mod part_opening;
-mod part_serving;
-mod part_words;
 mod service_exports;
-mod serving;
 mod version;

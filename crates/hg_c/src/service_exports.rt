@@ -8,15 +8,18 @@ ghost use Rattle.hg_reply.specs.Naming.{unnamed};
 ghost use Rattle.hg_reply.specs.Numbers.{actor_of, byte_of};
 ghost use Rattle.hg_reply.specs.Replies.{no_block};
 ghost use Rattle.hg_service_replies.specs.declared.asking.PartQuestion.TheVariants as question;
-ghost use Rattle.hg_c.specs.PartOpening.{Becomes, HandsOut, Opens};
-ghost use Rattle.hg_c.specs.Parts.{Closes, Finds, IsSame, Leaves, Lists, Serves, ServesAt, ServesOn};
-ghost use Rattle.hg_c.specs.Parts.{OnWord, ReadsWords, Tells, WritesWords};
+ghost use Rattle.hg_ffi.specs.PartOpening.{Becomes, HandsOut, Opens};
+ghost use Rattle.hg_ffi.specs.Parts.{Finds, GivesUpService, GivesUpWorker, IsSame, Leaves, Lists};
+ghost use Rattle.hg_ffi.specs.Parts.{OnWord, ReadsWords, Serves, ServesAt, ServesOn, Tells};
+ghost use Rattle.hg_ffi.specs.Parts.{WritesWords};
 
-use crate::host_core::HostCore;
-use crate::host_part::HostPart;
-use crate::part_opening::{close_service, hand_worker, open_service};
-use crate::part_serving::{ask_part, drop_part, find_in_part, leave_part, list_part, serve_part};
-use crate::part_words::{read_part, write_part};
+use hg_ffi::host_core::HostCore;
+use hg_ffi::host_part::HostPart;
+use hg_ffi::part_opening::{close_service, hand_worker, open_service};
+use hg_ffi::part_serving::{
+    ask_part, drop_service_part, drop_worker_part, find_in_part, leave_part, list_part, serve_part,
+};
+use hg_ffi::part_words::{read_part, write_part};
 use hg_machine::Event;
 use hg_place::Handle;
 use hg_reply::status::NO_BLOCK;
@@ -58,12 +61,12 @@ pub extern "C" fn hg_service_close(alloc: Global, host: &mut HostPart, core: &mu
     close_service(alloc, host, core)
 }
 
-/// Gives up a service that becomes no core. Its workers go on.
+/// Gives up a service that becomes no core, or a core that waits there. Its workers go on.
 #[unsafe(no_mangle)]
 pub extern "C" fn hg_service_drop(alloc: Global, host: &mut HostPart) -> Reply
-    ensures { Closes host.old result host.new }
+    ensures { GivesUpService host.old result host.new }
 {
-    drop_part(alloc, host)
+    drop_service_part(alloc, host)
 }
 
 /// How many workers the service has.
@@ -357,7 +360,7 @@ pub extern "C" fn hg_worker_leave(alloc: Global, host: &mut HostPart) -> Reply
 /// It is given up with all that it holds, and its service closes no more.
 #[unsafe(no_mangle)]
 pub extern "C" fn hg_worker_drop(alloc: Global, host: &mut HostPart) -> Reply
-    ensures { Closes host.old result host.new }
+    ensures { GivesUpWorker host.old result host.new }
 {
-    drop_part(alloc, host)
+    drop_worker_part(alloc, host)
 }

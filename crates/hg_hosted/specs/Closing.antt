@@ -35,7 +35,7 @@ GoesOnFor old (fault.StillOut worker) new = IsFirstOut new.policy new.came.items
 GoesOnFor old (fault.StillHeld segment) new =
     HaveCome new.policy new.came.items × (segment ≢ 0 → segment < length new.policy.segments)
 
--- it goes on for this reason, with its policy and table, and knows of all that have left
+-- it goes on for this reason, with its policy and table, and still knows of each that it knew of
 pub record GoesOn (old : HostedService) (why : CloseFault) (new : HostedService) : Type 0 where
   pub policy : new.policy ≡ old.policy
   pub table : table_of_shared new.shared ≡ table_of_shared old.shared

@@ -1,5 +1,5 @@
 -- What a service begins with.
-use Rattle.std.specs.Prelude.{◌≡◌, ℕ, List, [], None, Some, slice_get, length}
+use Rattle.std.specs.Prelude.{◌≡◌, ℕ, List, [], None, Some, false, replicate, slice_get, length}
 use Rattle.atomic_table.specs.Seated.{TableId}
 use Rattle.hg_machine.specs.Policy.{Policy}
 use Rattle.hg_table.specs.Seats.{KnowsNothing, part_on}
@@ -34,8 +34,9 @@ pub record AreNewHosted (policy : Policy) (table : TableId) (workers : List Host
       (k : ℕ) (worker : HostedWorker) → slice_get workers k ≡ Some worker
       → IsWorkerOf policy table worker
 
--- a service of this policy, and its new workers
+-- a service of this policy, of which nobody is known to have left, and its new workers
 pub record IsOpened (policy : Policy) (service : HostedService) (workers : List HostedWorker)
     : Type 0 where
   pub serves : service.policy ≡ policy
+  pub out : service.came.items ≡ replicate policy.workers false
   pub new : AreNewHosted policy (table_of_shared service.shared) workers

@@ -40,6 +40,17 @@ known_table other (Some of) = table_of_worker of.seat
 abbrev pub table_of_shared : Shared → TableId
 table_of_shared shared = known_table shared.left.pass.table_id (view shared.left.pass).known
 
+-- this caller keeps no list
+abbrev pub AreListsSettled : List (Parked Sent) → Type 0
+AreListsSettled lists =
+    (at : ℕ) (list : Parked Sent) → slice_get lists at ≡ Some list → list.kept ≡ None
+
+-- it keeps no part: each stands parked, or is with another
+pub record IsSettled (shared : Shared) : Type 0 where
+  pub segments : shared.segments.kept ≡ None
+  pub left : shared.left.kept ≡ None
+  pub lists : AreListsSettled shared.lists.items
+
 -- the segments and the lists are with this caller only where it keeps them
 pub record AreParked (shared : Shared) : Type 0 where
   pub segments : IsHome (view shared.segments.pass) shared.segments.kept

@@ -1,6 +1,6 @@
 //! A service becomes a core.
 
-ghost use Rattle.std.specs.Prelude.{◌≡◌, ◌<◌, length, IfOk, IfErr, MatchOption};
+ghost use Rattle.std.specs.Prelude.{◌≡◌, ◌<◌, length, slice_set, true, IfOk, IfErr, MatchOption};
 ghost use Rattle.crossbeam_queue.specs.Passes.{view};
 ghost use Rattle.hg_close.specs.Closed.{IsQuiet};
 ghost use Rattle.hg_close.specs.Rooms.{IsFilled, IsUnfilled};
@@ -139,9 +139,9 @@ fn gather(left: &mut Parked<Left>, came: &mut Vec<bool>)
     }
 }
 
-/// Notes that a worker has left.
+/// Notes that a worker has left, and nothing of another.
 fn note(came: &mut Vec<bool>, number: u8)
-    ensures { StayCome came.old.items came.new.items }
+    ensures { came.new.items ≡ slice_set came.old.items number true }
 {
     if let Some(came) = came.get_mut(usize::from(number)) {
         *came = true;

@@ -5,9 +5,11 @@ ghost use Rattle.crossbeam_queue.specs.Passes.{view};
 ghost use Rattle.hg_table.specs.Named.{table_of_worker};
 ghost use Rattle.hg_hosted.specs.Leaving.{IsIdle};
 ghost use Rattle.hg_hosted.specs.Parking.{KnowsName};
+ghost use Rattle.hg_hosted.specs.Shared.{AreHome, AreOfService, IsSettled};
 
 use crate::parked::Parked;
 use crate::parts::Left;
+use crate::shared::Shared;
 use crate::worker::HostedWorker;
 use hg_place::MAX_SEGMENTS;
 use hg_worker::WorkerState;
@@ -30,10 +32,22 @@ impl HostedWorker {
         if !shared.settle() {
             return Err(HostedWorker::made(state, shared));
         }
-        match goes_to(state, &mut shared.left) {
-            None => Ok(()),
-            Some(state) => Err(HostedWorker::made(state, shared)),
-        }
+        goes(state, shared)
+    }
+}
+
+/// The worker, whose caller keeps no part of what is shared, goes where those are that have left, or
+/// comes back.
+fn goes(state: Box<WorkerState, Global>, shared: Shared) -> Result<(), HostedWorker>
+    requires of { AreOfService state.value.policy (table_of_worker state.value.seat) shared }
+    requires home { AreHome shared }
+    requires settled { IsSettled shared }
+    ensures back { IfErr result (λ back. back.state ≡ Some state) }
+{
+    let mut shared = shared;
+    match goes_to(state, &mut shared.left) {
+        None => Ok(()),
+        Some(state) => Err(HostedWorker::made(state, shared)),
     }
 }
 

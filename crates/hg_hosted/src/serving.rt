@@ -118,7 +118,8 @@ impl HostedWorker {
     /// Gives out a block of so many bytes, all words 0, of a segment of the arena that the worker
     /// holds, by one step at its place.
     pub fn alloc(&mut self, actor: Actor, arena: u8, bytes: u64) -> Answer
-        ensures { Serves (Allocates actor arena bytes result) self.old self.new }
+        ensures served { Serves (Allocates actor arena bytes result) self.old self.new }
+        ensures alone { self.new.shared ≡ self.old.shared }
     {
         let Some(state) = self.state.take() else {
             unreachable!()
@@ -131,7 +132,8 @@ impl HostedWorker {
     /// Takes the class from each page of the worker's that has no open place, and tells from how
     /// many.
     pub fn collect(&mut self) -> Answer
-        ensures { Serves (Collects result) self.old self.new }
+        ensures served { Serves (Collects result) self.old self.new }
+        ensures alone { self.new.shared ≡ self.old.shared }
     {
         let Some(state) = self.state.take() else {
             unreachable!()
@@ -144,7 +146,8 @@ impl HostedWorker {
     /// Frees a block: `Done` where the worker holds its segment, and its place is home; else
     /// `Parted`, and its place is in the worker's hand.
     pub fn free(&mut self, actor: Actor, handle: Handle) -> Answer
-        ensures { Serves (Frees actor handle result) self.old self.new }
+        ensures served { Serves (Frees actor handle result) self.old self.new }
+        ensures alone { self.new.shared ≡ self.old.shared }
     {
         let Some(state) = self.state.take() else {
             unreachable!()
@@ -156,7 +159,8 @@ impl HostedWorker {
 
     /// Reads a word of a block: `Elsewhere` where the worker doesn't hold its segment.
     pub fn read(&mut self, actor: Actor, handle: Handle, index: u32) -> Answer
-        ensures { Serves (Reads actor handle index result) self.old self.new }
+        ensures served { Serves (Reads actor handle index result) self.old self.new }
+        ensures alone { self.new.shared ≡ self.old.shared }
     {
         let Some(state) = self.state.take() else {
             unreachable!()
@@ -168,7 +172,8 @@ impl HostedWorker {
 
     /// Writes a word of a block. Its answers are those of `read`, by the right to write.
     pub fn write(&mut self, actor: Actor, handle: Handle, index: u32, value: u64) -> Answer
-        ensures { Serves (Writes actor handle index value result) self.old self.new }
+        ensures served { Serves (Writes actor handle index value result) self.old self.new }
+        ensures alone { self.new.shared ≡ self.old.shared }
     {
         let Some(state) = self.state.take() else {
             unreachable!()
@@ -180,7 +185,8 @@ impl HostedWorker {
 
     /// Shows the actor the block at a place.
     pub fn look(&mut self, actor: Actor, place: Place) -> Answer
-        ensures { Serves (LooksAt actor place result) self.old self.new }
+        ensures served { Serves (LooksAt actor place result) self.old self.new }
+        ensures alone { self.new.shared ≡ self.old.shared }
     {
         let Some(state) = self.state.take() else {
             unreachable!()
@@ -193,8 +199,10 @@ impl HostedWorker {
     /// Shows the actor the blocks that the worker holds: one look at each place that its segments
     /// record as open, rising. An error is want of memory, and then nothing was looked at.
     pub fn list(&mut self, alloc: Global, actor: Actor) -> Result<Vec<Row>, AllocError>
-        ensures { MatchResult result (λ rows. Serves (ListsAll actor rows.items) self.old self.new)
+        ensures served { MatchResult result
+            (λ rows. Serves (ListsAll actor rows.items) self.old self.new)
             (λ refused. Serves Stays self.old self.new) }
+        ensures alone { self.new.shared ≡ self.old.shared }
     {
         let Some(state) = self.state.take() else {
             unreachable!()

@@ -1,9 +1,10 @@
 //! What the workers of a service share.
 
-ghost use Rattle.std.specs.Prelude.{◌≡◌, length, None, IfOk, IsTrue};
+ghost use Rattle.std.specs.Prelude.{◌≡◌, length, IfOk, IsTrue};
 ghost use Rattle.atomic_table.specs.Seated.{TableId};
 ghost use Rattle.hg_machine.specs.Policy.{Policy};
-ghost use Rattle.hg_hosted.specs.Shared.{AreHome, AreListsHome, AreOfService, AreParked};
+ghost use Rattle.hg_hosted.specs.Shared.{AreHome, AreListsHome, AreListsSettled, AreOfService};
+ghost use Rattle.hg_hosted.specs.Shared.{AreParked, IsSettled};
 
 use crate::parked::Parked;
 use crate::parts::{Left, Segments, Sent};
@@ -46,7 +47,7 @@ impl Shared {
         ensures of { (policy : Policy) (table : TableId) → AreOfService policy table self.old
             → AreOfService policy table self.new }
         ensures home { AreHome self.old → AreHome self.new }
-        ensures left { IsTrue result → self.new.left.kept ≡ None }
+        ensures settled { IsTrue result → IsSettled self.new }
     {
         let segments = self.segments.settle();
         let left = self.left.settle();
@@ -54,17 +55,28 @@ impl Shared {
     }
 }
 
+/// Puts back the lists that found no room before. Whether this caller keeps none any more.
 fn settle_lists(lists: &mut Vec<Parked<Sent>>) -> bool
     ensures all { length lists.new.items ≡ length lists.old.items }
     ensures home { AreListsHome lists.old.items → AreListsHome lists.new.items }
+    ensures settled { IsTrue result → AreListsSettled lists.new.items }
 {
-    let mut settled = true;
     for at in 0..lists.len() {
-        if !lists[at].settle() {
-            settled = false;
+        let _ = lists[at].settle();
+    }
+    are_settled(lists)
+}
+
+/// Whether this caller keeps none of the lists.
+fn are_settled(lists: &[Parked<Sent>]) -> bool
+    ensures { IsTrue result → AreListsSettled lists.now }
+{
+    for list in lists {
+        if list.kept.is_some() {
+            return false;
         }
     }
-    settled
+    true
 }
 
 fn shared_lists(

@@ -212,8 +212,8 @@ static ENDINGS: [Row; 15] = [
 
 #[test]
 fn answers_are_explained(rt: HostRuntime) {
-    for (words, input, status, out, err) in ENDINGS {
-        ends(&rt, rt.alloc(), words, &PIPED, input, (status, out, err));
+    for (words, input, status, out, err) in &ENDINGS {
+        ends(&rt, rt.alloc(), words, &PIPED, input, (*status, out, err));
     }
 }
 

@@ -219,14 +219,14 @@ static JOBS: [(&[&str], Told<'static>); 36] = [
 
 #[test]
 fn job_words(rt: HostRuntime) {
-    for (words, want) in JOBS {
-        comes_to(&rt, rt.alloc(), words, want);
+    for (words, want) in &JOBS {
+        comes_to(&rt, rt.alloc(), words, *want);
     }
     comes_to(&rt, rt.alloc(), &[""], ("line", "", "", 0));
-    for line in NO_JOBS {
+    for line in &NO_JOBS {
         is_refused(&rt, rt.alloc(), line, "line");
     }
-    for line in HELPS {
+    for line in &HELPS {
         is_refused(&rt, rt.alloc(), line, "print");
     }
 }
@@ -261,9 +261,9 @@ static NO_FLAGS: [(&[&str], &str); 4] = [
 
 #[test]
 fn no_tip_where_nothing_follows(rt: HostRuntime) {
-    for (words, want) in NO_FLAGS {
+    for (words, want) in &NO_FLAGS {
         let text = text(rt.alloc(), words).expect(&rt, "memory");
-        assert_eq!(&rt; text.as_str(), want);
+        assert_eq!(&rt; text.as_str(), *want);
         drop(text);
     }
 }
@@ -409,7 +409,7 @@ fn help_of_each_command(rt: HostRuntime) {
 /// `help` prints what `--help` does, and says which word is no command.
 #[test]
 fn help_as_a_command(rt: HostRuntime) {
-    for (words, flags) in HELPS_BY_WORD {
+    for (words, flags) in &HELPS_BY_WORD {
         let helped = text(rt.alloc(), words).expect(&rt, "memory");
         let flagged = text(rt.alloc(), flags).expect(&rt, "memory");
         assert_eq!(&rt; helped.as_str(), flagged.as_str());

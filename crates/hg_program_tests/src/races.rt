@@ -112,7 +112,7 @@ const IS_UNFIT: Ending = (Status::BadPolicy, "", "race unfit\n");
 
 #[test]
 fn each_cause_is_unfit(rt: HostRuntime) {
-    for (policy, _) in UNFIT {
+    for (policy, _) in &UNFIT {
         ends(&rt, rt.alloc(), policy, 3, IS_UNFIT);
     }
 }
@@ -120,7 +120,7 @@ fn each_cause_is_unfit(rt: HostRuntime) {
 /// What is told of a policy under which no race can be run.
 #[test]
 fn each_cause_is_told(rt: HostRuntime) -> Result<(), Fail> {
-    for (policy, lack) in UNFIT {
+    for (policy, lack) in &UNFIT {
         let hint = race_hint(rt.alloc(), policy.as_bytes())?;
         let want = format!(in rt.alloc(); "  a race takes {lack}\n")?;
         assert!(&rt; hint.as_slice() == want.as_bytes(), "{policy}");

@@ -5,6 +5,7 @@ pub mod Serving
 pub mod Taking
 pub mod Leaving
 pub mod Closing
+pub mod Dropping
 pub mod Listing
 pub mod Words
 pub mod Asking

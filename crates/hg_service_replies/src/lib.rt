@@ -3,6 +3,7 @@
 
 mod asking;
 mod closing;
+mod dropping;
 mod leaving;
 mod listing;
 mod opening;
@@ -13,6 +14,7 @@ mod words;
 
 pub use asking::{PartQuestion, answer, find};
 pub use closing::close;
+pub use dropping::{drop_service, drop_worker};
 pub use leaving::leave;
 pub use listing::list;
 pub use opening::open;

@@ -138,11 +138,11 @@ fn give_each<N: ServiceName>(
 ) {
     let (actor, arena) = (ALICE, MAIN);
     serve(rt, all, core, reached, 0, Event::Refill { arena });
-    for words in WORDS {
+    for words in &WORDS {
         let event = Event::Alloc {
             actor,
             arena,
-            bytes: u64::from(words) * 8,
+            bytes: u64::from(*words) * 8,
         };
         if let Answer::Block(handle) = serve(rt, all, core, reached, 0, event) {
             serve(rt, all, core, reached, 0, Event::Free { actor, handle });

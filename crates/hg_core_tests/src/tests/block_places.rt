@@ -70,17 +70,17 @@ fn check(rt: &impl Abort, core: &Core, segment: u8, page: u8, many: u16) {
 // one, at its first page.
 #[test]
 fn block_places_of_each_size(rt: HostRuntime) {
-    for (words, many) in SIZES {
+    for (words, many) in &SIZES {
         let mut core = opened(&rt, rt.alloc());
         check(&rt, &core, 0, 0, 0);
-        let handle = block(&rt, &mut core, 0, words);
-        check(&rt, &core, 0, handle.place.page, many);
+        let handle = block(&rt, &mut core, 0, *words);
+        check(&rt, &core, 0, handle.place.page, *many);
         let free = Event::Free {
             actor: ALICE,
             handle,
         };
         assert_eq!(&rt; answer(&rt, &mut core, 0, free), Answer::Done);
-        check(&rt, &core, 0, handle.place.page, many);
+        check(&rt, &core, 0, handle.place.page, *many);
         let pages = answer(&rt, &mut core, 0, Event::Collect);
         assert_eq!(&rt; pages, Answer::Pages(1));
         check(&rt, &core, 0, 0, 0);
@@ -95,8 +95,8 @@ fn block_places_of_held_segments(rt: HostRuntime) {
     let mut core = opened(&rt, rt.alloc());
     let handle = block(&rt, &mut core, 0, 64);
     check(&rt, &core, 0, handle.place.page, 8);
-    for segment in [1, 2, 3, 63, 64, 255] {
-        check(&rt, &core, segment, 0, 0);
+    for segment in &[1, 2, 3, 63, 64, 255] {
+        check(&rt, &core, *segment, 0, 0);
     }
     let abandon = Event::Abandon { segment: 0 };
     assert_eq!(&rt; answer(&rt, &mut core, 0, abandon), Answer::Done);

@@ -32,7 +32,7 @@ fn check(rt: &impl Abort, core: &Core, segment: u8, page: u8, words: Option<u16>
 // A page has the class of its first block until that is cleared; of a run its first page has it.
 #[test]
 fn page_classes_of_each_size(rt: HostRuntime) {
-    for (asked, words) in [
+    for (asked, words) in &[
         (1, 1),
         (9, 10),
         (100, 112),
@@ -44,14 +44,14 @@ fn page_classes_of_each_size(rt: HostRuntime) {
     ] {
         let mut core = opened(&rt, rt.alloc());
         check(&rt, &core, 0, 0, None);
-        let handle = block(&rt, &mut core, 0, asked);
-        check(&rt, &core, 0, handle.place.page, Some(words));
+        let handle = block(&rt, &mut core, 0, *asked);
+        check(&rt, &core, 0, handle.place.page, Some(*words));
         let free = Event::Free {
             actor: ALICE,
             handle,
         };
         assert_eq!(&rt; answer(&rt, &mut core, 0, free), Answer::Done);
-        check(&rt, &core, 0, handle.place.page, Some(words));
+        check(&rt, &core, 0, handle.place.page, Some(*words));
         let pages = answer(&rt, &mut core, 0, Event::Collect);
         assert_eq!(&rt; pages, Answer::Pages(1));
         check(&rt, &core, 0, 0, None);
@@ -66,8 +66,8 @@ fn page_classes_of_segments_that_nobody_holds(rt: HostRuntime) {
     let mut core = opened(&rt, rt.alloc());
     let handle = block(&rt, &mut core, 0, 60);
     check(&rt, &core, 0, handle.place.page, Some(64));
-    for segment in [1, 2, 3, 63, 64, 255] {
-        check(&rt, &core, segment, 0, None);
+    for segment in &[1, 2, 3, 63, 64, 255] {
+        check(&rt, &core, *segment, 0, None);
     }
     let abandon = Event::Abandon { segment: 0 };
     assert_eq!(&rt; answer(&rt, &mut core, 0, abandon), Answer::Done);

@@ -240,30 +240,30 @@ impl Reached {
 
     /// Each event was served.
     pub fn check_served(&self, rt: &impl Abort) {
-        for (call, kind) in SERVED {
-            self.check_answer(rt, call, kind);
+        for (call, kind) in &SERVED {
+            self.check_answer(rt, *call, *kind);
         }
     }
 
     /// Blocks of several pages came and went, and some had no room.
     pub fn check_runs(&self, rt: &impl Abort) {
-        for case in RUNS {
-            self.check_case(rt, case);
+        for case in &RUNS {
+            self.check_case(rt, *case);
         }
     }
 
     /// Each event was answered in each way, and each case of each run came about.
     pub fn check(&self, rt: &impl Abort) {
-        for (call, kind) in ANSWERS {
-            self.check_answer(rt, call, kind);
+        for (call, kind) in &ANSWERS {
+            self.check_answer(rt, *call, *kind);
         }
-        for call in ON_HANDLES {
-            for kind in DENIALS {
-                self.check_answer(rt, call, kind);
+        for call in &ON_HANDLES {
+            for kind in &DENIALS {
+                self.check_answer(rt, *call, *kind);
             }
         }
-        for case in CASES {
-            self.check_case(rt, case);
+        for case in &CASES {
+            self.check_case(rt, *case);
         }
     }
 }

@@ -182,8 +182,8 @@ impl Secrets {
 
 /// Many events from a seed, for each actor from whom words are hidden.
 fn hide_from_each(rt: &impl Abort, alloc: Global, policy: &str, seed: u64) {
-    for actor in ACTORS {
-        let mut secrets = Secrets::new(rt, alloc, policy, seed, actor);
+    for actor in &ACTORS {
+        let mut secrets = Secrets::new(rt, alloc, policy, seed, *actor);
         secrets.many(rt, alloc, 6000);
         secrets.check(rt);
         drop(secrets);

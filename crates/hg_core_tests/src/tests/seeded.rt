@@ -153,8 +153,8 @@ impl Run {
     /// A worker that holds one segment is given a block of each class.
     fn give_each(&mut self, rt: &impl Abort, alloc: Global, worker: u8) {
         self.step(rt, alloc, worker, Event::Refill { arena: MAIN });
-        for bytes in BYTES {
-            self.give(rt, alloc, worker, bytes);
+        for bytes in &BYTES {
+            self.give(rt, alloc, worker, *bytes);
         }
     }
 

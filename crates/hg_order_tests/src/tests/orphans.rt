@@ -49,8 +49,8 @@ fn two_orphans_are_taken_in_their_order(rt: HostRuntime) {
         assert!(&rt; false, "the policy is read");
         return;
     };
-    for (given, end) in CASES {
-        case(&rt, rt.alloc(), &policy, given, end);
+    for (given, end) in &CASES {
+        case(&rt, rt.alloc(), &policy, *given, *end);
     }
     drop(policy);
 }

@@ -54,9 +54,9 @@ fn words_apart(rt: &impl Abort, one: &str, other: &str) -> u32 {
 /// Each command was served. Lists stand at the end alone, so each line before has one answer.
 fn check_served(rt: &impl Abort, trace: &str, out: &str) {
     let mut number = 0u32;
-    for (command, answer) in SERVED {
-        let came = trace.lines().zip(out.lines()).any(|both| both.0.contains(command)
-            && both.1.starts_with(answer));
+    for (command, answer) in &SERVED {
+        let came = trace.lines().zip(out.lines()).any(|both| both.0.contains(*command)
+            && both.1.starts_with(*answer));
         assert!(rt; came, "command {number}");
         number = number.wrapping_add(1);
     }

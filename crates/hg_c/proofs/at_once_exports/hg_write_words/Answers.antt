@@ -1,5 +1,5 @@
 use Rattle.std.proofs.Common.{subst}
-use Rattle.hg_c.specs.AtOnce.{DoesAtOnce, WritesFrom}
+use Rattle.hg_ffi.specs.AtOnce.{DoesAtOnce, WritesFrom}
 use Rattle.hg_c.proofs.Named.{on_handle_at_once}
 use Rattle.hg_c.proofs.at_once_exports.hg_write_words.Goals as goal
 

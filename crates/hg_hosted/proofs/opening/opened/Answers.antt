@@ -1,4 +1,4 @@
-use Rattle.std.proofs.Common.{◌∙◌, ap, sym, subst}
+use Rattle.std.proofs.Common.{◌≡◌, ◌∙◌, rules, ap, sym, subst, false, length, replicate, vec_len}
 use Rattle.atomic_table.specs.Seated.{TableId}
 use Rattle.hg_machine.specs.Policy.{Policy}
 use Rattle.hg_hosted.specs.New.{AreNewHosted}
@@ -9,9 +9,13 @@ use Rattle.hg_hosted.proofs.opening.opened.Goals as goal
 pub returns : goal.returns
 returns g c =
     let workers = c.in_ok-workers.workers.items in
+    let many : vec_len c.in_ok-parts.parts.workers ≡ length c.in_ok-parts.parts.workers.items = search rules in
     let table = ap table_of_shared c.made.ensures.shared ∙ table_is c.in_ok-workers.ensures.of in
     record {
       serves = c.made.ensures.policy ∙ c.in_ok-parts.ensures.policy;
+      out = ap (λ v. v.items) c.made.ensures.came
+          ∙ c.in_ok-came.ensures.items_if_clones_equal (λ y same. same)
+          ∙ ap (λ n. replicate n false) (c.len.ensures ∙ many ∙ c.in_ok-parts.ensures.workers.all);
       new = subst
           (λ (p : Policy). AreNewHosted p (table_of_shared c.made.result.shared) workers)
           (sym c.requires.policy)

@@ -29,7 +29,7 @@ loop-at-preserved c =
           (subst (λ told. Reads c.args.actor c.args.handle (word_index c.args.first (0 + length (take at room))) told y z) c.in-Value.is
           (subst (λ i. Reads c.args.actor c.args.handle i c.read.result y z)
           (c.word_index.ensures ∙ ap (word_index c.args.first) same) read))))
-          before.each c.read.ensures;
+          before.each c.read.ensures.served;
       rest = rest_set room c.args.room.now at word before.rest;
     }
 
@@ -48,7 +48,7 @@ returns-in_default c = let before = c.loop-at.invariant in
         subst (λ i. Reads c.args.actor c.args.handle i c.read.result y z) c.word_index.ensures read,
         c.stopped.ensures,
       );
-    }) before.each c.read.ensures
+    }) before.each c.read.ensures.served
 
 pub returns : goal.returns
 returns c = let before = c.loop-at.invariant in

@@ -21,7 +21,7 @@ loop-at-preserved c =
     (subst (λ told. Writes c.args.actor c.args.handle (word_index c.args.first (0 + length (take at words))) word told y z) c.in-Done.is
     (subst (λ i. Writes c.args.actor c.args.handle i word c.write.result y z)
     (c.word_index.ensures ∙ ap (word_index c.args.first) same) write))))
-    c.loop-at.invariant c.write.ensures
+    c.loop-at.invariant c.write.ensures.served
 
 pub returns-in_default : goal.returns-in_default
 returns-in_default c =
@@ -38,7 +38,7 @@ returns-in_default c =
         subst (λ i. Writes c.args.actor c.args.handle i c.word_at-word.result c.write.result y z) c.word_index.ensures write,
         c.stopped.ensures,
       );
-    }) c.loop-at.invariant c.write.ensures
+    }) c.loop-at.invariant c.write.ensures.served
 
 pub returns : goal.returns
 returns c =

@@ -1,8 +1,8 @@
 use Rattle.std.proofs.Common.{rules, refl}
 use Rattle.hg_hosted.proofs.worker.HostedWorker.alloc.Goals as goal
 
-pub returns : goal.returns
-returns c = record {
+pub returns-clause-served : goal.returns-clause-served
+returns-clause-served c = record {
   before = c.in-Some.state;
   after = c.alloc_by-answer.result.1;
   was = search rules;

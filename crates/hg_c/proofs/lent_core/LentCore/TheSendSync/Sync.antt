@@ -1,6 +1,0 @@
-use denote.Param.Send.{IsSync, part_keyless}
-use Rattle.hg_c.specs.contracts.lent_core.LentCore.{the_row}
-use Rattle.hg_c.proofs.lent_core.LentCore.TheSendSync.Send.{send}
-
-pub sync : IsSync the_row
-sync = record { shared = λ d b o κ q. part_keyless the_row send q d b o }

@@ -1,5 +1,0 @@
-use Rattle.std.proofs.Common.{rules}
-use Rattle.hg_c.proofs.serving.step.Goals as goal
-
-pub returns : goal.returns
-returns c = rw c.in-Some.ensures.0 (search rules)

@@ -1,0 +1,5 @@
+pub mod Handles
+pub mod Values
+pub mod Lent
+pub mod LentBanks
+pub mod Waiting

@@ -1,0 +1,6 @@
+use denote.Param.Send.{IsSync, part_keyless}
+use Rattle.hg_ffi.specs.contracts.lent_bank.LentBank.{the_row}
+use Rattle.hg_ffi.proofs.lent_bank.LentBank.TheSendSync.Send.{send}
+
+pub sync : IsSync the_row
+sync = record { shared = λ d b o κ q. part_keyless the_row send q d b o }

@@ -1,0 +1,12 @@
+pub mod Owning
+pub mod Calls
+pub mod Opening
+pub mod Asking
+pub mod Naming
+pub mod Holding
+pub mod AtOnce
+pub mod Banks
+pub mod BankOpening
+pub mod BankAtOnce
+pub mod Parts
+pub mod PartOpening
