@@ -200,6 +200,18 @@ HG_MUST_USE hg_reply hg_write_words(hg_core *core, uint32_t worker, uint32_t act
                                     hg_handle block, uint32_t first, const uint64_t *words,
                                     size_t count);
 
+/* Bytes of a block, from a byte on: eight lie in a word, the least first. A read is the Read of each
+ * word that they lie in; a write the Write of each that they fill, and of one that they fill in part
+ * its Read and then its Write, so that it takes both rights. These go one after another, and the
+ * first that is refused ends them. HG_DONE where all were served, else what the one that wasn't is
+ * answered; value: how many bytes were read or written. What stands in the room behind them is as
+ * it was. */
+HG_MUST_USE hg_reply hg_read_bytes(hg_core *core, uint32_t worker, uint32_t actor, hg_handle block,
+                                   uint32_t first, void *room, size_t count);
+HG_MUST_USE hg_reply hg_write_bytes(hg_core *core, uint32_t worker, uint32_t actor,
+                                    hg_handle block, uint32_t first, const void *bytes,
+                                    size_t count);
+
 /* All blocks of an owner that the worker holds: for each a Free by the actor, in rising order of
  * their places. One that the actor may not free is denied, and stays. HG_DONE, value: how many were
  * freed. */
@@ -265,6 +277,12 @@ HG_MUST_USE hg_reply hg_bank_read_words(hg_bank *bank, uint32_t worker, uint32_t
 HG_MUST_USE hg_reply hg_bank_write_words(hg_bank *bank, uint32_t worker, uint32_t actor,
                                          hg_bank_handle block, uint32_t first,
                                          const uint64_t *words, size_t count);
+HG_MUST_USE hg_reply hg_bank_read_bytes(hg_bank *bank, uint32_t worker, uint32_t actor,
+                                        hg_bank_handle block, uint32_t first, void *room,
+                                        size_t count);
+HG_MUST_USE hg_reply hg_bank_write_bytes(hg_bank *bank, uint32_t worker, uint32_t actor,
+                                         hg_bank_handle block, uint32_t first, const void *bytes,
+                                         size_t count);
 /* All blocks of an owner that the worker holds in one core. */
 HG_MUST_USE hg_reply hg_bank_free_all(hg_bank *bank, uint32_t worker, uint32_t actor, uint32_t core,
                                       uint32_t owner);

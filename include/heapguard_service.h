@@ -117,6 +117,14 @@ HG_MUST_USE hg_reply hg_worker_read_words(hg_worker *worker, uint32_t actor, hg_
 HG_MUST_USE hg_reply hg_worker_write_words(hg_worker *worker, uint32_t actor, hg_handle block,
                                            uint32_t first, const uint64_t *words, size_t count);
 
+/* Bytes of a block, as hg_read_bytes and hg_write_bytes: calls of hg_worker_read and hg_worker_write
+ * for its words, one after another. Between two of them another worker may free the block, and then
+ * the next is refused. */
+HG_MUST_USE hg_reply hg_worker_read_bytes(hg_worker *worker, uint32_t actor, hg_handle block,
+                                          uint32_t first, void *room, size_t count);
+HG_MUST_USE hg_reply hg_worker_write_bytes(hg_worker *worker, uint32_t actor, hg_handle block,
+                                           uint32_t first, const void *bytes, size_t count);
+
 /* The blocks that the worker holds and the actor may list, in rising order of their places: HG_DONE
  * with how many there are, each a Look that was answered HG_LISTED, of which as many stand in the
  * room as have one there; what is behind them is as it was. Or HG_NO_MEMORY. */

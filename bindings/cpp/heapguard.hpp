@@ -267,6 +267,22 @@ public:
         return hg_write_words(&core_, number(worker), number(actor), block, first, words, count);
     }
 
+    /// Reads that many bytes from the byte of an offset on, until a word's Read is refused; the value
+    /// is how many were read.
+    [[nodiscard]] Reply read_bytes(Worker worker, Tenant actor, Handle block, std::uint32_t first,
+                                   void *room, std::size_t count)
+    {
+        return hg_read_bytes(&core_, number(worker), number(actor), block, first, room, count);
+    }
+
+    /// Writes that many bytes from the byte of an offset on, until a word's Read or Write is refused;
+    /// the value is how many were written.
+    [[nodiscard]] Reply write_bytes(Worker worker, Tenant actor, Handle block, std::uint32_t first,
+                                    const void *bytes, std::size_t count)
+    {
+        return hg_write_bytes(&core_, number(worker), number(actor), block, first, bytes, count);
+    }
+
     /// Frees all blocks of the owner that the worker holds and the actor may free; the value is how
     /// many.
     [[nodiscard]] Reply free_all(Worker worker, Tenant actor, Tenant owner)
@@ -438,6 +454,21 @@ public:
                                    count);
     }
 
+    /// As Core::read_bytes.
+    [[nodiscard]] Reply read_bytes(Worker worker, Tenant actor, BankHandle block,
+                                   std::uint32_t first, void *room, std::size_t count)
+    {
+        return hg_bank_read_bytes(&bank_, number(worker), number(actor), block, first, room, count);
+    }
+
+    /// As Core::write_bytes.
+    [[nodiscard]] Reply write_bytes(Worker worker, Tenant actor, BankHandle block,
+                                    std::uint32_t first, const void *bytes, std::size_t count)
+    {
+        return hg_bank_write_bytes(&bank_, number(worker), number(actor), block, first, bytes,
+                                   count);
+    }
+
     /// Frees all blocks of the owner in one core that the worker holds and the actor may free; the
     /// value is how many.
     [[nodiscard]] Reply free_all(Worker worker, Tenant actor, CoreNumber core, Tenant owner)
@@ -563,6 +594,20 @@ public:
                                     const std::uint64_t *words, std::size_t count)
     {
         return hg_worker_write_words(&worker_, number(actor), block, first, words, count);
+    }
+
+    /// As Core::read_bytes.
+    [[nodiscard]] Reply read_bytes(Tenant actor, Handle block, std::uint32_t first, void *room,
+                                   std::size_t count)
+    {
+        return hg_worker_read_bytes(&worker_, number(actor), block, first, room, count);
+    }
+
+    /// As Core::write_bytes.
+    [[nodiscard]] Reply write_bytes(Tenant actor, Handle block, std::uint32_t first,
+                                    const void *bytes, std::size_t count)
+    {
+        return hg_worker_write_bytes(&worker_, number(actor), block, first, bytes, count);
     }
 
     [[nodiscard]] Reply deliver() { return hg_worker_deliver_now(&worker_); }

@@ -3,6 +3,7 @@
 
 #include <cstdio>
 #include <map>
+#include <string>
 #include <unordered_map>
 #include <unordered_set>
 #include <utility>
@@ -97,6 +98,10 @@ void use(Bank &bank, const BankHandle (&blocks)[3])
         CHECK(bank.write_words(ONE, ANN, block, 8190, words, 2).status == HG_DONE);
         CHECK(bank.read_words(ONE, ANN, block, 8190, room, 3).value == 2);
         CHECK(room[0] == 1 && room[1] == 2 && room[2] == 9);
+        char bytes[5] = "....";
+        CHECK(bank.write_bytes(ONE, ANN, block, 65533, "abcd", 4).value == 3);
+        CHECK(bank.read_bytes(ONE, ANN, block, 65532, bytes, 5).value == 4);
+        CHECK(std::string(bytes, 5) == std::string("\0abc.", 5));
         if (at == 2) break;
         CHECK(bank.free(OTHER, ANN, block).status == HG_PARTED);
         CHECK(bank.deliver(OTHER, core).status == HG_DONE);

@@ -42,10 +42,10 @@ static hg_bank_handle some_block(void)
     return block;
 }
 
-/* The kinds of calls: the first six name a block or a place, and the last asks for memory. */
-enum { FREE, READ, WRITE, LOOK, READ_WORDS, WRITE_WORDS, HOLDER, TENANT, ARENA, FREE_ALL, ALLOC,
-       DELIVER, TAKE, COLLECT, ABANDON, REFILL, OPEN_CORES, WORKERS, SEGMENTS, HOLDS, CHARGE, NAME,
-       GROW, KINDS };
+/* The kinds of calls: the first eight name a block or a place, and the last asks for memory. */
+enum { FREE, READ, WRITE, LOOK, READ_WORDS, WRITE_WORDS, READ_BYTES, WRITE_BYTES, HOLDER, TENANT,
+       ARENA, FREE_ALL, ALLOC, DELIVER, TAKE, COLLECT, ABANDON, REFILL, OPEN_CORES, WORKERS, SEGMENTS,
+       HOLDS, CHARGE, NAME, GROW, KINDS };
 
 /* One call of a kind, with garbage or with numbers that may be right. */
 static hg_reply any_call(hg_bank *bank, unsigned kind, char *room)
@@ -65,6 +65,10 @@ static hg_reply any_call(hg_bank *bank, unsigned kind, char *room)
         return hg_bank_read_words(bank, w, actor, block, at, words, below(WORDS + 1));
     case WRITE_WORDS:
         return hg_bank_write_words(bank, w, actor, block, at, words, below(WORDS + 1));
+    case READ_BYTES:
+        return hg_bank_read_bytes(bank, w, actor, block, at, words, below(sizeof words + 1));
+    case WRITE_BYTES:
+        return hg_bank_write_bytes(bank, w, actor, block, at, words, below(sizeof words + 1));
     case HOLDER: return hg_bank_holder(bank, core, number());
     case TENANT: return hg_bank_tenant(bank, name, below(9));
     case ARENA: return hg_bank_arena(bank, name, below(9));
@@ -98,7 +102,7 @@ static void try_closed(hg_bank bank)
         int is_right = kind == HOLDER ? is_nobody(reply, HG_CLOSED)
             : kind == TENANT || kind == ARENA
             ? is_nobody(reply, HG_CLOSED) || is_nobody(reply, HG_NO_NAME)
-            : is_plain(reply, HG_CLOSED) || (kind <= WRITE_WORDS && is_plain(reply, HG_NO_BLOCK));
+            : is_plain(reply, HG_CLOSED) || (kind <= WRITE_BYTES && is_plain(reply, HG_NO_BLOCK));
         if (!is_right) {
             failed++;
             printf(TEST ": call %u on a closed bank: %s\n", kind, hg_status_text(reply.status));

@@ -47,11 +47,13 @@ static hg_reply any_call(hg_core *core, unsigned kind, char *room)
     case 17: return hg_charge(core, w, number());
     case 18: return hg_read_words(core, w, actor, word, at, words, below(WORDS + 1));
     case 19: return hg_write_words(core, w, actor, word, at, words, below(WORDS + 1));
+    case 20: return hg_read_bytes(core, w, actor, word, at, words, below(sizeof words + 1));
+    case 21: return hg_write_bytes(core, w, actor, word, at, words, below(sizeof words + 1));
     default: return hg_free_all(core, w, actor, number());
     }
 }
 
-enum { KINDS = 21 };
+enum { KINDS = 23 };
 
 static void try_closed(hg_core core)
 {
@@ -63,7 +65,7 @@ static void try_closed(hg_core core)
     for (unsigned n = 0; n < ROUNDS / 10; n++) {
         unsigned kind = n % KINDS;
         hg_reply reply = any_call(&core, kind, room);
-        int unnamed = kind == 1 || (kind >= 5 && kind <= 7) || kind == 18 || kind == 19;
+        int unnamed = kind == 1 || (kind >= 5 && kind <= 7) || (kind >= 18 && kind <= 21);
         int is_right = kind == 16 ? is_nobody(reply, HG_CLOSED)
             : kind == 12 || kind == 13
             ? is_nobody(reply, HG_CLOSED) || is_nobody(reply, HG_NO_NAME)
@@ -205,7 +207,7 @@ static void try_open(void)
         char room[ROOM];
         unsigned kind = n % KINDS;
         if (kind == 8) continue; /* the worker of segment 0 is to keep it */
-        if (kind == 20 && below(32)) continue; /* it looks at each place that a block may have */
+        if (kind == 22 && below(32)) continue; /* it looks at each place that a block may have */
         seed ^= n;
         hg_reply reply = any_call(&core, kind, room);
         checks++;

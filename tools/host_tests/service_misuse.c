@@ -41,15 +41,17 @@ static hg_reply any_call(hg_worker *worker, unsigned kind, hg_reply *rows)
     case 12: return hg_worker_abandon(worker, number() | 1);
     case 13: return hg_worker_read_words(worker, actor, word, at, words, below(WORDS + 1));
     case 14: return hg_worker_write_words(worker, actor, word, at, words, below(WORDS + 1));
+    case 15: return hg_worker_read_bytes(worker, actor, word, at, words, below(sizeof words + 1));
+    case 16: return hg_worker_write_bytes(worker, actor, word, at, words, below(sizeof words + 1));
     default: return hg_worker_list(worker, actor, rows, below(ROWS + 1));
     }
 }
 
-enum { LISTS = 15, KINDS = 16 };
+enum { LISTS = 17, KINDS = 18 };
 
 static int is_unnamed(unsigned kind)
 {
-    return kind == 1 || (kind >= 5 && kind <= 7) || kind == 13 || kind == 14;
+    return kind == 1 || (kind >= 5 && kind <= 7) || (kind >= 13 && kind <= 16);
 }
 
 /* What isn't there, or is no worker, serves nothing. */

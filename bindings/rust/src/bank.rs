@@ -256,6 +256,56 @@ impl Bank {
         })
     }
 
+    /// Reads as many bytes of a block as the room has, from the byte of an offset on, until a word's
+    /// Read is refused. Eight lie in a word, the least first.
+    pub fn read_bytes(
+        &mut self,
+        worker: Worker,
+        actor: Tenant,
+        block: BankHandle,
+        first: u32,
+        room: &mut [u8],
+    ) -> Progress {
+        let (block, count) = (block.raw(), room.len());
+        // SAFETY: the bank is open and this call's alone; pointer and length are those of a slice
+        // that is borrowed for the call. So in the next.
+        told::progress(unsafe {
+            raw::hg_bank_read_bytes(
+                &mut self.raw,
+                worker.0,
+                actor.0,
+                block,
+                first,
+                room.as_mut_ptr(),
+                count,
+            )
+        })
+    }
+
+    /// Writes bytes into a block, from the byte of an offset on, until a word's Read or Write is
+    /// refused. A word that they fill in part is read first, so that it takes both rights.
+    pub fn write_bytes(
+        &mut self,
+        worker: Worker,
+        actor: Tenant,
+        block: BankHandle,
+        first: u32,
+        bytes: &[u8],
+    ) -> Progress {
+        let (block, count) = (block.raw(), bytes.len());
+        told::progress(unsafe {
+            raw::hg_bank_write_bytes(
+                &mut self.raw,
+                worker.0,
+                actor.0,
+                block,
+                first,
+                bytes.as_ptr(),
+                count,
+            )
+        })
+    }
+
     /// Frees all blocks of the owner in one core that the worker holds and the actor may free, and
     /// tells how many.
     pub fn free_all(
@@ -457,6 +507,10 @@ arena = [ {name = "main", segments = 1} ]
             let past = bank.read_words(worker, ALICE, block, 0, &mut room);
             assert_eq!((past.done, past.refused), (3, Some(Refusal::OutOfBlock)));
             assert_eq!(room, [0, 7, u64::from(core), 1, 1]);
+            assert_eq!(bank.write_bytes(worker, ALICE, block, 7, b"bank"), all(4));
+            let mut bytes = [9; 6];
+            assert_eq!(bank.read_bytes(worker, ALICE, block, 6, &mut bytes), all(6));
+            assert_eq!(&bytes, b"\0bank\0");
             let denied = bank.write_words(worker, BOB, block, 0, &room);
             assert_eq!(denied.refused, Some(Refusal::Denied(Rule::NotGranted)));
         }

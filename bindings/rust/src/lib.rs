@@ -258,6 +258,56 @@ impl Core {
         })
     }
 
+    /// Reads as many bytes of a block as the room has, from the byte of an offset on, until a word's
+    /// Read is refused. Eight lie in a word, the least first.
+    pub fn read_bytes(
+        &mut self,
+        worker: Worker,
+        actor: Tenant,
+        block: Handle,
+        first: u32,
+        room: &mut [u8],
+    ) -> Progress {
+        let (word, count) = (block.to_u64(), room.len());
+        // SAFETY: the core is open and this call's alone; pointer and length are those of a slice
+        // that is borrowed for the call. So in the next.
+        told::progress(unsafe {
+            raw::hg_read_bytes(
+                &mut self.raw,
+                worker.0,
+                actor.0,
+                word,
+                first,
+                room.as_mut_ptr(),
+                count,
+            )
+        })
+    }
+
+    /// Writes bytes into a block, from the byte of an offset on, until a word's Read or Write is
+    /// refused. A word that they fill in part is read first, so that it takes both rights.
+    pub fn write_bytes(
+        &mut self,
+        worker: Worker,
+        actor: Tenant,
+        block: Handle,
+        first: u32,
+        bytes: &[u8],
+    ) -> Progress {
+        let (word, count) = (block.to_u64(), bytes.len());
+        told::progress(unsafe {
+            raw::hg_write_bytes(
+                &mut self.raw,
+                worker.0,
+                actor.0,
+                word,
+                first,
+                bytes.as_ptr(),
+                count,
+            )
+        })
+    }
+
     /// Frees all blocks of the owner that the worker holds and the actor may free, and tells how
     /// many.
     pub fn free_all(
@@ -396,6 +446,13 @@ mod tests {
         let past = core.read_words(worker, alice, block, 0, &mut room);
         assert_eq!((past.done, past.refused), (3, Some(Refusal::OutOfBlock)));
         assert_eq!(room, [0, 7, 8, 1, 1]);
+        assert_eq!(core.write_bytes(worker, alice, block, 7, b"heap"), all(4));
+        let mut bytes = *b"........";
+        let past = core.read_bytes(worker, alice, block, 18, &mut bytes);
+        assert_eq!((past.done, past.refused), (6, Some(Refusal::OutOfBlock)));
+        assert_eq!(&bytes, b"\0\0\0\0\0\0..");
+        assert_eq!(core.read_bytes(worker, alice, block, 6, &mut bytes), all(8));
+        assert_eq!(&bytes, b"\0heap\0\0\0");
         let denied = core.write_words(worker, bob, block, 0, &room);
         assert_eq!(denied.refused, Some(Refusal::Denied(Rule::NotGranted)));
         core.alloc(worker, alice, Arena(0), 8).unwrap();

@@ -147,6 +147,24 @@ extern "C" {
         words: *const u64,
         count: usize,
     ) -> RawReply;
+    pub fn hg_read_bytes(
+        core: *mut RawCore,
+        worker: u32,
+        actor: u32,
+        block: u64,
+        first: u32,
+        room: *mut u8,
+        count: usize,
+    ) -> RawReply;
+    pub fn hg_write_bytes(
+        core: *mut RawCore,
+        worker: u32,
+        actor: u32,
+        block: u64,
+        first: u32,
+        bytes: *const u8,
+        count: usize,
+    ) -> RawReply;
     pub fn hg_free_all(core: *mut RawCore, worker: u32, actor: u32, owner: u32) -> RawReply;
     pub fn hg_workers(core: *const RawCore) -> RawReply;
     pub fn hg_segments(core: *const RawCore) -> RawReply;
@@ -229,6 +247,24 @@ extern "C" {
         words: *const u64,
         count: usize,
     ) -> RawReply;
+    pub fn hg_bank_read_bytes(
+        bank: *mut RawBank,
+        worker: u32,
+        actor: u32,
+        block: RawBankHandle,
+        first: u32,
+        room: *mut u8,
+        count: usize,
+    ) -> RawReply;
+    pub fn hg_bank_write_bytes(
+        bank: *mut RawBank,
+        worker: u32,
+        actor: u32,
+        block: RawBankHandle,
+        first: u32,
+        bytes: *const u8,
+        count: usize,
+    ) -> RawReply;
     pub fn hg_bank_free_all(
         bank: *mut RawBank,
         worker: u32,
@@ -306,6 +342,22 @@ extern "C" {
         block: u64,
         first: u32,
         words: *const u64,
+        count: usize,
+    ) -> RawReply;
+    pub fn hg_worker_read_bytes(
+        worker: *mut RawWorker,
+        actor: u32,
+        block: u64,
+        first: u32,
+        room: *mut u8,
+        count: usize,
+    ) -> RawReply;
+    pub fn hg_worker_write_bytes(
+        worker: *mut RawWorker,
+        actor: u32,
+        block: u64,
+        first: u32,
+        bytes: *const u8,
         count: usize,
     ) -> RawReply;
     pub fn hg_worker_list(

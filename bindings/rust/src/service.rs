@@ -306,6 +306,45 @@ impl ServiceWorker {
         })
     }
 
+    /// Reads as many bytes of a block as the room has, from the byte of an offset on, until a word's
+    /// Read is refused. Eight lie in a word, the least first.
+    pub fn read_bytes(
+        &mut self,
+        actor: Tenant,
+        block: Handle,
+        first: u32,
+        room: &mut [u8],
+    ) -> Progress {
+        let (word, count) = (block.to_u64(), room.len());
+        // SAFETY: the worker is open and this call's alone; pointer and length are those of a slice
+        // that is borrowed for the call. So in the next.
+        told::progress(unsafe {
+            raw::hg_worker_read_bytes(
+                &mut self.raw,
+                actor.0,
+                word,
+                first,
+                room.as_mut_ptr(),
+                count,
+            )
+        })
+    }
+
+    /// Writes bytes into a block, from the byte of an offset on, until a word's Read or Write is
+    /// refused. A word that they fill in part is read first, so that it takes both rights.
+    pub fn write_bytes(
+        &mut self,
+        actor: Tenant,
+        block: Handle,
+        first: u32,
+        bytes: &[u8],
+    ) -> Progress {
+        let (word, count) = (block.to_u64(), bytes.len());
+        told::progress(unsafe {
+            raw::hg_worker_write_bytes(&mut self.raw, actor.0, word, first, bytes.as_ptr(), count)
+        })
+    }
+
     /// Looks at the block that stands at a place of a segment that it holds.
     pub fn look(&mut self, actor: Tenant, place: Place) -> Result<Row, Refusal> {
         let call = |worker| unsafe { raw::hg_worker_look(worker, actor.0, place.number()) };
@@ -504,6 +543,10 @@ mod tests {
         let past = one.read_words(alice, block, 0, &mut room);
         assert_eq!((past.done, past.refused), (3, Some(Refusal::OutOfBlock)));
         assert_eq!(room, [0, 7, 8, 0]);
+        assert_eq!(one.write_bytes(alice, block, 7, b"work"), all(4));
+        let mut bytes = [9; 6];
+        assert_eq!(one.read_bytes(alice, block, 6, &mut bytes), all(6));
+        assert_eq!(&bytes, b"\0work\0");
         let denied = two.write_words(alice, block, 0, &room);
         assert_eq!((denied.done, denied.refused), (0, Some(Refusal::Elsewhere)));
         assert_eq!(two.free(alice, block), Ok(Freed::InHand));

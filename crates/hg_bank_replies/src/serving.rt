@@ -13,7 +13,7 @@ use hg_reply::{Reply, look_reply, read_reply, reply_of, write_reply};
 use std::alloc::Global;
 
 /// The worker of a number, if the bank's policy has one.
-pub(crate) fn worker_of(bank: &Bank, number: u32) -> Option<u8>
+pub fn worker_of(bank: &Bank, number: u32) -> Option<u8>
     ensures { MatchOption result (bank.now.policy.workers ≤ number)
         (λ worker. (number ≡ worker) × (worker < bank.now.policy.workers)) }
 {

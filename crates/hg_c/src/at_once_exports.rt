@@ -2,9 +2,11 @@
 
 ghost use Rattle.std.specs.Prelude.{◌≡◌};
 ghost use Rattle.hg_ffi.specs.AtOnce.{DoesAtOnce, DoesOn, ReadsInto, Unloads, WritesFrom};
+ghost use Rattle.hg_ffi.specs.Bytes.{ReadsBytesInto, WritesBytesFrom};
 ghost use Rattle.hg_reply.specs.Numbers.{actor_of, byte_of};
 
 use hg_ffi::at_once::{serve_free_all, serve_read_words, serve_write_words};
+use hg_ffi::bytes::{serve_read_bytes, serve_write_bytes};
 use hg_ffi::host_core::HostCore;
 use hg_place::Handle;
 use hg_reply::status::NO_BLOCK;
@@ -52,6 +54,51 @@ pub extern "C" fn hg_write_words(
     let actor = actor_of(actor);
     match Handle::from_u64(word) {
         Some(handle) => serve_write_words(alloc, host, worker, actor, handle, first, words),
+        None => Reply::plain(NO_BLOCK),
+    }
+}
+
+/// Reads as many bytes of a block as the room has, from the byte of an offset on, until a word's Read
+/// is refused. The value is how many were read.
+#[unsafe(no_mangle)]
+pub extern "C" fn hg_read_bytes(
+    alloc: Global,
+    host: &mut HostCore,
+    worker: u32,
+    actor: u32,
+    word: u64,
+    first: u32,
+    room: &mut [u8],
+) -> Reply
+    ensures { DoesOn host.old worker word
+        (ReadsBytesInto worker (actor_of actor) first room.old room.new result)
+        (room.new ≡ room.old) result host.new }
+{
+    let actor = actor_of(actor);
+    match Handle::from_u64(word) {
+        Some(handle) => serve_read_bytes(alloc, host, worker, actor, handle, first, room),
+        None => Reply::plain(NO_BLOCK),
+    }
+}
+
+/// Writes bytes into a block, from the byte of an offset on, until a word's Read or Write is refused.
+/// The value is how many were written.
+#[unsafe(no_mangle)]
+pub extern "C" fn hg_write_bytes(
+    alloc: Global,
+    host: &mut HostCore,
+    worker: u32,
+    actor: u32,
+    word: u64,
+    first: u32,
+    bytes: &[u8],
+) -> Reply
+    ensures { DoesOn host.old worker word
+        (WritesBytesFrom worker (actor_of actor) first bytes.now result) (Unit {0}) result host.new }
+{
+    let actor = actor_of(actor);
+    match Handle::from_u64(word) {
+        Some(handle) => serve_write_bytes(alloc, host, worker, actor, handle, first, bytes),
         None => Reply::plain(NO_BLOCK),
     }
 }

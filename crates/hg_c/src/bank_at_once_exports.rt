@@ -5,10 +5,12 @@ ghost use Rattle.hg_bank_replies.specs.AtOnce.{ReadsInto, Unloads, WritesFrom};
 ghost use Rattle.hg_bank_replies.specs.Blocks.{core_of};
 ghost use Rattle.hg_reply.specs.Numbers.{actor_of, byte_of};
 ghost use Rattle.hg_ffi.specs.BankAtOnce.{DoesAtOnce, DoesOn};
+ghost use Rattle.hg_ffi.specs.BankBytes.{ReadsBytesInto, WritesBytesFrom};
 
 use hg_bank::BankHandle;
 use hg_bank_replies::{BankBlock, core_of};
 use hg_ffi::bank_at_once::{serve_free_all, serve_read_words, serve_write_words};
+use hg_ffi::bank_bytes::{serve_read_bytes, serve_write_bytes};
 use hg_ffi::host_bank::HostBank;
 use hg_place::Handle;
 use hg_reply::status::NO_BLOCK;
@@ -74,6 +76,70 @@ pub extern "C" fn hg_bank_write_words(
             BankHandle { core, handle },
             first,
             words,
+        ),
+        None => Reply::plain(NO_BLOCK),
+    }
+}
+
+/// Reads as many bytes of a block as the room has, from the byte of an offset on, until a word's Read
+/// is refused. The value is how many were read.
+#[unsafe(no_mangle)]
+pub extern "C" fn hg_bank_read_bytes(
+    alloc: Global,
+    host: &mut HostBank,
+    worker: u32,
+    actor: u32,
+    block: BankBlock,
+    first: u32,
+    room: &mut [u8],
+) -> Reply
+    ensures { DoesOn host.old worker block.handle
+        (ReadsBytesInto worker (actor_of actor) (core_of block.core) first room.old room.new result)
+        (room.new ≡ room.old) result host.new }
+{
+    let actor = actor_of(actor);
+    let core = core_of(block.core);
+    match Handle::from_u64(block.handle) {
+        Some(handle) => serve_read_bytes(
+            alloc,
+            host,
+            worker,
+            actor,
+            BankHandle { core, handle },
+            first,
+            room,
+        ),
+        None => Reply::plain(NO_BLOCK),
+    }
+}
+
+/// Writes bytes into a block, from the byte of an offset on, until a word's Read or Write is refused.
+/// The value is how many were written.
+#[unsafe(no_mangle)]
+pub extern "C" fn hg_bank_write_bytes(
+    alloc: Global,
+    host: &mut HostBank,
+    worker: u32,
+    actor: u32,
+    block: BankBlock,
+    first: u32,
+    bytes: &[u8],
+) -> Reply
+    ensures { DoesOn host.old worker block.handle
+        (WritesBytesFrom worker (actor_of actor) (core_of block.core) first bytes.now result)
+        (Unit {0}) result host.new }
+{
+    let actor = actor_of(actor);
+    let core = core_of(block.core);
+    match Handle::from_u64(block.handle) {
+        Some(handle) => serve_write_bytes(
+            alloc,
+            host,
+            worker,
+            actor,
+            BankHandle { core, handle },
+            first,
+            bytes,
         ),
         None => Reply::plain(NO_BLOCK),
     }

@@ -8,6 +8,7 @@ ghost use Rattle.hg_reply.specs.Naming.{unnamed};
 ghost use Rattle.hg_reply.specs.Numbers.{actor_of, byte_of};
 ghost use Rattle.hg_reply.specs.Replies.{no_block};
 ghost use Rattle.hg_service_replies.specs.declared.asking.PartQuestion.TheVariants as question;
+ghost use Rattle.hg_ffi.specs.PartBytes.{ReadsPart, WritesPart};
 ghost use Rattle.hg_ffi.specs.PartOpening.{Becomes, HandsOut, Opens};
 ghost use Rattle.hg_ffi.specs.Parts.{Finds, GivesUpService, GivesUpWorker, IsSame, Leaves, Lists};
 ghost use Rattle.hg_ffi.specs.Parts.{OnWord, ReadsWords, Serves, ServesAt, ServesOn, Tells};
@@ -15,6 +16,7 @@ ghost use Rattle.hg_ffi.specs.Parts.{WritesWords};
 
 use hg_ffi::host_core::HostCore;
 use hg_ffi::host_part::HostPart;
+use hg_ffi::part_bytes::{read_bytes_of_part, write_bytes_of_part};
 use hg_ffi::part_opening::{close_service, hand_worker, open_service};
 use hg_ffi::part_serving::{
     ask_part, drop_service_part, drop_worker_part, find_in_part, leave_part, list_part, serve_part,
@@ -307,6 +309,51 @@ pub extern "C" fn hg_worker_write_words(
     let actor = actor_of(actor);
     match Handle::from_u64(word) {
         Some(handle) => write_part(alloc, host, actor, handle, first, words),
+        None => Reply::plain(NO_BLOCK),
+    }
+}
+
+/// It reads as many bytes of a block as the room has, from the byte of an offset on, until a word's
+/// Read is refused. The value is how many were read.
+#[unsafe(no_mangle)]
+pub extern "C" fn hg_worker_read_bytes(
+    alloc: Global,
+    host: &mut HostPart,
+    actor: u32,
+    word: u64,
+    first: u32,
+    room: &mut [u8],
+) -> Reply
+    ensures { OnWord word
+        (λ handle. ReadsPart host.old (actor_of actor) handle first room.old result
+        host.new room.new)
+        ((result ≡ no_block) × IsSame host.old host.new × (room.new ≡ room.old)) }
+{
+    let actor = actor_of(actor);
+    match Handle::from_u64(word) {
+        Some(handle) => read_bytes_of_part(alloc, host, actor, handle, first, room),
+        None => Reply::plain(NO_BLOCK),
+    }
+}
+
+/// It writes bytes into a block, from the byte of an offset on, until a word's Read or Write is
+/// refused. The value is how many were written.
+#[unsafe(no_mangle)]
+pub extern "C" fn hg_worker_write_bytes(
+    alloc: Global,
+    host: &mut HostPart,
+    actor: u32,
+    word: u64,
+    first: u32,
+    bytes: &[u8],
+) -> Reply
+    ensures { OnWord word
+        (λ handle. WritesPart host.old (actor_of actor) handle first bytes.now result host.new)
+        ((result ≡ no_block) × IsSame host.old host.new) }
+{
+    let actor = actor_of(actor);
+    match Handle::from_u64(word) {
+        Some(handle) => write_bytes_of_part(alloc, host, actor, handle, first, bytes),
         None => Reply::plain(NO_BLOCK),
     }
 }

@@ -10,3 +10,6 @@ pub mod BankOpening
 pub mod BankAtOnce
 pub mod Parts
 pub mod PartOpening
+pub mod Bytes
+pub mod BankBytes
+pub mod PartBytes

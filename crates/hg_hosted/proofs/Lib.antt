@@ -3,3 +3,4 @@ pub mod Named
 pub mod Idle
 pub mod Undone
 pub mod Coming
+pub mod Reaching

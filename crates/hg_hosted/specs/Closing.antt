@@ -7,6 +7,7 @@ use Rattle.hg_machine.specs.Policy.{Policy}
 use Rattle.hg_hosted.specs.declared.closing.HostedUnclosed.{HostedUnclosed}
 use Rattle.hg_hosted.specs.declared.closing.HostedUnclosed.TheVariants as unclosed
 use Rattle.hg_hosted.specs.declared.service.HostedService.{HostedService}
+use Rattle.hg_hosted.specs.Places.{HaveSamePlaces}
 use Rattle.hg_hosted.specs.Shared.{table_of_shared}
 
 -- whether a worker is known to have left
@@ -35,10 +36,12 @@ GoesOnFor old (fault.StillOut worker) new = IsFirstOut new.policy new.came.items
 GoesOnFor old (fault.StillHeld segment) new =
     HaveCome new.policy new.came.items × (segment ≢ 0 → segment < length new.policy.segments)
 
--- it goes on for this reason, with its policy and table, and still knows of each that it knew of
+-- it goes on for this reason, with its policy, table and places, and still knows of each that it knew
+-- of
 pub record GoesOn (old : HostedService) (why : CloseFault) (new : HostedService) : Type 0 where
   pub policy : new.policy ≡ old.policy
   pub table : table_of_shared new.shared ≡ table_of_shared old.shared
+  pub places : HaveSamePlaces old.shared new.shared
   pub came : StayCome old.came.items new.came.items
   pub reason : GoesOnFor old why new
 

@@ -4,9 +4,11 @@ pub mod Behind
 pub mod Parking
 pub mod Parts
 pub mod Shared
+pub mod Places
 pub mod New
 pub mod Leaving
 pub mod Serving
 pub mod Closing
 pub mod Steps
 pub mod Waiting
+pub mod Reaching

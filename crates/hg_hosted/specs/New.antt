@@ -7,7 +7,9 @@ use Rattle.hg_worker.specs.States.{IsNamed}
 use Rattle.hg_worker.specs.declared.state.WorkerState.{WorkerState}
 use Rattle.hg_hosted.specs.declared.service.HostedService.{HostedService}
 use Rattle.hg_hosted.specs.declared.worker.HostedWorker.{HostedWorker}
+use Rattle.hg_hosted.specs.Places.{HaveSamePlaces}
 use Rattle.hg_hosted.specs.Shared.{table_of_shared}
+use Rattle.hg_hosted.specs.declared.shared.Shared.{Shared}
 
 -- of this number, it holds nothing, has nothing in hand, and its seat has seen and ended nothing
 pub record IsNewState (number : ℕ) (state : WorkerState) : Type 0 where
@@ -34,9 +36,17 @@ pub record AreNewHosted (policy : Policy) (table : TableId) (workers : List Host
       (k : ℕ) (worker : HostedWorker) → slice_get workers k ≡ Some worker
       → IsWorkerOf policy table worker
 
--- a service of this policy, of which nobody is known to have left, and its new workers
+-- each of these workers has ways to the same places
+abbrev pub ShareAll : Shared → List HostedWorker → Type 0
+ShareAll shared workers =
+    (k : ℕ) (worker : HostedWorker) → slice_get workers k ≡ Some worker
+    → HaveSamePlaces shared worker.shared
+
+-- a service of this policy, of which nobody is known to have left, and its new workers, which share
+-- what it does
 pub record IsOpened (policy : Policy) (service : HostedService) (workers : List HostedWorker)
     : Type 0 where
   pub serves : service.policy ≡ policy
   pub out : service.came.items ≡ replicate policy.workers false
   pub new : AreNewHosted policy (table_of_shared service.shared) workers
+  pub places : ShareAll service.shared workers

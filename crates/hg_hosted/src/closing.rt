@@ -128,6 +128,7 @@ fn gather(left: &mut Parked<Left>, came: &mut Vec<bool>)
     ensures known { (view left.new.pass).known ≡ (view left.old.pass).known }
     ensures kept { FitsKept HasLeft (view left.new.pass).known left.new.kept }
     ensures came { StayCome came.old.items came.new.items }
+    ensures place { left.new.pass.table_id ≡ left.old.pass.table_id }
 {
     for _ in 0..came.len() + 1 {
         let Some(one) = left.take() else {

@@ -5,6 +5,7 @@ ghost use Rattle.crossbeam_queue.specs.Passes.{view};
 ghost use Rattle.hg_table.specs.Named.{table_of_worker};
 ghost use Rattle.hg_hosted.specs.Leaving.{IsIdle};
 ghost use Rattle.hg_hosted.specs.Parking.{KnowsName};
+ghost use Rattle.hg_hosted.specs.Places.{HaveSamePlaces};
 ghost use Rattle.hg_hosted.specs.Shared.{AreHome, AreOfService, IsSettled};
 
 use crate::parked::Parked;
@@ -22,6 +23,7 @@ impl HostedWorker {
     pub fn leave(self) -> Result<(), HostedWorker>
         ensures idle { OnOk result ((own : _) → self.state ≡ Some own → IsIdle own.value) }
         ensures back { IfErr result (λ back. back.state ≡ self.state) }
+        ensures places { IfErr result (λ back. HaveSamePlaces self.shared back.shared) }
     {
         let HostedWorker { state, shared } = self;
         let mut shared = shared;
@@ -43,6 +45,7 @@ fn goes(state: Box<WorkerState, Global>, shared: Shared) -> Result<(), HostedWor
     requires home { AreHome shared }
     requires settled { IsSettled shared }
     ensures back { IfErr result (λ back. back.state ≡ Some state) }
+    ensures places { IfErr result (λ back. HaveSamePlaces shared back.shared) }
 {
     let mut shared = shared;
     match goes_to(state, &mut shared.left) {
@@ -63,6 +66,7 @@ fn goes_to(
     ensures kept { left.new.kept ≡ None }
     ensures home { (view left.old.pass).out ≡ false → (view left.new.pass).out ≡ false }
     ensures back { IfSome result (λ back. back ≡ state) }
+    ensures place { left.new.pass.table_id ≡ left.old.pass.table_id }
 {
     left.put(Left { state: Some(state) });
     left.kept.take()?.state

@@ -4,8 +4,9 @@ ghost use Rattle.std.specs.Prelude.{◌≡◌, length, Some, IfOk};
 ghost use Rattle.crossbeam_queue.specs.Passes.{view};
 ghost use Rattle.hg_table.specs.Named.{table_of};
 ghost use Rattle.hg_service.specs.New.{AreNew};
-ghost use Rattle.hg_hosted.specs.New.{AreNewHosted, IsOpened};
+ghost use Rattle.hg_hosted.specs.New.{AreNewHosted, IsOpened, ShareAll};
 ghost use Rattle.hg_hosted.specs.Parking.{IsHome};
+ghost use Rattle.hg_hosted.specs.Places.{HaveSamePlaces};
 ghost use Rattle.hg_hosted.specs.Shared.{AreListsHome, AreOfService, AreParked};
 
 use crate::parked::Parked;
@@ -128,6 +129,8 @@ fn hosted<N: ServiceName>(
     ensures of { AreOfService N.policy N.table shared.new }
     ensures home { AreParked shared.new }
     ensures new { IfOk result (λ hosted. AreNewHosted N.policy N.table hosted.items) }
+    ensures own_places { HaveSamePlaces shared.old shared.new }
+    ensures places { IfOk result (λ hosted. ShareAll shared.old hosted.items) }
 {
     let mut hosted = Vec::with_capacity(alloc, workers.len())?;
     for worker in workers {
@@ -146,6 +149,8 @@ fn hosted_one<N: ServiceName>(
     ensures of { AreOfService N.policy N.table shared.new }
     ensures home { AreParked shared.new }
     ensures own { IfOk result (λ hosted. hosted.state ≡ Some worker.inner) }
+    ensures own_places { HaveSamePlaces shared.old shared.new }
+    ensures places { IfOk result (λ hosted. HaveSamePlaces shared.old hosted.shared) }
 {
     let shared = shared.share(alloc)?;
     Ok(HostedWorker::made(worker.without_name(), shared))

@@ -52,8 +52,11 @@ impl<T: OfService + Drop> Parked<T> {
     pub(crate) fn share(&mut self) -> Result<Parked<T>, AllocError>
         ensures own { view self.new.pass ≡ view self.old.pass }
         ensures own_kept { self.new.kept ≡ self.old.kept }
+        ensures own_place { self.new.pass.table_id ≡ self.old.pass.table_id }
         ensures other { IfOk result (λ other. view other.pass ≡ way (view self.old.pass).known false) }
         ensures other_kept { IfOk result (λ other. other.kept ≡ None) }
+        ensures other_place { IfOk result (λ other. other.pass.table_id
+            ≡ self.old.pass.table_id) }
     {
         let place = Arc::try_clone(&self.place)?;
         let pass = self.place.another::<Twins>(&mut self.pass);
@@ -71,6 +74,7 @@ impl<T: OfService + Drop> Parked<T> {
         ensures kept { self.new.kept ≡ None }
         ensures part { IfSome result (FitsKnown T.of_service (view self.old.pass).known) }
         ensures out { IsHome (view self.old.pass) self.old.kept → IsHome (view self.new.pass) result }
+        ensures place { self.new.pass.table_id ≡ self.old.pass.table_id }
     {
         if let Some(part) = self.kept.take() {
             return Some(part);
@@ -87,6 +91,7 @@ impl<T: OfService + Drop> Parked<T> {
         ensures kept { IfSome self.new.kept (λ kept. (kept ≡ part)
             × ((view self.new.pass).out ≡ (view self.old.pass).out)) }
         ensures home { IfNone self.new.kept ((view self.new.pass).out ≡ false) }
+        ensures place { self.new.pass.table_id ≡ self.old.pass.table_id }
     {
         if let Err(part) = self.place.try_push_as::<Comes>(&mut self.pass, part) {
             self.kept = Some(part);
@@ -101,6 +106,7 @@ impl<T: OfService + Drop> Parked<T> {
         ensures home { IsHome (view self.old.pass) self.old.kept
             → IsHome (view self.new.pass) self.new.kept }
         ensures settled { result ≡ is_none self.new.kept }
+        ensures place { self.new.pass.table_id ≡ self.old.pass.table_id }
     {
         if let Some(part) = self.kept.take() {
             self.put(part);

@@ -1,8 +1,9 @@
 //! What the workers of a service share.
 
-ghost use Rattle.std.specs.Prelude.{◌≡◌, length, IfOk, IsTrue};
+ghost use Rattle.std.specs.Prelude.{◌≡◌, length, map, IfOk, IsFalse, IsTrue};
 ghost use Rattle.atomic_table.specs.Seated.{TableId};
 ghost use Rattle.hg_machine.specs.Policy.{Policy};
+ghost use Rattle.hg_hosted.specs.Places.{HaveSamePlaces, list_place};
 ghost use Rattle.hg_hosted.specs.Shared.{AreHome, AreListsHome, AreListsSettled, AreOfService};
 ghost use Rattle.hg_hosted.specs.Shared.{AreParked, IsSettled};
 
@@ -30,6 +31,8 @@ impl Shared {
             → AreOfService policy table self.old → AreOfService policy table other) }
         ensures own_home { AreParked self.old → AreParked self.new }
         ensures home { IfOk result AreHome }
+        ensures own_places { HaveSamePlaces self.old self.new }
+        ensures places { IfOk result (HaveSamePlaces self.old) }
     {
         let lists = shared_lists(alloc, &mut self.lists)?;
         let segments = self.segments.share()?;
@@ -48,6 +51,8 @@ impl Shared {
             → AreOfService policy table self.new }
         ensures home { AreHome self.old → AreHome self.new }
         ensures settled { IsTrue result → IsSettled self.new }
+        ensures unsettled { IsFalse result → ¬ (IsSettled self.new) }
+        ensures places { HaveSamePlaces self.old self.new }
     {
         let segments = self.segments.settle();
         let left = self.left.settle();
@@ -60,6 +65,8 @@ fn settle_lists(lists: &mut Vec<Parked<Sent>>) -> bool
     ensures all { length lists.new.items ≡ length lists.old.items }
     ensures home { AreListsHome lists.old.items → AreListsHome lists.new.items }
     ensures settled { IsTrue result → AreListsSettled lists.new.items }
+    ensures unsettled { IsFalse result → ¬ (AreListsSettled lists.new.items) }
+    ensures places { map list_place lists.new.items ≡ map list_place lists.old.items }
 {
     for at in 0..lists.len() {
         let _ = lists[at].settle();
@@ -69,7 +76,8 @@ fn settle_lists(lists: &mut Vec<Parked<Sent>>) -> bool
 
 /// Whether this caller keeps none of the lists.
 fn are_settled(lists: &[Parked<Sent>]) -> bool
-    ensures { IsTrue result → AreListsSettled lists.now }
+    ensures settled { IsTrue result → AreListsSettled lists.now }
+    ensures unsettled { IsFalse result → ¬ (AreListsSettled lists.now) }
 {
     for list in lists {
         if list.kept.is_some() {
@@ -87,6 +95,9 @@ fn shared_lists(
     ensures own_home { AreListsHome lists.old.items → AreListsHome lists.new.items }
     ensures other { IfOk result (λ others. length others.items ≡ length lists.old.items) }
     ensures home { IfOk result (λ others. AreListsHome others.items) }
+    ensures own_places { map list_place lists.new.items ≡ map list_place lists.old.items }
+    ensures places { IfOk result (λ others. map list_place others.items
+        ≡ map list_place lists.old.items) }
 {
     let mut others = Vec::with_capacity(alloc, lists.len())?;
     for at in 0..lists.len() {

@@ -4,9 +4,11 @@ ghost use Rattle.std.specs.Prelude.{◌≡◌, MatchOption};
 ghost use Rattle.hg_worker.specs.States.{IsNamed};
 ghost use Rattle.hg_machine.specs.declared.Event.TheVariants as event;
 ghost use Rattle.hg_hosted.specs.Behind.{Sends, TakesIn, TakesOne, GivesUp};
+ghost use Rattle.hg_hosted.specs.Places.{HaveSamePlaces};
+ghost use Rattle.hg_hosted.specs.Reaching.{Reaches, Touches};
 ghost use Rattle.hg_hosted.specs.Serving.{Serves};
 ghost use Rattle.hg_hosted.specs.Shared.{AreHome, AreOfService};
-ghost use Rattle.hg_hosted.specs.Waiting.{Waits};
+ghost use Rattle.hg_hosted.specs.Waiting.{NeedsShared, Waits};
 
 use crate::parts::Segments;
 use crate::shared::Shared;
@@ -28,6 +30,9 @@ fn deliver_by<N: ServiceName>(
     ensures named { IsNamed N.policy N.table result.1.value }
     ensures of { AreOfService N.policy N.table shared.new }
     ensures home { AreHome shared.new }
+    ensures alone { ¬ (NeedsShared event.Deliver state.value) → shared.new ≡ shared.old }
+    ensures touched { Touches event.Deliver state.value shared.old shared.new }
+    ensures places { HaveSamePlaces shared.old shared.new }
 {
     let mut worker = Worker::<N>::with_name(state);
     let Some(place) = worker.hand() else {
@@ -55,6 +60,9 @@ fn take_by<N: ServiceName>(
     ensures named { IsNamed N.policy N.table result.1.value }
     ensures of { AreOfService N.policy N.table shared.new }
     ensures home { AreHome shared.new }
+    ensures alone { ¬ (NeedsShared (event.Take segment) state.value) → shared.new ≡ shared.old }
+    ensures touched { Touches (event.Take segment) state.value shared.old shared.new }
+    ensures places { HaveSamePlaces shared.old shared.new }
 {
     let mut worker = Worker::<N>::with_name(state);
     if !worker.holds(segment) {
@@ -82,6 +90,9 @@ fn refill_by<N: ServiceName>(
     ensures named { IsNamed N.policy N.table result.1.value }
     ensures of { AreOfService N.policy N.table shared.new }
     ensures home { AreHome shared.new }
+    ensures alone { ¬ (NeedsShared (event.Refill arena) state.value) → shared.new ≡ shared.old }
+    ensures touched { Touches (event.Refill arena) state.value shared.old shared.new }
+    ensures places { HaveSamePlaces shared.old shared.new }
 {
     let mut worker = Worker::<N>::with_name(state);
     let Some(segments) = shared.segments.take() else {
@@ -108,6 +119,9 @@ fn abandon_by<N: ServiceName>(
     ensures named { IsNamed N.policy N.table result.1.value }
     ensures of { AreOfService N.policy N.table shared.new }
     ensures home { AreHome shared.new }
+    ensures alone { ¬ (NeedsShared (event.Abandon segment) state.value) → shared.new ≡ shared.old }
+    ensures touched { Touches (event.Abandon segment) state.value shared.old shared.new }
+    ensures places { HaveSamePlaces shared.old shared.new }
 {
     let mut worker = Worker::<N>::with_name(state);
     if !worker.holds(segment) {
@@ -129,8 +143,9 @@ impl HostedWorker {
     /// `Busy` where the list has it already, and then it stays in the hand. `None`, and nothing is
     /// done, where another call has the list.
     pub fn deliver(&mut self) -> Option<Answer>
-        ensures { MatchOption result (Serves (Waits event.Deliver) self.old self.new)
+        ensures served { MatchOption result (Serves (Waits event.Deliver) self.old self.new)
             (λ answer. Serves (Sends answer) self.old self.new) }
+        ensures reach { Reaches event.Deliver self.old self.new }
     {
         let Some(state) = self.state.take() else {
             unreachable!()
@@ -143,8 +158,9 @@ impl HostedWorker {
     /// Takes in what was sent to a segment that the worker holds, else `NotHeld`. `None`, and
     /// nothing is done, where another call has the list.
     pub fn take(&mut self, segment: u8) -> Option<Answer>
-        ensures { MatchOption result (Serves (Waits (event.Take segment)) self.old self.new)
+        ensures served { MatchOption result (Serves (Waits (event.Take segment)) self.old self.new)
             (λ answer. Serves (TakesIn segment answer) self.old self.new) }
+        ensures reach { Reaches (event.Take segment) self.old self.new }
     {
         let Some(state) = self.state.take() else {
             unreachable!()
@@ -157,8 +173,9 @@ impl HostedWorker {
     /// Takes the oldest orphan of the arena, or else its lowest fresh segment; `NoSegment` where
     /// there is neither. `None`, and nothing is done, where another call has the segments.
     pub fn refill(&mut self, arena: u8) -> Option<Answer>
-        ensures { MatchOption result (Serves (Waits (event.Refill arena)) self.old self.new)
+        ensures served { MatchOption result (Serves (Waits (event.Refill arena)) self.old self.new)
             (λ answer. Serves (TakesOne arena answer) self.old self.new) }
+        ensures reach { Reaches (event.Refill arena) self.old self.new }
     {
         let Some(state) = self.state.take() else {
             unreachable!()
@@ -171,8 +188,9 @@ impl HostedWorker {
     /// Gives up a segment that the worker holds, with the blocks that live there, else `NotHeld`.
     /// `None`, and nothing is done, where another call has the segments.
     pub fn abandon(&mut self, segment: u8) -> Option<Answer>
-        ensures { MatchOption result (Serves (Waits (event.Abandon segment)) self.old self.new)
+        ensures served { MatchOption result (Serves (Waits (event.Abandon segment)) self.old self.new)
             (λ answer. Serves (GivesUp segment answer) self.old self.new) }
+        ensures reach { Reaches (event.Abandon segment) self.old self.new }
     {
         let Some(state) = self.state.take() else {
             unreachable!()

@@ -1,6 +1,7 @@
 //! One event of a worker.
 
 ghost use Rattle.std.specs.Prelude.{MatchOption};
+ghost use Rattle.hg_hosted.specs.Reaching.{Reaches};
 ghost use Rattle.hg_hosted.specs.Serving.{Serves};
 ghost use Rattle.hg_hosted.specs.Steps.{Does};
 ghost use Rattle.hg_hosted.specs.Waiting.{Waits};
@@ -13,8 +14,9 @@ impl HostedWorker {
     /// what it needs; that may be so of a Deliver with a block in hand, a Take or an Abandon of a
     /// segment that the worker holds, and a Refill.
     pub fn step(&mut self, event: Event) -> Option<Answer>
-        ensures { MatchOption result (Serves (Waits event) self.old self.new)
+        ensures served { MatchOption result (Serves (Waits event) self.old self.new)
             (λ answer. Serves (Does event answer) self.old self.new) }
+        ensures reach { Reaches event self.old self.new }
     {
         match event {
             Event::Alloc {

@@ -1,14 +1,17 @@
 -- The workers that a service keeps, as they come, go and stay.
-use Rattle.std.proofs.Common.{◌≡◌, ◌<◌, ℕ, zero, suc, List, [], ◌∷◌, map, Option, Some, None, MatchOption, length, get_or, slice_get, slice_set, refl, sym, ap, subst, ◌∙◌}
+use Rattle.std.proofs.Common.{◌≡◌, ◌<◌, ℕ, zero, suc, List, [], ◌∷◌, map, Option, Some, None, MatchOption, get_or, slice_get, slice_set, refl, sym, ap, subst, ◌∙◌}
 use Rattle.std.proofs.lemmas.Option.{none-some, same_Some, slice_get-get_or, slice_get_within}
 use Rattle.atomic_table.specs.Seated.{TableId}
 use Rattle.hg_machine.specs.Policy.{Policy}
 use Rattle.hg_worker.specs.States.{IsNamed}
+use Rattle.hg_hosted.proofs.Reaching.{places_back, places_then}
 use Rattle.hg_hosted.specs.New.{IsOpened}
+use Rattle.hg_hosted.specs.Places.{HaveSamePlaces}
 use Rattle.hg_hosted.specs.Shared.{table_of_shared}
 use Rattle.hg_hosted.specs.declared.service.HostedService.{HostedService}
 use Rattle.hg_hosted.specs.declared.worker.HostedWorker.{HostedWorker}
 use Rattle.hg_service_replies.specs.Closing.{AreLetLeave, PlaceLeaves}
+use Rattle.hg_service_replies.specs.Leaving.{IsBack}
 use Rattle.hg_service_replies.specs.Owned.{AreItsWorkers, IsItsWorker}
 use Rattle.hg_service_replies.specs.Taking.{IsNone, IsTaken}
 
@@ -22,6 +25,7 @@ pub its_new : {policy : Policy} (service : HostedService) (workers : List Hosted
 its_new service workers opened number worker there = let at = some_of_map workers number worker there in record {
   number_is = λ own is. (opened.new.each number worker at own is).number_is;
   of = λ own is. subst (λ (p : Policy). IsNamed p (table_of_shared service.shared) own.value) (sym opened.serves) (opened.new.named number worker at own is);
+  places = opened.places number worker at;
 }
 
 of_set : {X : Type 0} (xs : List (Option X)) (i k : ℕ) (x : X) → slice_get (slice_set xs i None) k ≡ Some (Some x) → slice_get xs k ≡ Some (Some x)
@@ -42,10 +46,11 @@ pub its_taken :
 its_taken service old new number None none its = subst (AreItsWorkers service) (sym none.same) its
 its_taken service old new number (Some worker) taken its = subst (AreItsWorkers service) (sym taken.others) (its_others service old number its)
 
-same_its : (service : HostedService) (number : ℕ) (worker back : HostedWorker) → back.state ≡ worker.state → IsItsWorker service number worker → IsItsWorker service number back
+same_its : (service : HostedService) (number : ℕ) (worker back : HostedWorker) → IsBack worker back → IsItsWorker service number worker → IsItsWorker service number back
 same_its service number worker back same its = record {
-  number_is = λ own at. its.number_is own (sym same ∙ at);
-  of = λ own at. its.of own (sym same ∙ at);
+  number_is = λ own at. its.number_is own (sym same.state ∙ at);
+  of = λ own at. its.of own (sym same.state ∙ at);
+  places = places_then its.places same.places;
 }
 
 stayed_its : (service : HostedService) (number : ℕ) (was : Option HostedWorker) (back : HostedWorker) → ((worker : HostedWorker) → was ≡ Some worker → IsItsWorker service number worker) → PlaceLeaves was (Some back) → IsItsWorker service number back
@@ -61,9 +66,10 @@ its_left service old new leave its number back there =
     stayed_its service number was back (λ worker is. its number worker (at ∙ ap Some is)) (leave.each number was (Some back) at there)
 
 -- and those of a service that goes on
-pub its_still : (old new : HostedService) (workers : List (Option HostedWorker)) → new.policy ≡ old.policy → table_of_shared new.shared ≡ table_of_shared old.shared → AreItsWorkers old workers → AreItsWorkers new workers
-its_still old new workers policy table its number worker there = let it = its number worker there in record {
+pub its_still : (old new : HostedService) (workers : List (Option HostedWorker)) → new.policy ≡ old.policy → table_of_shared new.shared ≡ table_of_shared old.shared → HaveSamePlaces old.shared new.shared → AreItsWorkers old workers → AreItsWorkers new workers
+its_still old new workers policy table places its number worker there = let it = its number worker there in record {
   number_is = it.number_is;
   of = λ own at. subst (λ (t : TableId). IsNamed new.policy t own.value) (sym table)
       (subst (λ (p : Policy). IsNamed p (table_of_shared old.shared) own.value) (sym policy) (it.of own at));
+  places = places_then (places_back places) it.places;
 }

@@ -6,7 +6,7 @@ use Rattle.hg_reply.specs.declared.reply.Reply.{Reply}
 use Rattle.hg_reply.specs.Replies.{again, plain, valued}
 use Rattle.hg_hosted.specs.declared.worker.HostedWorker.{HostedWorker}
 use Rattle.hg_service_replies.specs.Has.{Has}
-use Rattle.hg_service_replies.specs.Leaving.{HoldsFirst, HoldsNone, StaysFor}
+use Rattle.hg_service_replies.specs.Leaving.{HoldsFirst, HoldsNone, IsBack, StaysFor}
 
 both_ways : {X : Type 0} {b : Bool} → b ≡ true → b ≡ false → X
 both_ways is isnt = absurd (subst T (sym is ∙ isnt) tt)
@@ -24,6 +24,13 @@ has_some hand place told is none = both_ways is (ap is_some (told ∙ ap place_i
 pub has_none : (hand : Option Handle) (place : Option Place) → place ≡ place_in hand → is_some place ≡ false → hand ≡ None
 has_none None place told isnt = refl
 has_none (Some handle) place told isnt = both_ways (ap is_some told) isnt
+
+-- one that was asked for nothing
+pub stays_back : (worker : HostedWorker) → IsBack worker worker
+stays_back worker = record {
+  state = refl;
+  places = record { segments = refl; lists = refl; left = refl };
+}
 
 module _ (worker : HostedWorker) (reply : Reply) where
   -- it has a block in hand

@@ -16,6 +16,7 @@ use Rattle.hg_close.specs.declared.fault.CloseFault.TheVariants as fault
 use Rattle.hg_reply.specs.declared.reply.Reply.{Reply}
 use Rattle.hg_reply.specs.Replies.{again, no_memory, valued}
 use Rattle.hg_service_replies.specs.Has.{Has}
+use Rattle.hg_service_replies.specs.Leaving.{IsBack}
 use Rattle.hg_service_replies.specs.declared.part.HostedPart.{HostedPart}
 use Rattle.hg_service_replies.specs.declared.part.HostedPart.TheVariants as part
 use Rattle.hg_service_replies.specs.declared.part.OpenService.{OpenService}
@@ -31,11 +32,11 @@ abbrev pub told_why : Option CloseFault → Reply
 told_why None = again
 told_why (Some fault) = told_fault fault
 
--- a worker that no thread has leaves, or stays in its state
+-- a worker that no thread has leaves, or stays in its state, with ways to the same places
 abbrev pub PlaceLeaves : Option HostedWorker → Option HostedWorker → Type 0
 PlaceLeaves None new = new ≡ None
 PlaceLeaves (Some worker) None = Has IsIdle worker
-PlaceLeaves (Some worker) (Some back) = back.state ≡ worker.state
+PlaceLeaves (Some worker) (Some back) = IsBack worker back
 
 -- each of them does so
 pub record AreLetLeave (old new : List (Option HostedWorker)) : Type 0 where

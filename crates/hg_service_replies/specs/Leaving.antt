@@ -7,6 +7,7 @@ use Rattle.hg_worker.specs.Seats.{number_in}
 use Rattle.hg_worker.specs.declared.state.WorkerState.{WorkerState}
 use Rattle.hg_hosted.specs.declared.worker.HostedWorker.{HostedWorker}
 use Rattle.hg_hosted.specs.Leaving.{HoldsNoneBelow, IsIdle}
+use Rattle.hg_hosted.specs.Places.{HaveSamePlaces}
 use Rattle.hg_reply.specs.declared.reply.Reply.{Reply}
 use Rattle.hg_reply.specs.Replies.{again, plain, valued}
 use Rattle.hg_service_replies.specs.Has.{Has}
@@ -32,18 +33,23 @@ pub record StaysFor (worker : HostedWorker) (reply : Reply) : Type 0 where
       → (segment : ℕ) × Has (HoldsFirst segment) worker × (reply ≡ valued 27 segment)
   pub shared : Has IsIdle worker → reply ≡ again
 
--- it is idle and left, or comes back in its state with the reason
+-- it comes back in its state, and its ways lead where they led
+pub record IsBack (old new : HostedWorker) : Type 0 where
+  pub state : new.state ≡ old.state
+  pub places : HaveSamePlaces old.shared new.shared
+
+-- it is idle and left, or comes back with the reason
 abbrev pub Leaves : HostedWorker → Result (Unit {0}) (HostedWorker × Reply) → Type 0
 Leaves worker result =
     MatchResult result (λ left. Has IsIdle worker)
-    (λ back. (back.0.state ≡ worker.state) × StaysFor worker back.1)
+    (λ back. IsBack worker back.0 × StaysFor worker back.1)
 
 -- a worker leaves and is gone, or stays; any other part is answered as closed, and stays
 pub record WorkerLeaves (old : HostedWorker) (reply : Reply) (new : HostedPart) : Type 0 where
   pub back : Option HostedWorker
   pub either :
       MatchOption back ((reply ≡ plain 2) × (new ≡ part.Gone) × Has IsIdle old)
-      (λ back. (new ≡ part.Worker back) × (back.state ≡ old.state) × StaysFor old reply)
+      (λ back. (new ≡ part.Worker back) × IsBack old back × StaysFor old reply)
 
 abbrev pub PartLeaves : HostedPart → Reply → HostedPart → Type 0
 PartLeaves (part.Worker old) reply new = WorkerLeaves old reply new

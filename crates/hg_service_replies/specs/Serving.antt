@@ -3,6 +3,7 @@ use Rattle.std.specs.Prelude.{◌≡◌, Option, None, Some, MatchOption}
 use Rattle.hg_machine.specs.declared.Answer.{Answer}
 use Rattle.hg_machine.specs.declared.Event.{Event}
 use Rattle.hg_hosted.specs.declared.worker.HostedWorker.{HostedWorker}
+use Rattle.hg_hosted.specs.Reaching.{Reaches}
 use Rattle.hg_hosted.specs.Serving.{Serves}
 use Rattle.hg_hosted.specs.Steps.{Does}
 use Rattle.hg_hosted.specs.Waiting.{Waits}
@@ -17,7 +18,7 @@ told None = again
 told (Some answer) = reply_of answer
 
 -- A worker serves the event by the call of its name, and the reply stands for its answer; or the
--- event needs what workers share, and nothing is done
+-- event needs what workers share, and nothing is done. Of that it changes no more than the event may
 pub record WorkerServes (old : HostedWorker) (event : Event) (reply : Reply) (new : HostedWorker)
     : Type 0 where
   pub answer : Option Answer
@@ -25,6 +26,7 @@ pub record WorkerServes (old : HostedWorker) (event : Event) (reply : Reply) (ne
   pub does :
       MatchOption answer (Serves (Waits event) old new)
       (λ answer. Serves (Does event answer) old new)
+  pub reach : Reaches event old new
 
 -- it isn't what was asked for, and stays
 pub record IsOther (old : HostedPart) (reply : Reply) (new : HostedPart) : Type 0 where

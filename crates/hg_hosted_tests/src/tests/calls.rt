@@ -56,6 +56,44 @@ fn block_goes_around(rt: HostRuntime) {
     drop(service);
 }
 
+/// A worker frees a block of the other's segment, and sends it there.
+fn sent_home(rt: &impl Abort, worker: &mut HostedWorker, handle: Handle) {
+    answers(rt, worker, free(ALICE, handle), Answer::Parted);
+    answers(rt, worker, Event::Deliver, Answer::Done);
+}
+
+// What was sent to a segment is taken in there, and what to another, by that one.
+#[test]
+fn each_segment_has_its_list(rt: HostRuntime) {
+    let (service, mut one, mut other) = pair(&rt, rt.alloc());
+    answers(
+        &rt,
+        &mut other,
+        Event::Refill { arena: MAIN },
+        Answer::Refilled(1),
+    );
+    let (low, high) = (block(&rt, &mut one), block(&rt, &mut other));
+    sent_home(&rt, &mut one, high);
+    answers(&rt, &mut one, Event::Take { segment: 0 }, Answer::Taken(0));
+    sent_home(&rt, &mut other, low);
+    answers(
+        &rt,
+        &mut other,
+        Event::Take { segment: 1 },
+        Answer::Taken(1),
+    );
+    answers(
+        &rt,
+        &mut other,
+        Event::Take { segment: 1 },
+        Answer::Taken(0),
+    );
+    answers(&rt, &mut one, Event::Take { segment: 0 }, Answer::Taken(1));
+    drop(one);
+    drop(other);
+    drop(service);
+}
+
 /// The one gives its segment up, and the other takes it, with the block that lives there.
 fn adopted(rt: &impl Abort, one: &mut HostedWorker, other: &mut HostedWorker, handle: Handle) {
     answers(rt, one, write(ALICE, handle, 9), Answer::Done);

@@ -10,3 +10,4 @@ invariant-loop l =
     ((view l.left.pass).known ≡ (view l.fn.left.pass).known)
     × FitsKept HasLeft (view l.left.pass).known l.left.kept
     × StayCome l.fn.came.items l.came.items
+    × (l.left.pass.table_id ≡ l.fn.left.pass.table_id)

@@ -3,6 +3,8 @@ use Rattle.std.proofs.lemmas.Option.{same_Some}
 use Rattle.hg_service.specs.New.{IsNew}
 use Rattle.hg_service.proofs.Opened.{each_more}
 use Rattle.hg_worker.specs.States.{IsNamed}
+use Rattle.hg_hosted.specs.Places.{HaveSamePlaces}
+use Rattle.hg_hosted.proofs.Reaching.{places_then}
 use Rattle.hg_hosted.specs.New.{IsNewHosted, IsNewState, IsWorkerOf}
 use Rattle.hg_hosted.proofs.opening.hosted.Goals as goal
 
@@ -19,6 +21,12 @@ loop-worker-preserved g c =
     record {
       of = c.hosted_one.ensures.of;
       home = c.hosted_one.ensures.home;
+      own_places = places_then before.own_places c.hosted_one.ensures.own_places;
+      places = subst
+          (λ xs. (k : ℕ) (one : _) → slice_get xs k ≡ Some one → HaveSamePlaces c.args.shared.now one.shared)
+          (sym pushed)
+          (each_more (λ k one. HaveSamePlaces c.args.shared.now one.shared) c.loop-worker.hosted.items made
+          before.places (places_then before.own_places c.in_ok-hosted_one.ensures.places));
       count = omega (arith, before.count, steps.1, more);
       left = λ k own at. subst (λ n. IsNew n own) (omega (arith, more))
           (before.left (suc k) own (ap (λ xs. slice_get xs (suc k)) steps.0 ∙ at));

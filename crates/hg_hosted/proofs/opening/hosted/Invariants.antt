@@ -2,6 +2,7 @@ use Rattle.std.proofs.Common.{◌≡◌, ℕ, ◌+◌, Some, length, slice_get}
 use Rattle.std.specs.Vec.Iter.{into_iter_items, into_iter_len}
 use Rattle.hg_service.specs.New.{IsNew}
 use Rattle.hg_hosted.specs.New.{IsNewHosted, IsWorkerOf}
+use Rattle.hg_hosted.specs.Places.{HaveSamePlaces}
 use Rattle.hg_hosted.specs.Shared.{AreOfService, AreParked}
 use Rattle.hg_hosted.proofs.opening.hosted.Given as goal
 
@@ -15,6 +16,10 @@ invariant-loop-worker g l = record {
       (k : ℕ) (own : _) → slice_get (into_iter_items l.worker-iterator) k ≡ Some own
       → IsNew (length l.hosted.items + k) own;
   new : (k : ℕ) (one : _) → slice_get l.hosted.items k ≡ Some one → IsNewHosted k one;
+  own_places : HaveSamePlaces l.fn.shared l.shared;
+  places :
+      (k : ℕ) (one : _) → slice_get l.hosted.items k ≡ Some one
+      → HaveSamePlaces l.fn.shared one.shared;
   named :
       (k : ℕ) (one : _) → slice_get l.hosted.items k ≡ Some one
       → IsWorkerOf g.N.ServiceName.policy g.N.TableName.table one;

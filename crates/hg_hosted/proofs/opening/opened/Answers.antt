@@ -3,7 +3,10 @@ use Rattle.atomic_table.specs.Seated.{TableId}
 use Rattle.hg_machine.specs.Policy.{Policy}
 use Rattle.hg_hosted.specs.New.{AreNewHosted}
 use Rattle.hg_hosted.specs.Shared.{table_of_shared}
+use Rattle.hg_hosted.specs.Places.{HaveSamePlaces}
+use Rattle.hg_hosted.specs.declared.shared.Shared.{Shared}
 use Rattle.hg_hosted.proofs.Named.{table_is}
+use Rattle.hg_hosted.proofs.Reaching.{places_back, places_then}
 use Rattle.hg_hosted.proofs.opening.opened.Goals as goal
 
 pub returns : goal.returns
@@ -21,4 +24,6 @@ returns g c =
           (sym c.requires.policy)
           (subst (λ (t : TableId). AreNewHosted g.N.ServiceName.policy t workers) (sym table)
           c.in_ok-workers.ensures.new);
+      places = λ k worker at. subst (λ (s : Shared). HaveSamePlaces s worker.shared) (sym c.made.ensures.shared)
+          (places_then (places_back c.hosted.ensures.own_places) (c.in_ok-workers.ensures.places k worker at));
     }

@@ -1,4 +1,5 @@
-use Rattle.std.proofs.Common.{◌≡◌, length}
+use Rattle.std.proofs.Common.{◌≡◌, length, map, take}
+use Rattle.hg_hosted.specs.Places.{list_place}
 use Rattle.hg_hosted.specs.Shared.{AreListsHome}
 use Rattle.hg_hosted.proofs.shared.shared_lists.Given as goal
 
@@ -8,4 +9,6 @@ invariant-loop-at l = record {
   all : length l.lists.items ≡ length l.fn.lists.items;
   own : AreListsHome l.fn.lists.items → AreListsHome l.lists.items;
   home : AreListsHome l.others.items;
+  own_places : map list_place l.lists.items ≡ map list_place l.fn.lists.items;
+  places : map list_place l.others.items ≡ take l.at (map list_place l.lists.items);
 }

@@ -15,7 +15,7 @@ invariant_of-left-in-Err-Running c =
     let left = c.let_leave.new.workers.items in
     let goes = subst (IsUnclosed opened.service) c.in-Err-Running.field-0-is c.in-Err-Running.ensures.unclosed in
     record {
-      own = its_still opened.service c.in-Err-Running.service left goes.policy goes.table
+      own = its_still opened.service c.in-Err-Running.service left goes.policy goes.table goes.places
           (its_left opened.service opened.workers.items left c.let_leave.ensures.leave opened.own);
     }
 

@@ -1,8 +1,13 @@
 use Rattle.std.proofs.Common.{rules, refl}
 use Rattle.hg_machine.specs.declared.Event.TheVariants as event
+use Rattle.hg_hosted.proofs.Reaching.{reaches}
 use Rattle.hg_hosted.proofs.Undone.{serves_or_waits}
 use Rattle.hg_hosted.proofs.worker.HostedWorker.take.Goals as goal
 
-pub returns : goal.returns
-returns c = serves_or_waits (event.Take c.args.segment) _ _ _ c.in-Some.state c.take_by-answer.result.1 (search rules) refl
+pub returns-clause-served : goal.returns-clause-served
+returns-clause-served c = serves_or_waits (event.Take c.args.segment) _ _ _ c.in-Some.state c.take_by-answer.result.1 (search rules) refl
     c.take_by-answer.result.0 c.take_by-answer.ensures.done
+
+pub returns-clause-reach : goal.returns-clause-reach
+returns-clause-reach c = reaches (event.Take c.args.segment) _ _ c.in-Some.state (search rules)
+    c.take_by-answer.ensures.alone c.take_by-answer.ensures.touched c.take_by-answer.ensures.places

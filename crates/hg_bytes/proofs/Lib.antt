@@ -1,0 +1,4 @@
+pub mod PieceLemmas
+pub mod ByteRuns
+pub mod CoreLemmas
+pub mod BankLemmas

@@ -1,0 +1,5 @@
+pub mod Pieces
+pub mod Bytes
+pub mod OfBank
+pub mod OfCore
+pub mod OfWorker

@@ -1,0 +1,20 @@
+//! Bytes of a block: each call is the list of Reads and Writes of words that it is proved to be,
+//! one after another.
+#![tactic(auto)]
+
+mod of_bank;
+mod of_core;
+mod of_worker;
+mod pieces;
+mod progress;
+mod reading;
+mod store;
+mod writing;
+
+pub use of_bank::{BankBlock, read_bank_bytes, write_bank_bytes};
+pub use of_core::{CoreBlock, read_core_bytes, write_core_bytes};
+pub use of_worker::WorkerBlock;
+pub use progress::Progress;
+pub use reading::read_bytes;
+pub use store::WordStore;
+pub use writing::write_bytes;
