@@ -98,7 +98,7 @@ void use(Bank &bank, const BankHandle (&blocks)[3])
         CHECK(bank.write_words(ONE, ANN, block, 8190, words, 2).status == HG_DONE);
         CHECK(bank.read_words(ONE, ANN, block, 8190, room, 3).value == 2);
         CHECK(room[0] == 1 && room[1] == 2 && room[2] == 9);
-        char bytes[5] = "....";
+        char bytes[6] = ".....";
         CHECK(bank.write_bytes(ONE, ANN, block, 65533, "abcd", 4).value == 3);
         CHECK(bank.read_bytes(ONE, ANN, block, 65532, bytes, 5).value == 4);
         CHECK(std::string(bytes, 5) == std::string("\0abc.", 5));
