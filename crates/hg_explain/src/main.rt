@@ -1,7 +1,7 @@
 //! Explains a log of workers by one order: `hg_explain` reads a policy, a line `---`, and the calls
 //! of workers with their answers. It prints the calls in an order in which a core gives the same
 //! answers (status 0); or that there is none, and the shortest front that no order comes past
-//! (status 1).
+//! (status 1); or that it gave up (status 2). A fault is one line on standard error (status 3).
 #![tactic(auto)]
 
 use anyhow::bail;
@@ -83,16 +83,30 @@ fn told<R: Print + AllocGlobal>(
     }
 }
 
-fn main(rt: HostRuntime) -> Result<ExitCode, anyhow::Error> {
+/// Explains the log on standard input.
+fn explained<R: Print + AllocGlobal>(
+    rt: &R,
+    input: &mut impl Read,
+) -> Result<ExitCode, anyhow::Error> {
     let alloc = rt.alloc();
-    let mut input = Vec::new(alloc);
-    rt.reader().read_to_end(&mut input)?;
-    let (document, log) = split_joined(&input);
+    let mut bytes = Vec::new(alloc);
+    input.read_to_end(&mut bytes)?;
+    let (document, log) = split_joined(&bytes);
     let policy = read_policy(alloc, document)?;
     let names = Names::of(alloc, &policy)?;
     let calls = match read_log(alloc, &policy, log) {
         Ok(calls) => calls,
         Err(fault) => bail!("{fault}"),
     };
-    told(&rt, alloc, &policy, &names, &calls)
+    told(rt, alloc, &policy, &names, &calls)
+}
+
+fn main(rt: HostRuntime) -> ExitCode {
+    match explained(&rt, &mut rt.reader()) {
+        Ok(status) => status,
+        Err(fault) => {
+            let _ = eprintln!(rt; "{fault}");
+            ExitCode::from(3)
+        }
+    }
 }

@@ -1,5 +1,0 @@
-//! What the search for orders finds.
-#![tactic(auto)]
-
-#[cfg(test)]
-mod tests;

@@ -1,0 +1,5 @@
+mod asked;
+mod copies;
+mod kept_names;
+mod traces;
+mod verdicts;

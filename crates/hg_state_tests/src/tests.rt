@@ -1,3 +1,0 @@
-mod plain;
-mod seeded;
-mod worked;
