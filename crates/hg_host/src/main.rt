@@ -32,15 +32,14 @@ fn ask(rt: &impl Print, desk: &mut Desk, name: &str, actor: Actor, text: &str) -
     }
 }
 
-/// Alice keeps two numbers and bob one; each asks for one of alice's.
-fn serve(
+/// Alice keeps two numbers and bob one; whose each block is.
+fn keep(
     rt: &impl Print,
-    alloc: Global,
     desk: &mut Desk,
+    owners: &mut BTreeMap<Handle, &str>,
     alice: Actor,
     bob: Actor,
 ) -> io::Result<()> {
-    let mut owners = BTreeMap::new(alloc);
     for (name, actor, number) in [("alice", alice, 42), ("bob", bob, 7), ("alice", alice, 43)] {
         match desk.keep(actor, number) {
             Ok(block) => {
@@ -49,9 +48,24 @@ fn serve(
             Err(refused) => println!(rt; "{name} keeps nothing: {refused:?}")?,
         }
     }
-    for (block, name) in &owners {
+    for (block, name) in &*owners {
         println!(rt; "{block} is {name}'s, as a word {}", block.to_u64())?;
     }
+    Ok(())
+}
+
+/// They keep numbers, and each asks for one of alice's.
+fn serve(
+    rt: &impl Print,
+    alloc: Global,
+    desk: &mut Desk,
+    alice: Actor,
+    bob: Actor,
+) -> io::Result<()> {
+    let mut owners = BTreeMap::new(alloc);
+    let kept = keep(rt, desk, &mut owners, alice, bob);
+    drop(owners);
+    kept?;
     ask(rt, desk, "alice", alice, "@0.0.0.1")?;
     ask(rt, desk, "bob", bob, "@0.0.0.1")?;
     ask(rt, desk, "bob", bob, "@0.0.0.01")
@@ -104,8 +118,8 @@ fn open_shelf(alloc: Global) -> io::Result<Option<(Shelf, Actor)>> {
     }
 }
 
-fn main(rt: HostRuntime) -> io::Result<()> {
-    let alloc = rt.alloc();
+/// Two tenants at the desk of a core.
+fn at_desk(rt: &impl Print, alloc: Global) -> io::Result<()> {
     let policy = match read_policy(alloc, POLICY.as_bytes()) {
         Ok(policy) => policy,
         Err(fault) => return println!(rt; "{fault}"),
@@ -116,12 +130,27 @@ fn main(rt: HostRuntime) -> io::Result<()> {
     let Some(mut desk) = Desk::at(Core::open(alloc, policy)?, 0) else {
         return println!(rt; "no such worker");
     };
-    if desk.refill().is_err() {
-        return println!(rt; "no segment");
-    }
-    serve(&rt, alloc, &mut desk, Actor(alice), Actor(bob))?;
+    let served = match desk.refill() {
+        Ok(_) => serve(rt, alloc, &mut desk, Actor(alice), Actor(bob)),
+        Err(_) => println!(rt; "no segment"),
+    };
+    drop(desk);
+    served
+}
+
+/// One tenant at the shelf of a bank.
+fn at_shelf(rt: &impl Print, alloc: Global) -> io::Result<()> {
     match open_shelf(alloc)? {
-        Some((mut shelf, alice)) => fill(&rt, alloc, &mut shelf, alice),
+        Some((mut shelf, alice)) => {
+            let filled = fill(rt, alloc, &mut shelf, alice);
+            drop(shelf);
+            filled
+        }
         None => println!(rt; "no bank"),
     }
+}
+
+fn main(rt: HostRuntime) -> io::Result<()> {
+    at_desk(&rt, rt.alloc())?;
+    at_shelf(&rt, rt.alloc())
 }

@@ -84,19 +84,19 @@ fn served<R: Print + Threads + Wait + Sync, N: ServiceName + Send + Sync>(
 
 /// One thread goes on: the first worker of the core holds what the pool has, and reads a block that
 /// was given out before.
-fn went_on<R: Print>(rt: &R, core: Core, block: Handle) -> io::Result<()> {
-    let mut core = core;
+fn went_on<R: Print>(rt: &R, core: &mut Core, block: Handle) -> io::Result<()> {
     if core.policy().workers() == 0 {
         return println!(rt; "nobody is there");
     }
-    let refill = Event::Refill { arena: MAIN };
-    println!(rt; "closed; refill: {:?}", core.step(0, refill))?;
+    let refill = core.step(0, Event::Refill { arena: MAIN });
     let read = Event::Read {
         actor: ALICE,
         handle: block,
         index: 0,
     };
-    println!(rt; "{block} holds {:?}", core.step(0, read))
+    let read = core.step(0, read);
+    println!(rt; "closed; refill: {refill:?}")?;
+    println!(rt; "{block} holds {read:?}")
 }
 
 /// The service closes, and its core goes on.
@@ -107,7 +107,11 @@ fn closed<R: Print + Wait, N: ServiceName>(
     block: Handle,
 ) -> io::Result<()> {
     match service.close(rt, alloc) {
-        Ok(core) => went_on(rt, core, block),
+        Ok(mut core) => {
+            let told = went_on(rt, &mut core, block);
+            drop(core);
+            told
+        }
         Err(Unclosed::Running(service, fault)) => {
             drop(service);
             println!(rt; "it goes on: {fault:?}")
@@ -117,6 +121,21 @@ fn closed<R: Print + Wait, N: ServiceName>(
             println!(rt; "{place:?} is lost")
         }
     }
+}
+
+/// Two threads, until both workers have left; then a block that the first gave out last.
+fn left<R: Print + Threads + Wait + Sync, N: ServiceName + Send + Sync>(
+    rt: &R,
+    one: Worker<N>,
+    other: Worker<N>,
+) -> io::Result<Option<Handle>> {
+    let (mut one, mut other) = (one, other);
+    let ended = served(rt, &mut one, &mut other);
+    let last = kept(&mut one, 7);
+    one.leave(rt);
+    other.leave(rt);
+    ended?;
+    Ok(last)
 }
 
 /// Opens the service that N names, and takes its two workers.
@@ -132,18 +151,25 @@ fn host<R: Print + Threads + Wait + Sync, N: ServiceName + Send + Sync>(
     requires workers { table.workers ≡ policy.workers }
 {
     let mut service = Service::<N>::open(alloc, policy, table)?;
-    let (Some(mut one), Some(mut other)) = (service.worker(0), service.worker(1)) else {
-        return println!(rt; "no such worker");
+    let last = match (service.worker(0), service.worker(1)) {
+        (Some(one), Some(other)) => left(rt, one, other),
+        (one, other) => {
+            drop(one);
+            drop(other);
+            println!(rt; "no such worker").map(|()| None)
+        }
     };
-    let ended = served(rt, &mut one, &mut other);
-    let last = kept(&mut one, 7);
-    one.leave(rt);
-    other.leave(rt);
-    ended?;
-    let Some(block) = last else {
-        return println!(rt; "no block");
-    };
-    closed(rt, alloc, service, block)
+    match last {
+        Ok(Some(block)) => closed(rt, alloc, service, block),
+        Ok(None) => {
+            drop(service);
+            println!(rt; "no block")
+        }
+        Err(fault) => {
+            drop(service);
+            Err(fault)
+        }
+    }
 }
 
 fn main(rt: HostRuntime) -> io::Result<()> {
