@@ -26,9 +26,10 @@
  *     place not used again. Two copies are one core: once one was closed, the other's memory is
  *     gone. A pointer to a core isn't null.
  *  3. Lengths are true: a pointer and a length are memory that may be read (a policy, a name,
- *     words) or written (room) during the call, and that overlaps neither the core nor each other.
- *     Words are aligned to 8, and their length counts words. During the call no other thread writes
- *     what may be read, nor touches the room. With length 0 the pointer may be null.
+ *     words, bytes) or written (room) during the call, and that overlaps neither the core nor each
+ *     other. Words are aligned to 8, and their length counts words; bytes lie anywhere, and theirs
+ *     counts bytes. During the call no other thread writes what may be read, nor touches the room.
+ *     With length 0 the pointer may be null.
  *  4. One allocator: malloc, realloc and free are of one allocator, and what they give is aligned
  *     to each power of two up to 16 that divides the size.
  *  5. No call is made from a signal handler, nor in the child of a fork of a program with threads.
@@ -175,7 +176,8 @@ HG_MUST_USE hg_reply hg_close(hg_core *core);
  * by the number of a tenant; a number that no tenant has is a stranger's. 255 is that always, and
  * an arena that admits nobody, and a segment that isn't held. No number wraps to another, as 256 to
  * 0: each above 255 is answered as 255 is, and of a worker that is HG_NO_WORKER. */
-/* At most 65536 bytes; the words of the block are 0. Above 4096 it has 8, 16, 32 or 64 KiB. */
+/* At most 65536 bytes; the words of the block are 0. It ends with its class, and not with the bytes
+ * asked for: 70 have 80, as hg_look tells. Above 4096 it has 8, 16, 32 or 64 KiB. */
 HG_MUST_USE hg_reply hg_alloc(hg_core *core, uint32_t worker, uint32_t actor, uint32_t arena,
                               uint64_t bytes);
 HG_MUST_USE hg_reply hg_free(hg_core *core, uint32_t worker, uint32_t actor, hg_handle block);
@@ -200,12 +202,14 @@ HG_MUST_USE hg_reply hg_write_words(hg_core *core, uint32_t worker, uint32_t act
                                     hg_handle block, uint32_t first, const uint64_t *words,
                                     size_t count);
 
-/* Bytes of a block, from a byte on: eight lie in a word, the least first. A read is the Read of each
- * word that they lie in; a write the Write of each that they fill, and of one that they fill in part
- * its Read and then its Write, so that it takes both rights. These go one after another, and the
- * first that is refused ends them. HG_DONE where all were served, else what the one that wasn't is
- * answered; value: how many bytes were read or written. What stands in the room behind them is as
- * it was. */
+/* Bytes of a block, from the byte of an offset on, counted from 0: eight lie in a word, the least
+ * first. A read is the Read of each word that they lie in; a write the Write of each that they fill,
+ * and of one that they fill in part its Read and then its Write, so that it takes both rights. These
+ * go one after another, and the first that is refused ends them. HG_DONE where all were served, else
+ * what the one that wasn't is answered; value: how many bytes were read or written. What was written
+ * before stays, and what stands in the room behind them is as it was. No bytes at all ask for no
+ * right and test no block: HG_DONE, but for a closed core, a worker that there isn't and a word of no
+ * handle. The offset has 32 bits: of a wider one C cuts off what is above, and that isn't refused. */
 HG_MUST_USE hg_reply hg_read_bytes(hg_core *core, uint32_t worker, uint32_t actor, hg_handle block,
                                    uint32_t first, void *room, size_t count);
 HG_MUST_USE hg_reply hg_write_bytes(hg_core *core, uint32_t worker, uint32_t actor,

@@ -119,7 +119,7 @@ HG_MUST_USE hg_reply hg_worker_write_words(hg_worker *worker, uint32_t actor, hg
 
 /* Bytes of a block, as hg_read_bytes and hg_write_bytes: calls of hg_worker_read and hg_worker_write
  * for its words, one after another. Between two of them another worker may free the block, and then
- * the next is refused. */
+ * the next is refused; of a word that was refused nothing is written. */
 HG_MUST_USE hg_reply hg_worker_read_bytes(hg_worker *worker, uint32_t actor, hg_handle block,
                                           uint32_t first, void *room, size_t count);
 HG_MUST_USE hg_reply hg_worker_write_bytes(hg_worker *worker, uint32_t actor, hg_handle block,

@@ -167,6 +167,9 @@ static void try_refused(const kind *of, hg_handle block)
     memset(wanted, 0x5a, sizeof wanted);
     CHECK(is_plain(of->read(0, ANN, block, 5, NULL, 0), HG_DONE));
     CHECK(is_plain(of->write(0, ANN, block, 5, NULL, 0), HG_DONE));
+    /* No bytes ask for no right, and test no block. */
+    CHECK(is_plain(of->read(0, 3, block + 1, 0, NULL, 0), HG_DONE));
+    CHECK(is_plain(of->write(0, 3, block + 1, 0, NULL, 0), HG_DONE));
     CHECK(is_plain(of->read(0, ANN, block, UINT32_MAX, room, 9), HG_OUT_OF_BLOCK));
     CHECK(is_plain(of->write(0, ANN, block, UINT32_MAX, bytes, 9), HG_OUT_OF_BLOCK));
     CHECK(is_plain(of->read(0, 3, block, 0, room, 9), HG_STRANGER));
@@ -208,6 +211,17 @@ static void try_kind(const kind *of, hg_handle block)
     if (failed != before) printf("bytes: so far of a %s\n", of->name);
 }
 
+/* A block ends with its class, and not with the bytes asked for; a block that was freed has none. */
+static void try_class(void)
+{
+    hg_handle block = hg_alloc(&core, 0, ANN, 0, 70).value;
+    CHECK(is_far(hg_write_bytes(&core, 0, ANN, block, 0, bytes, 81), HG_OUT_OF_BLOCK, 80));
+    CHECK(is_far(hg_read_bytes(&core, 0, ANN, block, 0, room, 80), HG_DONE, 80));
+    CHECK(hg_free(&core, 0, ANN, block).status == HG_DONE);
+    CHECK(is_plain(hg_read_bytes(&core, 0, ANN, block, 0, room, 9), HG_ALREADY_FREED));
+    CHECK(is_plain(hg_write_bytes(&core, 0, ANN, block, 0, bytes, 9), HG_ALREADY_FREED));
+}
+
 int main(void)
 {
     static const kind CORE = {"core", read_core, write_core, word_core};
@@ -217,6 +231,7 @@ int main(void)
     CHECK(hg_open(&core, POLICY, sizeof POLICY - 1, NULL, 0).status == HG_DONE);
     CHECK(hg_refill(&core, 0, 0).status == HG_REFILLED);
     try_kind(&CORE, hg_alloc(&core, 0, ANN, 0, SIZE).value);
+    try_class();
     CHECK(is_plain(hg_read_bytes(&core, 2, ANN, 1, 0, room, 9), HG_NO_WORKER));
     CHECK(is_plain(hg_write_bytes(&core, 256, ANN, 1, 0, bytes, 9), HG_NO_WORKER));
     CHECK(is_nobody(hg_tenant(&core, "dan", 3), HG_NO_NAME));

@@ -1,10 +1,10 @@
 -- Calls on blocks and places that C names by numbers.
-use Rattle.std.proofs.Common.{◌≡◌, ℕ, Bool, true, false, T, sym, ◌∙◌, subst}
+use Rattle.std.proofs.Common.{◌≡◌, ℕ, Bool, true, false, T, sym, ◌∙◌, subst, Some}
 use Rattle.hg_machine.specs.declared.Event.{Event}
 use Rattle.hg_place.specs.declared.Handle.{Handle}
 use Rattle.hg_place.specs.declared.Place.{Place}
 use Rattle.hg_place.specs.Places.{number_of}
-use Rattle.hg_place.specs.HandleWords.{handle_word, is_handle, is_place}
+use Rattle.hg_place.specs.HandleWords.{handle_word, is_handle, is_place, ReadsWord}
 use Rattle.hg_reply.specs.declared.reply.Reply.{Reply}
 use Rattle.hg_ffi.specs.declared.host_core.HostCore.{HostCore}
 use Rattle.hg_machine.specs.Lists.{Kept}
@@ -23,9 +23,9 @@ both_ways : {X : Type 0} {b : Bool} → b ≡ true → b ≡ false → X
 both_ways is isnt = absurd (subst T (sym is ∙ isnt) tt)
 
 pub on_handle : {old new : HostCore} {worker word : ℕ} {event : Handle → Event} {reply : Reply} (handle : Handle)
-    → (is_handle word ≡ true) × (word ≡ handle_word handle) → Serves old worker (event handle) reply new → ServesOn old worker word event reply new
-on_handle handle is serves = record {
-  named = λ _. (handle, is.1, serves);
+    → (is_handle word ≡ true) × (word ≡ handle_word handle) → ReadsWord word (Some handle) → Serves old worker (event handle) reply new → ServesOn old worker word event reply new
+on_handle handle is read serves = record {
+  named = λ _. (handle, is.1, read, serves);
   unnamed = λ no. both_ways is.0 no;
 }
 
@@ -37,17 +37,17 @@ at_place place is serves = record {
 }
 
 pub on_handle_at_once : {old new : HostCore} {worker word : ℕ} {does : Handle → Kept → Kept → Type 0} {stays : Type 0} {reply : Reply} (handle : Handle)
-    → (is_handle word ≡ true) × (word ≡ handle_word handle) → DoesAtOnce old worker (does handle) stays reply new → DoesOn old worker word does stays reply new
-on_handle_at_once handle is done = record {
-  named = λ _. (handle, is.1, done);
+    → (is_handle word ≡ true) × (word ≡ handle_word handle) → ReadsWord word (Some handle) → DoesAtOnce old worker (does handle) stays reply new → DoesOn old worker word does stays reply new
+on_handle_at_once handle is read done = record {
+  named = λ _. (handle, is.1, read, done);
   unnamed = λ no. both_ways is.0 no;
 }
 
 -- the same on a bank
 pub on_bank_handle : {old new : HostBank} {worker : ℕ} {block : BankBlock} {event : Handle → Event} {reply : Reply} (handle : Handle)
-    → (is_handle block.handle ≡ true) × (block.handle ≡ handle_word handle) → banks.Serves old worker (core_of block.core) (event handle) reply new → banks.ServesOn old worker block event reply new
-on_bank_handle handle is serves = record {
-  named = λ _. (handle, is.1, serves);
+    → (is_handle block.handle ≡ true) × (block.handle ≡ handle_word handle) → ReadsWord block.handle (Some handle) → banks.Serves old worker (core_of block.core) (event handle) reply new → banks.ServesOn old worker block event reply new
+on_bank_handle handle is read serves = record {
+  named = λ _. (handle, is.1, read, serves);
   unnamed = λ no. both_ways is.0 no;
 }
 
@@ -59,17 +59,17 @@ at_bank_place place is serves = record {
 }
 
 pub on_bank_at_once : {old new : HostBank} {worker word : ℕ} {does : Handle → BankState → BankState → Type 0} {stays : Type 0} {reply : Reply} (handle : Handle)
-    → (is_handle word ≡ true) × (word ≡ handle_word handle) → many.DoesAtOnce old worker (does handle) stays reply new → many.DoesOn old worker word does stays reply new
-on_bank_at_once handle is done = record {
-  named = λ _. (handle, is.1, done);
+    → (is_handle word ≡ true) × (word ≡ handle_word handle) → ReadsWord word (Some handle) → many.DoesAtOnce old worker (does handle) stays reply new → many.DoesOn old worker word does stays reply new
+on_bank_at_once handle is read done = record {
+  named = λ _. (handle, is.1, read, done);
   unnamed = λ no. both_ways is.0 no;
 }
 
 -- the same of a worker
 pub on_part_handle : {old new : HostPart} {word : ℕ} {event : Handle → Event} {reply : Reply} (handle : Handle)
-    → (is_handle word ≡ true) × (word ≡ handle_word handle) → parts.Serves old (event handle) reply new → parts.ServesOn old word event reply new
-on_part_handle handle is serves = record {
-  named = λ _. (handle, is.1, serves);
+    → (is_handle word ≡ true) × (word ≡ handle_word handle) → ReadsWord word (Some handle) → parts.Serves old (event handle) reply new → parts.ServesOn old word event reply new
+on_part_handle handle is read serves = record {
+  named = λ _. (handle, is.1, read, serves);
   unnamed = λ no. both_ways is.0 no;
 }
 
@@ -81,8 +81,8 @@ at_part_place place is serves = record {
 }
 
 pub on_part_word : {does : Handle → Type 0} {stays : Type 0} {word : ℕ} (handle : Handle)
-    → (is_handle word ≡ true) × (word ≡ handle_word handle) → does handle → parts.OnWord word does stays
-on_part_word handle is done = record {
-  named = λ _. (handle, is.1, done);
+    → (is_handle word ≡ true) × (word ≡ handle_word handle) → ReadsWord word (Some handle) → does handle → parts.OnWord word does stays
+on_part_word handle is read done = record {
+  named = λ _. (handle, is.1, read, done);
   unnamed = λ no. both_ways is.0 no;
 }

@@ -1,10 +1,10 @@
 -- What calls for many words, and for many blocks, do.
-use Rattle.std.specs.Prelude.{◌≡◌, ◌≢◌, ℕ, ◌<◌, ◌≤◌, true, false, List}
+use Rattle.std.specs.Prelude.{◌≡◌, ◌≢◌, ℕ, ◌<◌, ◌≤◌, true, false, List, Some}
 use Rattle.hg_machine.specs.Lists.{Kept, IsPartition}
 use Rattle.hg_machine.specs.Soundness.{IsSound}
 use Rattle.hg_place.specs.declared.Actor.{Actor}
 use Rattle.hg_place.specs.declared.Handle.{Handle}
-use Rattle.hg_place.specs.HandleWords.{handle_word, is_handle}
+use Rattle.hg_place.specs.HandleWords.{handle_word, is_handle, ReadsWord}
 use Rattle.hg_bulk.specs.declared.progress.Progress.{Progress}
 use Rattle.hg_bulk.specs.Words.{ReadsWords, WritesWords}
 use Rattle.hg_bulk.specs.Freeing.{FreesAll}
@@ -31,12 +31,12 @@ pub record DoesAtOnce (old : HostCore) (worker : ℕ) (does : Kept → Kept → 
       old.mark ≡ open_mark
       → Does old.core worker (does old.core) stays reply new.core × (new.mark ≡ open_mark)
 
--- the same for a block that is named by a word, which may be no handle's
+-- the same for the block that a word names, read as the one handle that it is, or as none
 pub record DoesOn (old : HostCore) (worker word : ℕ) (does : Handle → Kept → Kept → Type 0)
     (stays : Type 0) (reply : Reply) (new : HostCore) : Type 0 where
   pub named :
       is_handle word ≡ true
-      → (handle : Handle) × (word ≡ handle_word handle)
+      → (handle : Handle) × (word ≡ handle_word handle) × ReadsWord word (Some handle)
       × DoesAtOnce old worker (does handle) stays reply new
   pub unnamed : is_handle word ≡ false → (reply ≡ no_block) × IsSame old new × stays
 

@@ -1,10 +1,10 @@
 -- What a call of a host does to a bank.
-use Rattle.std.specs.Prelude.{◌≡◌, ◌≢◌, ℕ, true, false, List, Option}
+use Rattle.std.specs.Prelude.{◌≡◌, ◌≢◌, ℕ, true, false, List, Option, Some}
 use Rattle.hg_machine.specs.declared.Event.{Event}
 use Rattle.hg_place.specs.declared.Handle.{Handle}
 use Rattle.hg_place.specs.declared.Place.{Place}
 use Rattle.hg_place.specs.Places.{number_of}
-use Rattle.hg_place.specs.HandleWords.{handle_word, is_handle, is_place}
+use Rattle.hg_place.specs.HandleWords.{handle_word, is_handle, is_place, ReadsWord}
 use Rattle.hg_policy.specs.Names.{tenant_name}
 use Rattle.hg_bank.specs.State.{BankState}
 use Rattle.hg_bank_replies.specs.declared.asking.BankQuestion.{BankQuestion}
@@ -32,12 +32,13 @@ pub record Serves (old : HostBank) (worker core : ℕ) (event : Event) (reply : 
       old.mark ≡ bank_mark
       → bank.Serves old.bank worker core event reply new.bank × (new.mark ≡ bank_mark)
 
--- the same for a block, whose word may be no handle's
+-- the same for the block that a word names, read as the one handle that it is, or as none
 pub record ServesOn (old : HostBank) (worker : ℕ) (block : BankBlock) (event : Handle → Event)
     (reply : Reply) (new : HostBank) : Type 0 where
   pub named :
       is_handle block.handle ≡ true
       → (handle : Handle) × (block.handle ≡ handle_word handle)
+      × ReadsWord block.handle (Some handle)
       × Serves old worker (core_of block.core) (event handle) reply new
   pub unnamed : is_handle block.handle ≡ false → (reply ≡ no_block) × IsSame old new
 

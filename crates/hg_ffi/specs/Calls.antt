@@ -1,5 +1,5 @@
 -- What a call of a host does.
-use Rattle.std.specs.Prelude.{◌≡◌, ◌≢◌, ℕ, ◌<◌, ◌≤◌, true, false}
+use Rattle.std.specs.Prelude.{◌≡◌, ◌≢◌, ℕ, ◌<◌, ◌≤◌, true, false, Some}
 use Rattle.hg_machine.specs.declared.Answer.{Answer}
 use Rattle.hg_machine.specs.declared.Event.{Event}
 use Rattle.hg_machine.specs.Lists.{Kept, IsPartition}
@@ -8,7 +8,7 @@ use Rattle.hg_choice.specs.ChosenSteps.{ChosenStep}
 use Rattle.hg_place.specs.declared.Handle.{Handle}
 use Rattle.hg_place.specs.declared.Place.{Place}
 use Rattle.hg_place.specs.Places.{number_of}
-use Rattle.hg_place.specs.HandleWords.{handle_word, is_handle, is_place}
+use Rattle.hg_place.specs.HandleWords.{handle_word, is_handle, is_place, ReadsWord}
 use Rattle.hg_reply.specs.declared.reply.Reply.{Reply}
 use Rattle.hg_ffi.specs.declared.host_core.HostCore.{HostCore}
 use Rattle.hg_ffi.specs.Owning.{open_mark}
@@ -36,12 +36,12 @@ pub record Serves (old : HostCore) (worker : ℕ) (event : Event) (reply : Reply
       old.mark ≡ open_mark
       → Steps old.core worker event reply new.core × (new.mark ≡ open_mark)
 
--- the same for a block that is named by a word, which may be no handle's
+-- the same for the block that a word names, read as the one handle that it is, or as none
 pub record ServesOn (old : HostCore) (worker word : ℕ) (event : Handle → Event) (reply : Reply)
     (new : HostCore) : Type 0 where
   pub named :
       is_handle word ≡ true
-      → (handle : Handle) × (word ≡ handle_word handle)
+      → (handle : Handle) × (word ≡ handle_word handle) × ReadsWord word (Some handle)
       × Serves old worker (event handle) reply new
   pub unnamed : is_handle word ≡ false → (reply ≡ no_block) × IsSame old new
 

@@ -6,7 +6,7 @@ use Rattle.hg_place.specs.declared.Actor.{Actor}
 use Rattle.hg_place.specs.declared.Handle.{Handle}
 use Rattle.hg_place.specs.declared.Place.{Place}
 use Rattle.hg_place.specs.Places.{number_of}
-use Rattle.hg_place.specs.HandleWords.{handle_word, is_handle, is_place}
+use Rattle.hg_place.specs.HandleWords.{handle_word, is_handle, is_place, ReadsWord}
 use Rattle.hg_reply.specs.declared.reply.Reply.{Reply}
 use Rattle.hg_reply.specs.Naming.{nobody}
 use Rattle.hg_reply.specs.Replies.{closed, no_block, valued}
@@ -56,12 +56,13 @@ pub record Does (old : HostPart) (answer : Reply) (what : HostedPart → HostedP
 abbrev pub Serves : HostPart → Event → Reply → HostPart → Type 0
 Serves old event reply new = Does old closed (λ was is. PartServes was event reply is) reply new
 
--- the same for a block that is named by a word, which may be no handle's
+-- the same for the block that a word names, read as the one handle that it is, or as none
 pub record ServesOn (old : HostPart) (word : ℕ) (event : Handle → Event) (reply : Reply)
     (new : HostPart) : Type 0 where
   pub named :
       is_handle word ≡ true
-      → (handle : Handle) × (word ≡ handle_word handle) × Serves old (event handle) reply new
+      → (handle : Handle) × (word ≡ handle_word handle) × ReadsWord word (Some handle)
+      × Serves old (event handle) reply new
   pub unnamed : is_handle word ≡ false → (reply ≡ no_block) × IsSame old new
 
 -- the same for a place that is named by a number, which may be no place's
@@ -92,9 +93,11 @@ abbrev pub WritesWords : HostPart → Actor → Handle → ℕ → List ℕ → 
 WritesWords old actor handle first words reply new =
     Does old closed (λ was is. PartWrites was actor handle first words reply is) reply new
 
--- what is done for a block that is named by a word, or what there is where that is no handle's
+-- what is done for the block that a word names, or what there is where it is no handle's
 pub record OnWord (word : ℕ) (does : Handle → Type 0) (stays : Type 0) : Type 0 where
-  pub named : is_handle word ≡ true → (handle : Handle) × (word ≡ handle_word handle) × does handle
+  pub named :
+      is_handle word ≡ true
+      → (handle : Handle) × (word ≡ handle_word handle) × ReadsWord word (Some handle) × does handle
   pub unnamed : is_handle word ≡ false → stays
 
 -- a worker leaves

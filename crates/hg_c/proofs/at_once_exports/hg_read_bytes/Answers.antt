@@ -8,7 +8,7 @@ pub returns-in-Some : goal.returns-in-Some
 returns-in-Some c =
     let told = c.serve_read_bytes.new.room in
     let reply = c.serve_read_bytes.result in
-    on_handle_at_once c.in-Some.handle c.in-Some.ensures.handle
+    on_handle_at_once c.in-Some.handle c.in-Some.ensures.handle c.in-Some.ensures.read
     (subst
     (λ actor. DoesAtOnce c.args.host.now c.args.worker (ReadsBytesInto c.args.worker actor c.args.first c.args.room.now told reply c.in-Some.handle)
     (told ≡ c.args.room.now) reply c.serve_read_bytes.new.host)

@@ -10,7 +10,7 @@ returns-in-Some c =
     let told = c.serve_read_bytes.new.room in
     let reply = c.serve_read_bytes.result in
     let new = c.serve_read_bytes.new.host in
-    on_bank_at_once c.in-Some.handle c.in-Some.ensures.handle
+    on_bank_at_once c.in-Some.handle c.in-Some.ensures.handle c.in-Some.ensures.read
     (subst
     (λ core. DoesAtOnce c.args.host.now c.args.worker
     (ReadsBytesInto c.args.worker (actor_of c.args.actor) core c.args.first c.args.room.now told reply c.in-Some.handle)

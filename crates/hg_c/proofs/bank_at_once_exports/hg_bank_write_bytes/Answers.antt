@@ -9,7 +9,7 @@ pub returns-in-Some : goal.returns-in-Some
 returns-in-Some c =
     let reply = c.serve_write_bytes.result in
     let new = c.serve_write_bytes.new.host in
-    on_bank_at_once c.in-Some.handle c.in-Some.ensures.handle
+    on_bank_at_once c.in-Some.handle c.in-Some.ensures.handle c.in-Some.ensures.read
     (subst
     (λ core. DoesAtOnce c.args.host.now c.args.worker
     (WritesBytesFrom c.args.worker (actor_of c.args.actor) core c.args.first c.args.bytes.now reply c.in-Some.handle)

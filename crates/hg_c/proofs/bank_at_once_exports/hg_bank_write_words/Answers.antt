@@ -9,7 +9,7 @@ pub returns-in-Some : goal.returns-in-Some
 returns-in-Some c =
     let reply = c.serve_write_words.result in
     let new = c.serve_write_words.new.host in
-    on_bank_at_once c.in-Some.handle c.in-Some.ensures.handle
+    on_bank_at_once c.in-Some.handle c.in-Some.ensures.handle c.in-Some.ensures.read
     (subst
     (λ core. DoesAtOnce c.args.host.now c.args.worker
     (WritesFrom c.args.worker (actor_of c.args.actor) core c.args.first c.args.words.now reply c.in-Some.handle)

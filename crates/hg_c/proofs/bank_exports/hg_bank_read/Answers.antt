@@ -2,4 +2,4 @@ use Rattle.hg_c.proofs.Named.{on_bank_handle}
 use Rattle.hg_c.proofs.bank_exports.hg_bank_read.Goals as goal
 
 pub returns-in-Some : goal.returns-in-Some
-returns-in-Some c = on_bank_handle c.in-Some.handle c.in-Some.ensures.handle (rw c.actor_of-actor.ensures at c.serve_bank.ensures)
+returns-in-Some c = on_bank_handle c.in-Some.handle c.in-Some.ensures.handle c.in-Some.ensures.read (rw c.actor_of-actor.ensures at c.serve_bank.ensures)

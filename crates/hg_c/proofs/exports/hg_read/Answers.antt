@@ -2,4 +2,4 @@ use Rattle.hg_c.proofs.Named.{on_handle}
 use Rattle.hg_c.proofs.exports.hg_read.Goals as goal
 
 pub returns-in-Some : goal.returns-in-Some
-returns-in-Some c = on_handle c.in-Some.handle c.in-Some.ensures.handle (rw c.actor_of-actor.ensures at c.serve_read.ensures)
+returns-in-Some c = on_handle c.in-Some.handle c.in-Some.ensures.handle c.in-Some.ensures.read (rw c.actor_of-actor.ensures at c.serve_read.ensures)

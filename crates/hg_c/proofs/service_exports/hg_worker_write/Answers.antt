@@ -2,4 +2,4 @@ use Rattle.hg_c.proofs.Named.{on_part_handle}
 use Rattle.hg_c.proofs.service_exports.hg_worker_write.Goals as goal
 
 pub returns-in-Some : goal.returns-in-Some
-returns-in-Some c = on_part_handle c.in-Some.handle c.in-Some.ensures.handle (rw c.actor_of-actor.ensures at c.serve_part.ensures)
+returns-in-Some c = on_part_handle c.in-Some.handle c.in-Some.ensures.handle c.in-Some.ensures.read (rw c.actor_of-actor.ensures at c.serve_part.ensures)
