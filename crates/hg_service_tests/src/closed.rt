@@ -1,10 +1,9 @@
-//! What services become that close, and calls on that.
+//! The core that a service becomes, and calls on it.
 
-use crate::services::MAIN;
-use hg_close::CloseFault;
+use crate::services::{MAIN, refill};
 use hg_core::Core;
 use hg_machine::{Answer, Event};
-use hg_service::{Service, Unclosed};
+use hg_service::Service;
 use hg_worker::ServiceName;
 use std::alloc::Global;
 use std::process::Abort;
@@ -18,48 +17,24 @@ pub fn closed<N: ServiceName, R: Wait + Abort>(rt: &R, alloc: Global, service: S
     core
 }
 
-/// A service that doesn't close, and why.
-pub fn running<N: ServiceName, R: Wait + Abort>(
-    rt: &R,
-    alloc: Global,
-    service: Service<N>,
-) -> (Service<N>, CloseFault) {
-    let Err(Unclosed::Running(service, fault)) = service.close(rt, alloc) else {
-        panic!(rt; "it is given up")
-    };
-    (service, fault)
-}
-
-/// A service that doesn't close, for this reason.
-pub fn unclosed<N: ServiceName, R: Wait + Abort>(
-    rt: &R,
-    alloc: Global,
-    service: Service<N>,
-    wanted: CloseFault,
-) -> Service<N> {
-    let (service, fault) = running(rt, alloc, service);
-    assert_eq!(rt; fault, wanted);
-    service
+/// What a core answers to an event of worker 0.
+pub fn told(rt: &impl Abort, core: &mut Core, event: Event) -> Answer {
+    assert!(rt; 0 < core.policy().workers());
+    core.step(0, event)
 }
 
 /// A core must answer an event of worker 0 so.
-fn told<R: Abort>(rt: &R, core: &mut Core, event: Event, wanted: Answer) {
-    assert!(rt; 0 < core.policy().workers());
-    assert_eq!(rt; core.step(0, event), wanted);
+fn tells(rt: &impl Abort, core: &mut Core, event: Event, wanted: Answer) {
+    assert_eq!(rt; told(rt, core, event), wanted);
 }
 
 /// A core must answer these events of worker 0 so, once that has the first segment of the main
 /// arena.
 pub fn answers_so<R: Abort>(rt: &R, core: Core, rows: &[(Event, Answer)]) {
     let mut core = core;
-    told(
-        rt,
-        &mut core,
-        Event::Refill { arena: MAIN },
-        Answer::Refilled(0),
-    );
+    tells(rt, &mut core, refill(MAIN), Answer::Refilled(0));
     for (event, wanted) in rows {
-        told(rt, &mut core, *event, *wanted);
+        tells(rt, &mut core, *event, *wanted);
     }
     drop(core);
 }

@@ -1,161 +1,160 @@
 //! Services that close, and that go on.
 
-use crate::closed::{answers_so, closed, unclosed};
-use crate::services::{
-    ALICE, MAIN, Trial, answers, block, both, free, is_gone, leaves, read, refill, take, tried,
-    worker, write,
-};
+use crate::after::Then;
+use crate::asked::{Asked, Block, Told, V, W, X, Y};
+use crate::services::{ALICE, DOCUMENT, MAIN, VAULT};
+use crate::steps::{Run, Step, meets};
 use hg_close::CloseFault;
-use hg_machine::{Answer, Event};
-use hg_service::Service;
-use hg_worker::ServiceName;
-use std::alloc::Global;
-use std::process::Abort;
-use std::sync::Wait;
 
-struct GoesOn;
+/// The first block of segment 2.
+const IN_VAULT: Block = Block(2, 0, 0, 1);
 
-impl Trial for GoesOn {
-    fn go<N: ServiceName, R: Wait + Abort>(&self, rt: &R, alloc: Global, service: Service<N>) {
-        let mut service = service;
-        let (mut one, other) = both(rt, &mut service);
-        let x = block(rt, &mut one);
-        let service = unclosed(rt, alloc, service, CloseFault::StillHeld(0));
-        answers(rt, &mut one, write(ALICE, x, 5), Answer::Done);
-        leaves(rt, one);
-        leaves(rt, other);
-        let core = closed(rt, alloc, service);
-        answers_so(rt, core, &[(read(ALICE, x), Answer::Value(5))]);
-    }
-}
+static CLOSING: [Run; 8] = [
+    // A service goes on while a worker holds a segment; once both have left it closes, and a block
+    // lives on in the core with what was written.
+    Run {
+        name: "close_goes_on",
+        steps: &[
+            Step::Takes(0),
+            Step::Takes(1),
+            Step::Asks(0, Asked::Refill(MAIN), Told::Refilled(0)),
+            Step::Asks(0, Asked::Alloc(ALICE, MAIN, 24), Told::Block(X)),
+            Step::GoesOn(CloseFault::StillHeld(0)),
+            Step::Asks(0, Asked::Write(ALICE, X, 5), Told::Done),
+            Step::Leaves(0),
+            Step::Leaves(1),
+            Step::Closes,
+        ],
+        then: &[
+            Then::Answers(Asked::Refill(MAIN), Told::Refilled(0)),
+            Then::Answers(Asked::Read(ALICE, X), Told::Value(5)),
+        ],
+    },
+    // A service of which no worker was ever taken closes.
+    Run {
+        name: "nobody_was_taken",
+        steps: &[Step::Closes],
+        then: &[Then::Answers(Asked::Refill(MAIN), Told::Refilled(0))],
+    },
+    // A worker that was dropped never leaves.
+    Run {
+        name: "dropped_worker_is_out",
+        steps: &[
+            Step::Takes(1),
+            Step::Drops(1),
+            Step::GoesOn(CloseFault::StillOut(1)),
+        ],
+        then: &[],
+    },
+    // What a dropped worker held is held for good, and is told before who is out.
+    Run {
+        name: "dropped_segment_is_held",
+        steps: &[
+            Step::Takes(0),
+            Step::Takes(1),
+            Step::Asks(0, Asked::Refill(MAIN), Told::Refilled(0)),
+            Step::Drops(0),
+            Step::Drops(1),
+            Step::GoesOn(CloseFault::StillHeld(0)),
+        ],
+        then: &[],
+    },
+    // The lowest segment is told that somebody holds, and then the lowest worker that is out.
+    Run {
+        name: "lowest_is_told",
+        steps: &[
+            Step::Takes(0),
+            Step::Takes(1),
+            Step::Asks(0, Asked::Refill(MAIN), Told::Refilled(0)),
+            Step::Asks(1, Asked::Refill(MAIN), Told::Refilled(1)),
+            Step::GoesOn(CloseFault::StillHeld(0)),
+            Step::Asks(0, Asked::Abandon(0), Told::Done),
+            Step::GoesOn(CloseFault::StillHeld(1)),
+            Step::Leaves(1),
+            Step::GoesOn(CloseFault::StillOut(0)),
+            Step::Leaves(0),
+            Step::Closes,
+        ],
+        then: &[],
+    },
+    // What was sent to a segment is there in the core, for its holder to take in.
+    Run {
+        name: "sent_block_is_taken_in",
+        steps: &[
+            Step::Takes(0),
+            Step::Takes(1),
+            Step::Asks(0, Asked::Refill(MAIN), Told::Refilled(0)),
+            Step::Asks(0, Asked::Alloc(ALICE, MAIN, 24), Told::Block(X)),
+            Step::Asks(1, Asked::Free(ALICE, X), Told::Parted),
+            Step::Leaves(1),
+            Step::Leaves(0),
+            Step::Closes,
+        ],
+        then: &[
+            Then::Answers(Asked::Refill(MAIN), Told::Refilled(0)),
+            Then::Answers(Asked::Take(0), Told::Taken(1)),
+        ],
+    },
+    // What was sent to each segment is there in the core, on the list of that segment.
+    Run {
+        name: "each_list_comes_over",
+        steps: &[
+            Step::Takes(0),
+            Step::Takes(1),
+            Step::Asks(0, Asked::Refill(MAIN), Told::Refilled(0)),
+            Step::Asks(1, Asked::Refill(MAIN), Told::Refilled(1)),
+            Step::Asks(1, Asked::Refill(VAULT), Told::Refilled(2)),
+            Step::Asks(1, Asked::Alloc(ALICE, MAIN, 24), Told::Block(V)),
+            Step::Asks(0, Asked::Free(ALICE, V), Told::Parted),
+            Step::Asks(0, Asked::Deliver, Told::Done),
+            Step::Asks(1, Asked::Alloc(ALICE, MAIN, 24), Told::Block(W)),
+            Step::Asks(0, Asked::Free(ALICE, W), Told::Parted),
+            Step::Asks(0, Asked::Deliver, Told::Done),
+            Step::Asks(1, Asked::Alloc(ALICE, VAULT, 24), Told::Block(IN_VAULT)),
+            Step::Asks(0, Asked::Free(ALICE, IN_VAULT), Told::Parted),
+            Step::Asks(0, Asked::Deliver, Told::Done),
+            Step::Leaves(0),
+            Step::Leaves(1),
+            Step::Closes,
+        ],
+        then: &[
+            Then::Answers(Asked::Refill(MAIN), Told::Refilled(0)),
+            Then::Answers(Asked::Refill(MAIN), Told::Refilled(1)),
+            Then::Answers(Asked::Refill(VAULT), Told::Refilled(2)),
+            Then::Answers(Asked::Take(0), Told::Taken(0)),
+            Then::Answers(Asked::Take(1), Told::Taken(2)),
+            Then::Answers(Asked::Take(2), Told::Taken(1)),
+        ],
+    },
+    // A service that comes back has behind its locks what it had.
+    Run {
+        name: "service_comes_back_whole",
+        steps: &[
+            Step::Takes(0),
+            Step::Takes(1),
+            Step::Asks(0, Asked::Refill(MAIN), Told::Refilled(0)),
+            Step::Asks(0, Asked::Alloc(ALICE, MAIN, 24), Told::Block(X)),
+            Step::Asks(0, Asked::Alloc(ALICE, MAIN, 24), Told::Block(Y)),
+            Step::Asks(0, Asked::Write(ALICE, Y, 7), Told::Done),
+            Step::Asks(1, Asked::Free(ALICE, X), Told::Parted),
+            Step::Asks(1, Asked::Deliver, Told::Done),
+            Step::GoesOn(CloseFault::StillHeld(0)),
+            Step::Leaves(0),
+            Step::GoesOn(CloseFault::StillOut(1)),
+            Step::IsGone(0),
+            Step::Workers(2),
+            Step::Asks(1, Asked::Refill(MAIN), Told::Refilled(0)),
+            Step::Asks(1, Asked::Take(0), Told::Taken(1)),
+            Step::Asks(1, Asked::Read(ALICE, Y), Told::Value(7)),
+            Step::Asks(1, Asked::Refill(MAIN), Told::Refilled(1)),
+            Step::Leaves(1),
+            Step::Closes,
+        ],
+        then: &[],
+    },
+];
 
-/// A service goes on while a worker holds a segment; once both have left it closes, and a block
-/// lives on in the core with what was written.
 #[test]
-fn close_goes_on(rt: HostRuntime) {
-    tried(&rt, rt.alloc(), &GoesOn);
-}
-
-struct Unused;
-
-impl Trial for Unused {
-    fn go<N: ServiceName, R: Wait + Abort>(&self, rt: &R, alloc: Global, service: Service<N>) {
-        let core = closed(rt, alloc, service);
-        answers_so(rt, core, &[]);
-    }
-}
-
-/// A service of which no worker was ever taken closes.
-#[test]
-fn nobody_was_taken(rt: HostRuntime) {
-    tried(&rt, rt.alloc(), &Unused);
-}
-
-struct Dropped;
-
-impl Trial for Dropped {
-    fn go<N: ServiceName, R: Wait + Abort>(&self, rt: &R, alloc: Global, service: Service<N>) {
-        let mut service = service;
-        drop(worker(rt, &mut service, 1));
-        drop(unclosed(rt, alloc, service, CloseFault::StillOut(1)));
-    }
-}
-
-/// A worker that was dropped never leaves.
-#[test]
-fn dropped_worker_is_out(rt: HostRuntime) {
-    tried(&rt, rt.alloc(), &Dropped);
-}
-
-struct DroppedHolder;
-
-impl Trial for DroppedHolder {
-    fn go<N: ServiceName, R: Wait + Abort>(&self, rt: &R, alloc: Global, service: Service<N>) {
-        let mut service = service;
-        let (one, other) = both(rt, &mut service);
-        drop(one);
-        drop(other);
-        drop(unclosed(rt, alloc, service, CloseFault::StillHeld(0)));
-    }
-}
-
-/// What a dropped worker held is held for good, and is told before who is out.
-#[test]
-fn dropped_segment_is_held(rt: HostRuntime) {
-    tried(&rt, rt.alloc(), &DroppedHolder);
-}
-
-struct SecondHeld;
-
-impl Trial for SecondHeld {
-    fn go<N: ServiceName, R: Wait + Abort>(&self, rt: &R, alloc: Global, service: Service<N>) {
-        let mut service = service;
-        let (mut one, mut other) = both(rt, &mut service);
-        answers(rt, &mut other, refill(MAIN), Answer::Refilled(1));
-        let service = unclosed(rt, alloc, service, CloseFault::StillHeld(0));
-        answers(rt, &mut one, Event::Abandon { segment: 0 }, Answer::Done);
-        let service = unclosed(rt, alloc, service, CloseFault::StillHeld(1));
-        leaves(rt, other);
-        let service = unclosed(rt, alloc, service, CloseFault::StillOut(0));
-        leaves(rt, one);
-        drop(closed(rt, alloc, service));
-    }
-}
-
-/// The lowest segment is told that somebody holds, and then the lowest worker that is out.
-#[test]
-fn lowest_is_told(rt: HostRuntime) {
-    tried(&rt, rt.alloc(), &SecondHeld);
-}
-
-struct SentBefore;
-
-impl Trial for SentBefore {
-    fn go<N: ServiceName, R: Wait + Abort>(&self, rt: &R, alloc: Global, service: Service<N>) {
-        let mut service = service;
-        let (mut one, mut other) = both(rt, &mut service);
-        let x = block(rt, &mut one);
-        answers(rt, &mut other, free(ALICE, x), Answer::Parted);
-        leaves(rt, other);
-        leaves(rt, one);
-        let core = closed(rt, alloc, service);
-        answers_so(rt, core, &[(take(0), Answer::Taken(1))]);
-    }
-}
-
-/// What was sent to a segment is there in the core, for its holder to take in.
-#[test]
-fn sent_block_is_taken_in(rt: HostRuntime) {
-    tried(&rt, rt.alloc(), &SentBefore);
-}
-
-struct HandedBack;
-
-impl Trial for HandedBack {
-    fn go<N: ServiceName, R: Wait + Abort>(&self, rt: &R, alloc: Global, service: Service<N>) {
-        let mut service = service;
-        let (mut one, mut other) = both(rt, &mut service);
-        let x = block(rt, &mut one);
-        let y = block(rt, &mut one);
-        answers(rt, &mut one, write(ALICE, y, 7), Answer::Done);
-        answers(rt, &mut other, free(ALICE, x), Answer::Parted);
-        answers(rt, &mut other, Event::Deliver, Answer::Done);
-        let service = unclosed(rt, alloc, service, CloseFault::StillHeld(0));
-        leaves(rt, one);
-        let mut service = unclosed(rt, alloc, service, CloseFault::StillOut(1));
-        assert!(rt; is_gone(&mut service, 0));
-        assert_eq!(rt; service.policy().workers(), 2);
-        answers(rt, &mut other, refill(MAIN), Answer::Refilled(0));
-        answers(rt, &mut other, take(0), Answer::Taken(1));
-        answers(rt, &mut other, read(ALICE, y), Answer::Value(7));
-        answers(rt, &mut other, refill(MAIN), Answer::Refilled(1));
-        leaves(rt, other);
-        drop(closed(rt, alloc, service));
-    }
-}
-
-/// A service that comes back has behind its locks what it had.
-#[test]
-fn service_comes_back_whole(rt: HostRuntime) {
-    tried(&rt, rt.alloc(), &HandedBack);
+fn services_close_or_go_on(rt: HostRuntime) {
+    meets(&rt, rt.alloc(), DOCUMENT, &CLOSING);
 }

@@ -1,9 +1,10 @@
 //! As a service closes each of its lists comes over, and each of its workers is asked for.
 
-use crate::closed::{answers_so, closed, unclosed};
+use crate::closed::{answers_so, closed};
 use crate::services::{
-    ALICE, MAIN, Trial, answer, answers, both, free, is_tried, leaves, refill, take, tried, worker,
+    ALICE, MAIN, Trial, answer, answers, both, free, is_tried, leaves, refill, take,
 };
+use crate::steps::{Run, Step, meets};
 use hg_close::CloseFault;
 use hg_machine::{Answer, Event};
 use hg_place::{Handle, MAX_SEGMENTS};
@@ -12,9 +13,6 @@ use hg_worker::ServiceName;
 use std::alloc::Global;
 use std::process::Abort;
 use std::sync::Wait;
-
-/// The arena of segment 2.
-const VAULT: u8 = 1;
 
 /// As many workers as a policy may have.
 const MANY: &str = r#"version = 1
@@ -33,22 +31,12 @@ arena = [ {name = "main", segments = 64} ]
 /// How many blocks of a page each a segment has.
 const PAGES: u32 = 16;
 
-/// A block of alice's of an arena.
-fn block_in<N: ServiceName, R: Wait + Abort>(rt: &R, worker: &mut Worker<N>, arena: u8) -> Handle {
-    block_of(rt, worker, arena, 24)
-}
-
-/// The same of so many bytes.
-fn block_of<N: ServiceName, R: Wait + Abort>(
-    rt: &R,
-    worker: &mut Worker<N>,
-    arena: u8,
-    bytes: u64,
-) -> Handle {
+/// A block of alice's of a whole page.
+fn page_of<N: ServiceName, R: Wait + Abort>(rt: &R, worker: &mut Worker<N>) -> Handle {
     let asked = Event::Alloc {
         actor: ALICE,
-        arena,
-        bytes,
+        arena: MAIN,
+        bytes: 4096,
     };
     let Answer::Block(handle) = answer(rt, worker, asked) else {
         panic!(rt; "no block")
@@ -62,38 +50,6 @@ fn sends<N: ServiceName, R: Wait + Abort>(rt: &R, worker: &mut Worker<N>, handle
     answers(rt, worker, Event::Deliver, Answer::Done);
 }
 
-struct SentToEach;
-
-impl Trial for SentToEach {
-    fn go<N: ServiceName, R: Wait + Abort>(&self, rt: &R, alloc: Global, service: Service<N>) {
-        let mut service = service;
-        let (mut one, mut other) = both(rt, &mut service);
-        answers(rt, &mut other, refill(MAIN), Answer::Refilled(1));
-        answers(rt, &mut other, refill(VAULT), Answer::Refilled(2));
-        for arena in [MAIN, MAIN, VAULT] {
-            let handle = block_in(rt, &mut other, arena);
-            sends(rt, &mut one, handle);
-        }
-        leaves(rt, one);
-        leaves(rt, other);
-        let core = closed(rt, alloc, service);
-        let rows = [
-            (refill(MAIN), Answer::Refilled(1)),
-            (refill(VAULT), Answer::Refilled(2)),
-            (take(0), Answer::Taken(0)),
-            (take(1), Answer::Taken(2)),
-            (take(2), Answer::Taken(1)),
-        ];
-        answers_so(rt, core, &rows);
-    }
-}
-
-/// What was sent to each segment is there in the core, on the list of that segment.
-#[test]
-fn each_list_comes_over(rt: HostRuntime) {
-    tried(&rt, rt.alloc(), &SentToEach);
-}
-
 /// All pages of a segment are given out, and the last block is sent there.
 fn filled_and_sent<N: ServiceName, R: Wait + Abort>(
     rt: &R,
@@ -102,9 +58,9 @@ fn filled_and_sent<N: ServiceName, R: Wait + Abort>(
     segment: u8,
 ) {
     for _ in 1..PAGES {
-        assert_eq!(rt; block_of(rt, one, MAIN, 4096).place.segment, segment);
+        assert_eq!(rt; page_of(rt, one).place.segment, segment);
     }
-    let last = block_of(rt, one, MAIN, 4096);
+    let last = page_of(rt, one);
     assert_eq!(rt; last.place.segment, segment);
     sends(rt, other, last);
 }
@@ -126,7 +82,12 @@ fn taken_in_each<R: Abort>(rt: &R, alloc: Global) -> Vec<(Event, Answer)> {
 struct SentToAll;
 
 impl Trial for SentToAll {
-    fn go<N: ServiceName, R: Wait + Abort>(&self, rt: &R, alloc: Global, service: Service<N>) {
+    fn go<N: ServiceName, R: Wait + Abort>(
+        &self,
+        rt: &R,
+        alloc: Global,
+        service: Service<N>,
+    ) -> bool {
         let mut service = service;
         let (mut one, mut other) = both(rt, &mut service);
         filled_and_sent(rt, &mut one, &mut other, 0);
@@ -140,55 +101,88 @@ impl Trial for SentToAll {
         let rows = taken_in_each(rt, alloc);
         answers_so(rt, core, rows.as_slice());
         drop(rows);
+        true
     }
 }
 
-/// So it is of as many segments as a policy may have.
+/// What was sent to each of as many segments as a policy may have is there in the core, on the list
+/// of that segment.
 #[test]
 fn all_lists_come_over(rt: HostRuntime) {
     assert!(&rt; is_tried(&rt, rt.alloc(), WIDE, &SentToAll));
 }
 
-struct LastOut;
+static OUT: [Run; 2] = [
+    // The last of sixteen workers is asked for, too.
+    Run {
+        name: "last_worker_is_out",
+        steps: &[
+            Step::Takes(15),
+            Step::GoesOn(CloseFault::StillOut(15)),
+            Step::Leaves(15),
+            Step::Closes,
+        ],
+        then: &[],
+    },
+    // Of sixteen workers that leave one after the other the lowest is told that is still out.
+    Run {
+        name: "each_worker_is_asked_for",
+        steps: &[
+            Step::Takes(0),
+            Step::Takes(1),
+            Step::Takes(2),
+            Step::Takes(3),
+            Step::Takes(4),
+            Step::Takes(5),
+            Step::Takes(6),
+            Step::Takes(7),
+            Step::Takes(8),
+            Step::Takes(9),
+            Step::Takes(10),
+            Step::Takes(11),
+            Step::Takes(12),
+            Step::Takes(13),
+            Step::Takes(14),
+            Step::Takes(15),
+            Step::GoesOn(CloseFault::StillOut(0)),
+            Step::Leaves(0),
+            Step::GoesOn(CloseFault::StillOut(1)),
+            Step::Leaves(1),
+            Step::GoesOn(CloseFault::StillOut(2)),
+            Step::Leaves(2),
+            Step::GoesOn(CloseFault::StillOut(3)),
+            Step::Leaves(3),
+            Step::GoesOn(CloseFault::StillOut(4)),
+            Step::Leaves(4),
+            Step::GoesOn(CloseFault::StillOut(5)),
+            Step::Leaves(5),
+            Step::GoesOn(CloseFault::StillOut(6)),
+            Step::Leaves(6),
+            Step::GoesOn(CloseFault::StillOut(7)),
+            Step::Leaves(7),
+            Step::GoesOn(CloseFault::StillOut(8)),
+            Step::Leaves(8),
+            Step::GoesOn(CloseFault::StillOut(9)),
+            Step::Leaves(9),
+            Step::GoesOn(CloseFault::StillOut(10)),
+            Step::Leaves(10),
+            Step::GoesOn(CloseFault::StillOut(11)),
+            Step::Leaves(11),
+            Step::GoesOn(CloseFault::StillOut(12)),
+            Step::Leaves(12),
+            Step::GoesOn(CloseFault::StillOut(13)),
+            Step::Leaves(13),
+            Step::GoesOn(CloseFault::StillOut(14)),
+            Step::Leaves(14),
+            Step::GoesOn(CloseFault::StillOut(15)),
+            Step::Leaves(15),
+            Step::Closes,
+        ],
+        then: &[],
+    },
+];
 
-impl Trial for LastOut {
-    fn go<N: ServiceName, R: Wait + Abort>(&self, rt: &R, alloc: Global, service: Service<N>) {
-        let mut service = service;
-        let last = worker(rt, &mut service, 15);
-        let service = unclosed(rt, alloc, service, CloseFault::StillOut(15));
-        leaves(rt, last);
-        drop(closed(rt, alloc, service));
-    }
-}
-
-/// The last of sixteen workers is asked for, too.
 #[test]
-fn last_worker_is_out(rt: HostRuntime) {
-    assert!(&rt; is_tried(&rt, rt.alloc(), MANY, &LastOut));
-}
-
-struct EachOut;
-
-impl Trial for EachOut {
-    fn go<N: ServiceName, R: Wait + Abort>(&self, rt: &R, alloc: Global, service: Service<N>) {
-        let mut service = service;
-        let mut workers = Vec::new(alloc);
-        for number in 0..16u8 {
-            let taken = worker(rt, &mut service, number);
-            workers.push(taken).expect(rt, "memory");
-        }
-        workers.reverse();
-        for number in 0..16u8 {
-            service = unclosed(rt, alloc, service, CloseFault::StillOut(number));
-            leaves(rt, workers.pop().expect(rt, "a worker"));
-        }
-        drop(workers);
-        drop(closed(rt, alloc, service));
-    }
-}
-
-/// Of sixteen workers that leave one after the other the lowest is told that is still out.
-#[test]
-fn each_worker_is_asked_for(rt: HostRuntime) {
-    assert!(&rt; is_tried(&rt, rt.alloc(), MANY, &EachOut));
+fn sixteen_workers_are_asked_for(rt: HostRuntime) {
+    meets(&rt, rt.alloc(), MANY, &OUT);
 }

@@ -2,6 +2,10 @@
 #![tactic(auto)]
 
 #[cfg(test)]
+mod after;
+#[cfg(test)]
+mod asked;
+#[cfg(test)]
 mod closed;
 #[cfg(test)]
 mod closing;
@@ -26,11 +30,15 @@ mod memory;
 #[cfg(test)]
 mod parts;
 #[cfg(test)]
+mod parts_steps;
+#[cfg(test)]
 mod rows_on_service;
 #[cfg(test)]
 mod sending;
 #[cfg(test)]
 mod services;
+#[cfg(test)]
+mod steps;
 #[cfg(test)]
 mod stress;
 #[cfg(test)]

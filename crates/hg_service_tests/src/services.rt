@@ -21,6 +21,9 @@ pub const BOB: Actor = Actor(1);
 
 pub const MAIN: u8 = 0;
 
+/// The arena of segment 2.
+pub const VAULT: u8 = 1;
+
 /// A number that no arena has.
 pub const NOWHERE: u8 = 255;
 
@@ -35,7 +38,13 @@ grant = [ {owner = "alice", to = "bob", rights = ["read", "free"]} ]
 /// What is tried on a new service. It calls a worker by the functions below, which have no clauses,
 /// so that none of what a call does is carried to the next.
 pub trait Trial {
-    fn go<N: ServiceName, R: Wait + Abort>(&self, rt: &R, alloc: Global, service: Service<N>);
+    /// Whether there was memory for what it needs of its own.
+    fn go<N: ServiceName, R: Wait + Abort>(
+        &self,
+        rt: &R,
+        alloc: Global,
+        service: Service<N>,
+    ) -> bool;
 }
 
 /// A document's policy and a table for it, unless memory is refused.
@@ -50,7 +59,7 @@ pub fn made(alloc: Global, document: &str) -> Option<(Policy, LifeTable)>
     }
 }
 
-/// Tries it on a new service of a document's policy. Whether there was memory for one.
+/// Tries it on a new service of a document's policy. Whether there was memory for both.
 pub fn is_tried<R: Wait + Abort, T: Trial>(
     rt: &R,
     alloc: Global,
@@ -78,13 +87,7 @@ fn is_tried_on<N: ServiceName, R: Wait + Abort, T: Trial>(
     let Ok(service) = Service::<N>::open(alloc, policy, table) else {
         return false;
     };
-    trial.go(rt, alloc, service);
-    true
-}
-
-/// Tries it on a new service of the policy above.
-pub fn tried<R: Wait + Abort, T: Trial>(rt: &R, alloc: Global, trial: &T) {
-    assert!(rt; is_tried(rt, alloc, DOCUMENT, trial));
+    trial.go(rt, alloc, service)
 }
 
 /// A worker that nobody has taken yet.
@@ -95,11 +98,6 @@ pub fn worker<N: ServiceName, R: Abort>(rt: &R, service: &mut Service<N>, number
 /// A worker leaves.
 pub fn leaves<N: ServiceName, R: Wait>(rt: &R, worker: Worker<N>) {
     worker.leave(rt);
-}
-
-/// Whether nobody can take the worker of a number.
-pub fn is_gone<N: ServiceName>(service: &mut Service<N>, number: u8) -> bool {
-    service.worker(number).is_none()
 }
 
 /// The two workers, of which the first has taken the first segment of the main arena.
@@ -115,12 +113,7 @@ pub fn both<N: ServiceName, R: Wait + Abort>(
 
 /// A block of 24 bytes of alice's.
 pub fn block<N: ServiceName, R: Abort>(rt: &R, worker: &mut Worker<N>) -> Handle {
-    own_block(rt, &mut worker.own)
-}
-
-/// The same of a worker that waits for nothing.
-pub fn own_block<N: ServiceName>(rt: &impl Abort, worker: &mut hg_worker::Worker<N>) -> Handle {
-    let Answer::Block(handle) = worker.alloc(ALICE, MAIN, 24) else {
+    let Answer::Block(handle) = worker.own.alloc(ALICE, MAIN, 24) else {
         panic!(rt; "no block")
     };
     handle

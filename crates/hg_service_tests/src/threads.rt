@@ -1,12 +1,11 @@
 //! Two workers of a service, each in a thread of its own.
 
 use crate::in_threads::{Tried, in_threads};
-use crate::services::{ALICE, DOCUMENT, Trial, answers, block, both, free, read, tried};
+use crate::services::{ALICE, DOCUMENT, answers, block, both, read};
 use hg_machine::{Answer, Rule};
 use hg_place::Handle;
 use hg_service::{Service, Worker};
 use hg_worker::ServiceName;
-use std::alloc::Global;
 use std::process::Abort;
 use std::sync::Wait;
 use std::sync::atomic::{AtomicU64, Ordering};
@@ -105,24 +104,4 @@ pub fn seen_after_join<N: ServiceName + Send + Sync, R: Threads + Wait + Abort +
 #[test]
 fn parted_is_freed_after_join(rt: HostRuntime) {
     in_threads(&rt, rt.alloc(), DOCUMENT, Tried::SeenAfterJoin);
-}
-
-struct FreedLive;
-
-impl Trial for FreedLive {
-    fn go<N: ServiceName, R: Wait + Abort>(&self, rt: &R, _: Global, service: Service<N>) {
-        let mut service = service;
-        let (mut one, mut other) = both(rt, &mut service);
-        let x = block(rt, &mut one);
-        answers(rt, &mut other, free(ALICE, x), Answer::Parted);
-        drop(one);
-        drop(other);
-        drop(service);
-    }
-}
-
-/// A worker that has never looked there frees a live block, and isn't told that it is stale.
-#[test]
-fn no_invented_stale(rt: HostRuntime) {
-    tried(&rt, rt.alloc(), &FreedLive);
 }
