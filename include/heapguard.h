@@ -209,11 +209,12 @@ HG_MUST_USE hg_reply hg_write_words(hg_core *core, uint32_t worker, uint32_t act
  * what the one that wasn't is answered; value: how many bytes were read or written. What was written
  * before stays, and what stands in the room behind them is as it was. No bytes at all ask for no
  * right and test no block: HG_DONE, but for a closed core, a worker that there isn't and a word of no
- * handle. The offset has 32 bits: of a wider one C cuts off what is above, and that isn't refused. */
+ * handle. An offset behind the block, however far, is HG_OUT_OF_BLOCK, where nothing else refuses
+ * before. */
 HG_MUST_USE hg_reply hg_read_bytes(hg_core *core, uint32_t worker, uint32_t actor, hg_handle block,
-                                   uint32_t first, void *room, size_t count);
+                                   uint64_t first, void *room, size_t count);
 HG_MUST_USE hg_reply hg_write_bytes(hg_core *core, uint32_t worker, uint32_t actor,
-                                    hg_handle block, uint32_t first, const void *bytes,
+                                    hg_handle block, uint64_t first, const void *bytes,
                                     size_t count);
 
 /* All blocks of an owner that the worker holds: for each a Free by the actor, in rising order of
@@ -282,10 +283,10 @@ HG_MUST_USE hg_reply hg_bank_write_words(hg_bank *bank, uint32_t worker, uint32_
                                          hg_bank_handle block, uint32_t first,
                                          const uint64_t *words, size_t count);
 HG_MUST_USE hg_reply hg_bank_read_bytes(hg_bank *bank, uint32_t worker, uint32_t actor,
-                                        hg_bank_handle block, uint32_t first, void *room,
+                                        hg_bank_handle block, uint64_t first, void *room,
                                         size_t count);
 HG_MUST_USE hg_reply hg_bank_write_bytes(hg_bank *bank, uint32_t worker, uint32_t actor,
-                                         hg_bank_handle block, uint32_t first, const void *bytes,
+                                         hg_bank_handle block, uint64_t first, const void *bytes,
                                          size_t count);
 /* All blocks of an owner that the worker holds in one core. */
 HG_MUST_USE hg_reply hg_bank_free_all(hg_bank *bank, uint32_t worker, uint32_t actor, uint32_t core,

@@ -121,9 +121,9 @@ HG_MUST_USE hg_reply hg_worker_write_words(hg_worker *worker, uint32_t actor, hg
  * for its words, one after another. Between two of them another worker may free the block, and then
  * the next is refused; of a word that was refused nothing is written. */
 HG_MUST_USE hg_reply hg_worker_read_bytes(hg_worker *worker, uint32_t actor, hg_handle block,
-                                          uint32_t first, void *room, size_t count);
+                                          uint64_t first, void *room, size_t count);
 HG_MUST_USE hg_reply hg_worker_write_bytes(hg_worker *worker, uint32_t actor, hg_handle block,
-                                           uint32_t first, const void *bytes, size_t count);
+                                           uint64_t first, const void *bytes, size_t count);
 
 /* The blocks that the worker holds and the actor may list, in rising order of their places: HG_DONE
  * with how many there are, each a Look that was answered HG_LISTED, of which as many stand in the

@@ -269,7 +269,7 @@ public:
 
     /// Reads that many bytes from the byte of an offset on, until a word's Read is refused; the value
     /// is how many were read.
-    [[nodiscard]] Reply read_bytes(Worker worker, Tenant actor, Handle block, std::uint32_t first,
+    [[nodiscard]] Reply read_bytes(Worker worker, Tenant actor, Handle block, std::uint64_t first,
                                    void *room, std::size_t count)
     {
         return hg_read_bytes(&core_, number(worker), number(actor), block, first, room, count);
@@ -277,7 +277,7 @@ public:
 
     /// Writes that many bytes from the byte of an offset on, until a word's Read or Write is refused;
     /// the value is how many were written.
-    [[nodiscard]] Reply write_bytes(Worker worker, Tenant actor, Handle block, std::uint32_t first,
+    [[nodiscard]] Reply write_bytes(Worker worker, Tenant actor, Handle block, std::uint64_t first,
                                     const void *bytes, std::size_t count)
     {
         return hg_write_bytes(&core_, number(worker), number(actor), block, first, bytes, count);
@@ -456,14 +456,14 @@ public:
 
     /// As Core::read_bytes.
     [[nodiscard]] Reply read_bytes(Worker worker, Tenant actor, BankHandle block,
-                                   std::uint32_t first, void *room, std::size_t count)
+                                   std::uint64_t first, void *room, std::size_t count)
     {
         return hg_bank_read_bytes(&bank_, number(worker), number(actor), block, first, room, count);
     }
 
     /// As Core::write_bytes.
     [[nodiscard]] Reply write_bytes(Worker worker, Tenant actor, BankHandle block,
-                                    std::uint32_t first, const void *bytes, std::size_t count)
+                                    std::uint64_t first, const void *bytes, std::size_t count)
     {
         return hg_bank_write_bytes(&bank_, number(worker), number(actor), block, first, bytes,
                                    count);
@@ -597,14 +597,14 @@ public:
     }
 
     /// As Core::read_bytes.
-    [[nodiscard]] Reply read_bytes(Tenant actor, Handle block, std::uint32_t first, void *room,
+    [[nodiscard]] Reply read_bytes(Tenant actor, Handle block, std::uint64_t first, void *room,
                                    std::size_t count)
     {
         return hg_worker_read_bytes(&worker_, number(actor), block, first, room, count);
     }
 
     /// As Core::write_bytes.
-    [[nodiscard]] Reply write_bytes(Tenant actor, Handle block, std::uint32_t first,
+    [[nodiscard]] Reply write_bytes(Tenant actor, Handle block, std::uint64_t first,
                                     const void *bytes, std::size_t count)
     {
         return hg_worker_write_bytes(&worker_, number(actor), block, first, bytes, count);

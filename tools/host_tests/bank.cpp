@@ -102,6 +102,8 @@ void use(Bank &bank, const BankHandle (&blocks)[3])
         CHECK(bank.write_bytes(ONE, ANN, block, 65533, "abcd", 4).value == 3);
         CHECK(bank.read_bytes(ONE, ANN, block, 65532, bytes, 5).value == 4);
         CHECK(std::string(bytes, 5) == std::string("\0abc.", 5));
+        CHECK(bank.read_bytes(ONE, ANN, block, std::uint64_t{1} << 32, bytes, 5).status
+              == HG_OUT_OF_BLOCK);
         if (at == 2) break;
         CHECK(bank.free(OTHER, ANN, block).status == HG_PARTED);
         CHECK(bank.deliver(OTHER, core).status == HG_DONE);

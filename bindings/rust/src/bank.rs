@@ -263,7 +263,7 @@ impl Bank {
         worker: Worker,
         actor: Tenant,
         block: BankHandle,
-        first: u32,
+        first: u64,
         room: &mut [u8],
     ) -> Progress {
         let (block, count) = (block.raw(), room.len());
@@ -289,7 +289,7 @@ impl Bank {
         worker: Worker,
         actor: Tenant,
         block: BankHandle,
-        first: u32,
+        first: u64,
         bytes: &[u8],
     ) -> Progress {
         let (block, count) = (block.raw(), bytes.len());

@@ -265,7 +265,7 @@ impl Core {
         worker: Worker,
         actor: Tenant,
         block: Handle,
-        first: u32,
+        first: u64,
         room: &mut [u8],
     ) -> Progress {
         let (word, count) = (block.to_u64(), room.len());
@@ -291,7 +291,7 @@ impl Core {
         worker: Worker,
         actor: Tenant,
         block: Handle,
-        first: u32,
+        first: u64,
         bytes: &[u8],
     ) -> Progress {
         let (word, count) = (block.to_u64(), bytes.len());
@@ -451,6 +451,8 @@ mod tests {
         let past = core.read_bytes(worker, alice, block, 18, &mut bytes);
         assert_eq!((past.done, past.refused), (6, Some(Refusal::OutOfBlock)));
         assert_eq!(&bytes, b"\0\0\0\0\0\0..");
+        let far = core.read_bytes(worker, alice, block, (1 << 32) + 6, &mut bytes);
+        assert_eq!((far.done, far.refused), (0, Some(Refusal::OutOfBlock)));
         assert_eq!(core.read_bytes(worker, alice, block, 6, &mut bytes), all(8));
         assert_eq!(&bytes, b"\0heap\0\0\0");
         let denied = core.write_words(worker, bob, block, 0, &room);

@@ -152,7 +152,7 @@ extern "C" {
         worker: u32,
         actor: u32,
         block: u64,
-        first: u32,
+        first: u64,
         room: *mut u8,
         count: usize,
     ) -> RawReply;
@@ -161,7 +161,7 @@ extern "C" {
         worker: u32,
         actor: u32,
         block: u64,
-        first: u32,
+        first: u64,
         bytes: *const u8,
         count: usize,
     ) -> RawReply;
@@ -252,7 +252,7 @@ extern "C" {
         worker: u32,
         actor: u32,
         block: RawBankHandle,
-        first: u32,
+        first: u64,
         room: *mut u8,
         count: usize,
     ) -> RawReply;
@@ -261,7 +261,7 @@ extern "C" {
         worker: u32,
         actor: u32,
         block: RawBankHandle,
-        first: u32,
+        first: u64,
         bytes: *const u8,
         count: usize,
     ) -> RawReply;
@@ -348,7 +348,7 @@ extern "C" {
         worker: *mut RawWorker,
         actor: u32,
         block: u64,
-        first: u32,
+        first: u64,
         room: *mut u8,
         count: usize,
     ) -> RawReply;
@@ -356,7 +356,7 @@ extern "C" {
         worker: *mut RawWorker,
         actor: u32,
         block: u64,
-        first: u32,
+        first: u64,
         bytes: *const u8,
         count: usize,
     ) -> RawReply;

@@ -312,7 +312,7 @@ impl ServiceWorker {
         &mut self,
         actor: Tenant,
         block: Handle,
-        first: u32,
+        first: u64,
         room: &mut [u8],
     ) -> Progress {
         let (word, count) = (block.to_u64(), room.len());
@@ -336,7 +336,7 @@ impl ServiceWorker {
         &mut self,
         actor: Tenant,
         block: Handle,
-        first: u32,
+        first: u64,
         bytes: &[u8],
     ) -> Progress {
         let (word, count) = (block.to_u64(), bytes.len());

@@ -1,4 +1,11 @@
 pub mod PieceLemmas
 pub mod ByteRuns
+pub mod LaidLemmas
+pub mod BlockRuns
 pub mod CoreLemmas
+pub mod CoreWords
+pub mod CoreLaws
 pub mod BankLemmas
+pub mod BankLaws
+pub mod EndLaws
+pub mod AllowedLaws

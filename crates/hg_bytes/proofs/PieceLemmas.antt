@@ -15,6 +15,11 @@ pub reached :
 reached into zero k low lt = absurd (omega arith)
 reached into (suc m) k low lt = omega arith
 
+-- all bytes lie in the words that they reach into
+pub all_before : (into n : ℕ) → into < 8 → min n (before into (words_for into n)) ≡ n
+all_before into zero low = omega arith
+all_before into (suc m) low = omega arith
+
 pub piece_as :
     (into : ℕ) (xs : List ℕ) (k : ℕ) → into < 8
     → drop (before into k) (take (before into (suc k)) xs) ≡ piece into xs k

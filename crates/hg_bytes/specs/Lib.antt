@@ -1,5 +1,9 @@
 pub mod Pieces
+pub mod Blocks
 pub mod Bytes
 pub mod OfBank
 pub mod OfCore
 pub mod OfWorker
+pub mod Laws
+pub mod Ends
+pub mod Allowed

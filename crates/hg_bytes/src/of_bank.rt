@@ -41,7 +41,7 @@ impl WordStore for Bank {
 }
 
 /// `read_bytes` of a bank's block, after which the bank is sound.
-pub fn read_bank_bytes(bank: &mut Bank, by: &BankBlock, first: u32, room: &mut [u8]) -> Progress
+pub fn read_bank_bytes(bank: &mut Bank, by: &BankBlock, first: u64, room: &mut [u8]) -> Progress
     requires { bank_has by.now bank.old }
     ensures read { ReadsBytes bank_reads bank_writes by.now first room.old result room.new
         bank.old bank.new }
@@ -53,7 +53,7 @@ pub fn read_bank_bytes(bank: &mut Bank, by: &BankBlock, first: u32, room: &mut [
 }
 
 /// `write_bytes` into a bank's block, after which the bank is sound.
-pub fn write_bank_bytes(bank: &mut Bank, by: &BankBlock, first: u32, bytes: &[u8]) -> Progress
+pub fn write_bank_bytes(bank: &mut Bank, by: &BankBlock, first: u64, bytes: &[u8]) -> Progress
     requires { bank_has by.now bank.old }
     ensures written { WritesBytes bank_reads bank_writes by.now first bytes.now result
         bank.old bank.new }

@@ -42,7 +42,7 @@ impl WordStore for Core {
 }
 
 /// `read_bytes` of a core's block, after which the core is sound and its lists are a partition.
-pub fn read_core_bytes(core: &mut Core, by: &CoreBlock, first: u32, room: &mut [u8]) -> Progress
+pub fn read_core_bytes(core: &mut Core, by: &CoreBlock, first: u64, room: &mut [u8]) -> Progress
     requires { core_has by.now core.old }
     ensures read { ReadsBytes core_reads core_writes by.now first room.old result room.new
         core.old core.new }
@@ -54,7 +54,7 @@ pub fn read_core_bytes(core: &mut Core, by: &CoreBlock, first: u32, room: &mut [
 }
 
 /// `write_bytes` into a core's block, after which the core is sound and its lists are a partition.
-pub fn write_core_bytes(core: &mut Core, by: &CoreBlock, first: u32, bytes: &[u8]) -> Progress
+pub fn write_core_bytes(core: &mut Core, by: &CoreBlock, first: u64, bytes: &[u8]) -> Progress
     requires { core_has by.now core.old }
     ensures written { WritesBytes core_reads core_writes by.now first bytes.now result
         core.old core.new }

@@ -6,11 +6,11 @@ ghost use Rattle.hg_bytes.specs.Bytes.{word_index};
 ghost use Rattle.hg_bytes.specs.Pieces.{before, start_in, words_for, laid};
 
 /// The index of the word that is so many behind that of the first byte.
-pub(crate) fn word_index(first: u32, many: usize) -> u32
+pub(crate) fn word_index(first: u64, many: usize) -> u32
     ensures { result ≡ word_index first many }
 {
-    match u32::try_from(many) {
-        Ok(many) => (first / 8).saturating_add(many),
+    match u32::try_from((first / 8).saturating_add(many as u64)) {
+        Ok(index) => index,
         Err(_) => u32::MAX,
     }
 }

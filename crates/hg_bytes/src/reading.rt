@@ -14,7 +14,7 @@ use hg_machine::Answer;
 /// the words that these bytes reach into, one after another, and the first that is refused ends
 /// them. What stands in the room behind the bytes that were read is as it was. An empty room reads
 /// nothing; the words from index 4,294,967,295 on, which no block has, are asked for as that one.
-pub fn read_bytes<S: WordStore>(store: &mut S, by: &S::By, first: u32, room: &mut [u8]) -> Progress
+pub fn read_bytes<S: WordStore>(store: &mut S, by: &S::By, first: u64, room: &mut [u8]) -> Progress
     requires { S.may by.now store.old }
     ensures read { ReadsBytes S.reads S.writes by.now first room.old result room.new
         store.old store.new }

@@ -14,7 +14,7 @@ use hg_machine::Answer;
 /// these bytes reach into, one after another, each behind a Read of it where they don't cover it,
 /// and the first of these calls that is refused ends them. No bytes write nothing; the words from
 /// index 4,294,967,295 on, which no block has, are asked for as that one.
-pub fn write_bytes<S: WordStore>(store: &mut S, by: &S::By, first: u32, bytes: &[u8]) -> Progress
+pub fn write_bytes<S: WordStore>(store: &mut S, by: &S::By, first: u64, bytes: &[u8]) -> Progress
     requires { S.may by.now store.old }
     ensures written { WritesBytes S.reads S.writes by.now first bytes.now result
         store.old store.new }

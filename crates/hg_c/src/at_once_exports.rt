@@ -67,7 +67,7 @@ pub extern "C" fn hg_read_bytes(
     worker: u32,
     actor: u32,
     word: u64,
-    first: u32,
+    first: u64,
     room: &mut [u8],
 ) -> Reply
     ensures { DoesOn host.old worker word
@@ -90,7 +90,7 @@ pub extern "C" fn hg_write_bytes(
     worker: u32,
     actor: u32,
     word: u64,
-    first: u32,
+    first: u64,
     bytes: &[u8],
 ) -> Reply
     ensures { DoesOn host.old worker word

@@ -90,7 +90,7 @@ pub extern "C" fn hg_bank_read_bytes(
     worker: u32,
     actor: u32,
     block: BankBlock,
-    first: u32,
+    first: u64,
     room: &mut [u8],
 ) -> Reply
     ensures { DoesOn host.old worker block.handle
@@ -122,7 +122,7 @@ pub extern "C" fn hg_bank_write_bytes(
     worker: u32,
     actor: u32,
     block: BankBlock,
-    first: u32,
+    first: u64,
     bytes: &[u8],
 ) -> Reply
     ensures { DoesOn host.old worker block.handle

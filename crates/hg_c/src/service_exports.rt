@@ -321,7 +321,7 @@ pub extern "C" fn hg_worker_read_bytes(
     host: &mut HostPart,
     actor: u32,
     word: u64,
-    first: u32,
+    first: u64,
     room: &mut [u8],
 ) -> Reply
     ensures { OnWord word
@@ -344,7 +344,7 @@ pub extern "C" fn hg_worker_write_bytes(
     host: &mut HostPart,
     actor: u32,
     word: u64,
-    first: u32,
+    first: u64,
     bytes: &[u8],
 ) -> Reply
     ensures { OnWord word

@@ -22,7 +22,7 @@ fn read(
     worker: u32,
     actor: Actor,
     block: BankHandle,
-    first: u32,
+    first: u64,
     room: &mut [u8],
 ) -> Reply
     ensures { Does bank.old worker
@@ -46,7 +46,7 @@ fn write(
     worker: u32,
     actor: Actor,
     block: BankHandle,
-    first: u32,
+    first: u64,
     bytes: &[u8],
 ) -> Reply
     ensures { Does bank.old worker
@@ -71,7 +71,7 @@ pub fn serve_read_bytes(
     worker: u32,
     actor: Actor,
     block: BankHandle,
-    first: u32,
+    first: u64,
     room: &mut [u8],
 ) -> Reply
     ensures { DoesAtOnce host.old worker
@@ -93,7 +93,7 @@ pub fn serve_write_bytes(
     worker: u32,
     actor: Actor,
     block: BankHandle,
-    first: u32,
+    first: u64,
     bytes: &[u8],
 ) -> Reply
     ensures { DoesAtOnce host.old worker

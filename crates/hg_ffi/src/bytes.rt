@@ -37,7 +37,7 @@ fn read(
     worker: u32,
     actor: Actor,
     handle: Handle,
-    first: u32,
+    first: u64,
     room: &mut [u8],
 ) -> Reply
     ensures { Does core.old worker
@@ -61,7 +61,7 @@ fn write(
     worker: u32,
     actor: Actor,
     handle: Handle,
-    first: u32,
+    first: u64,
     bytes: &[u8],
 ) -> Reply
     ensures { Does core.old worker
@@ -86,7 +86,7 @@ pub fn serve_read_bytes(
     worker: u32,
     actor: Actor,
     handle: Handle,
-    first: u32,
+    first: u64,
     room: &mut [u8],
 ) -> Reply
     ensures { DoesAtOnce host.old worker
@@ -108,7 +108,7 @@ pub fn serve_write_bytes(
     worker: u32,
     actor: Actor,
     handle: Handle,
-    first: u32,
+    first: u64,
     bytes: &[u8],
 ) -> Reply
     ensures { DoesAtOnce host.old worker

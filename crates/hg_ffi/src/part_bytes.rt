@@ -14,7 +14,7 @@ use hg_service_replies::HostedPart;
 use std::alloc::Global;
 
 /// Reads bytes of a block, where the part is a worker.
-fn read(part: &mut HostedPart, actor: Actor, handle: Handle, first: u32, room: &mut [u8]) -> Reply
+fn read(part: &mut HostedPart, actor: Actor, handle: Handle, first: u64, room: &mut [u8]) -> Reply
     ensures { PartReadsBytes part.old actor handle first room.old result part.new room.new }
 {
     match part {
@@ -26,7 +26,7 @@ fn read(part: &mut HostedPart, actor: Actor, handle: Handle, first: u32, room: &
 }
 
 /// Writes bytes into a block, where the part is a worker.
-fn write(part: &mut HostedPart, actor: Actor, handle: Handle, first: u32, bytes: &[u8]) -> Reply
+fn write(part: &mut HostedPart, actor: Actor, handle: Handle, first: u64, bytes: &[u8]) -> Reply
     ensures { PartWritesBytes part.old actor handle first bytes.now result part.new }
 {
     match part {
@@ -43,7 +43,7 @@ pub fn read_bytes_of_part(
     host: &mut HostPart,
     actor: Actor,
     handle: Handle,
-    first: u32,
+    first: u64,
     room: &mut [u8],
 ) -> Reply
     ensures { ReadsPart host.old actor handle first room.old result host.new room.new }
@@ -62,7 +62,7 @@ pub fn write_bytes_of_part(
     host: &mut HostPart,
     actor: Actor,
     handle: Handle,
-    first: u32,
+    first: u64,
     bytes: &[u8],
 ) -> Reply
     ensures { WritesPart host.old actor handle first bytes.now result host.new }

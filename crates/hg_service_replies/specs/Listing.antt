@@ -22,7 +22,8 @@ pub record AreTold (rows : List Row) (room told : List Reply) : Type 0 where
       → slice_get told k ≡ Some (reply_of (answer.Listed row))
   pub rest : (k : ℕ) → length rows ≤ k → slice_get told k ≡ slice_get room k
 
--- a worker shows them and tells how many they are, or memory was refused and nothing is done
+-- a worker shows them and tells how many they are, or memory was refused and nothing is done; and
+-- what is shared stays
 pub record WorkerLists (old : HostedWorker) (actor : Actor) (room : List Reply) (reply : Reply)
     (new : HostedPart) (told : List Reply) : Type 0 where
   pub left : HostedWorker
@@ -32,6 +33,7 @@ pub record WorkerLists (old : HostedWorker) (actor : Actor) (room : List Reply) 
       MatchOption shown ((reply ≡ no_memory) × (told ≡ room) × Serves Stays old left)
       (λ rows. (reply ≡ valued 2 (length rows)) × AreTold rows room told
       × Serves (ListsAll actor rows) old left)
+  pub shared : left.shared ≡ old.shared
 
 -- any other part is answered as closed, and stays, as the room does
 abbrev pub PartLists

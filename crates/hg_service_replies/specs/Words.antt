@@ -70,12 +70,14 @@ module _ (actor : Actor) (handle : Handle) (first : ℕ) where
         × Writes actor handle (word_index first done) word said mid new
         × (reply ≡ stopped done said))
 
--- a worker reads them; any other part is answered as closed, and stays, as the room does
+-- a worker reads them, and what is shared stays; any other part is answered as closed, and stays, as
+-- the room does
 abbrev pub PartReads
     : HostedPart → Actor → Handle → ℕ → List ℕ → Reply → HostedPart → List ℕ → Type 0
 PartReads (part.Worker old) actor handle first room reply new told =
     (left : HostedWorker) × (new ≡ part.Worker left)
     × Serves (ReadsAll actor handle first room reply told) old left
+    × (left.shared ≡ old.shared)
 PartReads (part.Service old) actor handle first room reply new told =
     IsOther (part.Service old) reply new × (told ≡ room)
 PartReads (part.Core old) actor handle first room reply new told =
@@ -83,11 +85,12 @@ PartReads (part.Core old) actor handle first room reply new told =
 PartReads part.Gone actor handle first room reply new told =
     IsOther part.Gone reply new × (told ≡ room)
 
--- a worker writes them; any other part is answered as closed, and stays
+-- a worker writes them, and what is shared stays; any other part is answered as closed, and stays
 abbrev pub PartWrites : HostedPart → Actor → Handle → ℕ → List ℕ → Reply → HostedPart → Type 0
 PartWrites (part.Worker old) actor handle first words reply new =
     (left : HostedWorker) × (new ≡ part.Worker left)
     × Serves (WritesAll actor handle first words reply) old left
+    × (left.shared ≡ old.shared)
 PartWrites (part.Service old) actor handle first words reply new =
     IsOther (part.Service old) reply new
 PartWrites (part.Core old) actor handle first words reply new = IsOther (part.Core old) reply new

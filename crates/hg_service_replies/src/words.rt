@@ -56,7 +56,9 @@ fn read_all(
     first: u32,
     room: &mut [u64],
 ) -> Reply
-    ensures { Serves (ReadsAll actor handle first room.old result room.new) worker.old worker.new }
+    ensures read { Serves (ReadsAll actor handle first room.old result room.new) worker.old
+        worker.new }
+    ensures alone { worker.new.shared ≡ worker.old.shared }
 {
     for at in 0..room.len() {
         match worker.read(actor, handle, word_index(first, at)) {
@@ -74,7 +76,8 @@ fn write_all(
     first: u32,
     words: &[u64],
 ) -> Reply
-    ensures { Serves (WritesAll actor handle first words.now result) worker.old worker.new }
+    ensures written { Serves (WritesAll actor handle first words.now result) worker.old worker.new }
+    ensures alone { worker.new.shared ≡ worker.old.shared }
 {
     for at in 0..words.len() {
         let word = word_at(words, at);

@@ -16,9 +16,10 @@ returns-in-Ok c =
         subst (λ rows. AreTold rows c.args.room.now c.tell_rows.new.room) c.deref.ensures.value c.tell_rows.ensures,
         c.in-Ok.ensures.served,
       );
+      shared = c.list.ensures.alone;
     }
 
 pub returns-in-Err : goal.returns-in-Err
 returns-in-Err c =
     subst (λ p. PartLists p c.args.actor c.args.room.now c.plain-in-Err.result (part.Worker c.list.new.self) c.args.room.now) (sym c.in-Worker.is)
-    record { left = c.list.new.self; now = refl; shown = None; does = (c.plain-in-Err.ensures, refl, c.in-Err.ensures.served) }
+    record { left = c.list.new.self; now = refl; shown = None; does = (c.plain-in-Err.ensures, refl, c.in-Err.ensures.served); shared = c.list.ensures.alone }

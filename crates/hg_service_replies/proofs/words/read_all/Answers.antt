@@ -9,6 +9,7 @@ loop-at-init c = record {
   all = refl;
   each = serves_nothing (ReadsEach c.args.actor c.args.handle c.args.first 0 []) (λ x. refl) c.args.worker.now;
   rest = refl;
+  alone = refl;
 }
 
 pub loop-at-preserved : goal.loop-at-preserved
@@ -31,10 +32,11 @@ loop-at-preserved c =
           (c.word_index.ensures ∙ ap (word_index c.args.first) same) read))))
           before.each c.read.ensures.served;
       rest = rest_set room c.args.room.now at word before.rest;
+      alone = c.read.ensures.alone ∙ before.alone;
     }
 
-pub returns-in_default : goal.returns-in_default
-returns-in_default c = let before = c.loop-at.invariant in
+pub returns-in_default-clause-read : goal.returns-in_default-clause-read
+returns-in_default-clause-read c = let before = c.loop-at.invariant in
     serves_then
     (λ x y z each read. record {
       done = c.loop-at.at;
@@ -50,8 +52,8 @@ returns-in_default c = let before = c.loop-at.invariant in
       );
     }) before.each c.read.ensures.served
 
-pub returns : goal.returns
-returns c = let before = c.loop-at.invariant in
+pub returns-clause-read : goal.returns-clause-read
+returns-clause-read c = let before = c.loop-at.invariant in
     serves_like
     (λ x y each. record {
       done = c.loop-at.at;

@@ -9,4 +9,5 @@ invariant-loop-at l = record {
   all : length l.room ≡ length l.fn.room;
   each : Serves (ReadsEach l.actor l.handle l.first 0 (take l.at l.room)) l.fn.worker l.worker;
   rest : drop l.at l.room ≡ drop l.at l.fn.room;
+  alone : l.worker.shared ≡ l.fn.worker.shared;
 }

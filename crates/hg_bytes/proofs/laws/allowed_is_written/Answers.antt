@@ -1,0 +1,5 @@
+use Rattle.hg_bytes.proofs.AllowedLaws.{allowed_is_written as law}
+use Rattle.hg_bytes.proofs.laws.allowed_is_written.Goals as goal
+
+pub returns : goal.returns
+returns c = law

@@ -1,0 +1,38 @@
+-- How a call for bytes of a core ends.
+use Rattle.std.specs.Prelude.{◌≡◌, ◌≢◌, ◌⊎◌, ◌<◌, ◌≤◌, ◌+◌, ◌/◌, ◌%◌, ℕ, List, length, min}
+use Rattle.std.specs.Prelude.{MatchOption}
+use Rattle.hg_machine.specs.declared.Answer.{Answer}
+use Rattle.hg_machine.specs.declared.Answer.TheVariants as answer
+use Rattle.hg_machine.specs.Lists.{Kept}
+use Rattle.hg_bytes.specs.Bytes.{ReadsBytes, WritesBytes}
+use Rattle.hg_bytes.specs.OfCore.{core_reads, core_writes}
+use Rattle.hg_bytes.specs.declared.of_core.CoreBlock.{CoreBlock}
+use Rattle.hg_bytes.specs.declared.progress.Progress.{Progress}
+
+-- the index of the word in which a byte lies
+abbrev pub index_at : ℕ → ℕ
+index_at byte = min (byte / 8) 4294967295
+
+-- all bytes are read; or those of the words before one whose Read is refused
+abbrev pub ReadsEnd : Type 0
+ReadsEnd =
+    (by : CoreBlock) (first : ℕ) (room told : List ℕ) (made : Progress) (old new : Kept)
+    → ReadsBytes core_reads core_writes by first room made told old new
+    → MatchOption made.refused (made.done ≡ length room)
+    (λ said. (made.done < length room) × (1 ≤ made.done → (first + made.done) % 8 ≡ 0)
+    × ((word : ℕ) → said ≢ answer.Value word)
+    × core_reads by (index_at (first + made.done)) said new new)
+
+-- all bytes are written; or those of the words before one whose Write is refused, or whose Read is
+-- where the bytes don't fill it
+abbrev pub WritesEnd : Type 0
+WritesEnd =
+    (by : CoreBlock) (first : ℕ) (bytes : List ℕ) (made : Progress) (old new : Kept)
+    → WritesBytes core_reads core_writes by first bytes made old new
+    → MatchOption made.refused (made.done ≡ length bytes)
+    (λ said. (made.done < length bytes) × (1 ≤ made.done → (first + made.done) % 8 ≡ 0)
+    × ((((word : ℕ) → said ≢ answer.Value word)
+    × ((first + made.done) % 8 ≡ 0 → length bytes < made.done + 8)
+    × core_reads by (index_at (first + made.done)) said new new)
+    ⊎ ((value : ℕ) × (said ≢ answer.Done)
+    × core_writes by (index_at (first + made.done)) value said new new)))
