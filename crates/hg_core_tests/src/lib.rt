@@ -1,4 +1,4 @@
-//! Thousands of seeded events of four workers on the core, beside a plain machine.
+//! Calls of the core that no command of the program makes.
 #![tactic(auto)]
 
 #[cfg(test)]

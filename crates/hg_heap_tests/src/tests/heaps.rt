@@ -3,7 +3,6 @@
 ghost use Rattle.hg_place.specs.Lives.{IsLiveWord};
 
 use hg_heap::{Heap, Refused};
-use hg_machine::Row;
 use hg_place::{Actor, Handle, MAX_SEGMENTS, PAGE_PLACES, Place, PlainWords, SEGMENT_PAGES, pack};
 use hg_policy::Policy;
 use hg_policy_text::read_policy;
@@ -96,41 +95,6 @@ impl Tried {
         self.heap.read(&self.policy, actor, handle, index)
     }
 
-    /// Reads a word of a block into room for one.
-    pub fn read_into(&mut self, actor: Actor, handle: Handle, index: u32) -> Result<u64, Refused> {
-        if !self.heap.holds(handle.place.segment) {
-            return Err(Refused::Elsewhere);
-        }
-        let mut room = [0; 1];
-        let far = self
-            .heap
-            .read_words(&self.policy, actor, handle, index, &mut room);
-        match far.refused {
-            Some(refused) => Err(refused),
-            None => Ok(room[0]),
-        }
-    }
-
-    /// Writes a word of a block out of room for one.
-    pub fn write_from(
-        &mut self,
-        actor: Actor,
-        handle: Handle,
-        index: u32,
-        value: u64,
-    ) -> Result<(), Refused> {
-        if !self.heap.holds(handle.place.segment) {
-            return Err(Refused::Elsewhere);
-        }
-        let far = self
-            .heap
-            .write_words(&self.policy, actor, handle, index, &[value]);
-        match far.refused {
-            Some(refused) => Err(refused),
-            None => Ok(()),
-        }
-    }
-
     /// Writes a word of a block.
     pub fn write(
         &mut self,
@@ -140,26 +104,6 @@ impl Tried {
         value: u64,
     ) -> Result<(), Refused> {
         self.heap.write(&self.policy, actor, handle, index, value)
-    }
-
-    /// Looks at a place of a held segment; and the word that was shown.
-    pub fn look(&mut self, rt: &impl Abort, actor: Actor, place: Place) -> (Option<Row>, u64) {
-        assert!(rt; self.heap.holds(place.segment));
-        let mut shown = 0;
-        let row = self.heap.look(&self.policy, actor, place, &mut shown);
-        (row, shown)
-    }
-
-    /// What a request for a block must be answered.
-    pub fn allocs(
-        &mut self,
-        rt: &impl Abort,
-        actor: Actor,
-        arena: u8,
-        bytes: u64,
-        expected: Result<Handle, Refused>,
-    ) {
-        assert_eq!(rt; self.alloc(rt, actor, arena, bytes), expected);
     }
 }
 
