@@ -1,8 +1,8 @@
 /* bank_careless: a host that looks at no status, with a bank. It asks for the numbers of names that
  * the policy lacks, of a bank that is closed, for the workers that hold segments which nobody holds,
  * for cores more than there may be, and for blocks and segments that it doesn't get; it names blocks
- * of cores that aren't open, and acts by what it is given. It is told nothing, and the block that is
- * there stays as it was.
+ * of cores that aren't open, and acts by what it is given, with words and with bytes. It is told
+ * nothing, and the block that is there stays as it was.
  */
 #include "heapguard.h"
 #include <stdio.h>
@@ -33,6 +33,22 @@ static uint32_t arena(hg_bank *bank, const char *name)
 /* What a host does that doesn't look. */
 static void drop(hg_reply reply) { (void)reply; }
 
+/* Bytes of a block, of any part of it and of more than it has. */
+static uint64_t bytes_told(uint32_t worker, hg_bank *bank, uint32_t actor, hg_bank_handle block)
+{
+    static const uint32_t FIRST[] = {0, 3, 8, 8 * WORDS - 1, 8 * WORDS, UINT32_MAX};
+    unsigned char bytes[16 * WORDS] = {0};
+    uint64_t all = 0;
+    for (unsigned n = 0; n < sizeof FIRST / sizeof *FIRST; n++) {
+        all |= hg_bank_write_bytes(bank, worker, actor, block, FIRST[n], bytes, sizeof bytes).value;
+        all |= hg_bank_write_bytes(bank, worker, actor, block, FIRST[n], NULL, 0).value;
+        all |= hg_bank_read_bytes(bank, worker, actor, block, FIRST[n], bytes, sizeof bytes).value;
+        all |= hg_bank_read_bytes(bank, worker, actor, block, FIRST[n], NULL, 0).value;
+    }
+    for (unsigned at = 0; at < sizeof bytes; at++) all |= bytes[at];
+    return all;
+}
+
 /* All that a tenant can do by a worker with a block of its own, and with one that it was told of.
  * Gives what the calls told: 0 where they told nothing. */
 static uint64_t told(uint32_t worker, hg_bank *bank, uint32_t actor, uint32_t where,
@@ -44,6 +60,7 @@ static uint64_t told(uint32_t worker, hg_bank *bank, uint32_t actor, uint32_t wh
     all |= hg_bank_look(bank, worker, actor, core, place).value;
     all |= hg_bank_read_words(bank, worker, actor, block, 0, words, WORDS).value;
     all |= hg_bank_write_words(bank, worker, actor, block, 0, words, WORDS).value;
+    all |= bytes_told(worker, bank, actor, block) | bytes_told(worker, bank, actor, own);
     for (uint32_t at = 0; at < WORDS; at++) {
         all |= words[at];
         all |= hg_bank_read(bank, worker, actor, block, at).value;
@@ -94,6 +111,7 @@ int main(void)
     for (unsigned n = 0; n < sizeof OTHERS / sizeof *OTHERS; n++) {
         hg_bank_handle other = {OTHERS[n], block.handle};
         failed += hg_bank_read(&bank, WORKER, alice, other, 0).value != 0;
+        failed += bytes_told(WORKER, &bank, alice, other) != 0;
         drop(hg_bank_write(&bank, WORKER, alice, other, 0, 1));
         drop(hg_bank_free(&bank, WORKER, alice, other));
     }

@@ -135,6 +135,8 @@ static void try_as_core(hg_core core)
     CHECK(is_plain(hg_refill(&core, 0, 0), HG_CLOSED));
     CHECK(is_plain(hg_read_words(&core, 0, 0, 1, 0, words, WORDS), HG_CLOSED));
     CHECK(is_plain(hg_write_words(&core, 0, 0, 1, 0, words, WORDS), HG_CLOSED));
+    CHECK(is_plain(hg_read_bytes(&core, 0, 0, 1, 0, room, ROOM), HG_CLOSED) && room[0] == 0);
+    CHECK(is_plain(hg_write_bytes(&core, 0, 0, 1, 0, room, ROOM), HG_CLOSED));
     CHECK(is_plain(hg_free_all(&core, 0, 0, 0), HG_CLOSED));
     CHECK(is_plain(hg_workers(&core), HG_CLOSED));
     CHECK(is_plain(hg_segments(&core), HG_CLOSED));
@@ -272,6 +274,8 @@ static void try_wide(hg_bank *bank, hg_bank_handle block)
         CHECK(is_plain(hg_bank_refill(bank, wide, 0), HG_NO_WORKER));
         CHECK(is_plain(hg_bank_read_words(bank, wide, 0, block, 0, NULL, 0), HG_NO_WORKER));
         CHECK(is_plain(hg_bank_write_words(bank, wide, 0, block, 0, NULL, 0), HG_NO_WORKER));
+        CHECK(is_plain(hg_bank_read_bytes(bank, wide, 0, block, 0, room, 9), HG_NO_WORKER));
+        CHECK(is_plain(hg_bank_write_bytes(bank, wide, 0, block, 0, "nine bytes", 9), HG_NO_WORKER));
         CHECK(is_plain(hg_bank_free_all(bank, wide, 0, 0, 0), HG_NO_WORKER));
         CHECK(is_plain(hg_bank_free_all(bank, 0, 0, (uint32_t)block.core, wide), HG_DONE));
         CHECK(is_plain(hg_bank_free_all(bank, 0, wide, (uint32_t)block.core, 0), HG_DONE));
@@ -279,6 +283,8 @@ static void try_wide(hg_bank *bank, hg_bank_handle block)
         CHECK(is_plain(hg_bank_free(bank, 0, wide, block), HG_STRANGER));
         CHECK(is_plain(hg_bank_read(bank, 0, wide, block, 0), HG_STRANGER));
         CHECK(is_plain(hg_bank_write(bank, 0, wide, block, 0, 1), HG_STRANGER));
+        CHECK(is_plain(hg_bank_read_bytes(bank, 0, wide, block, 0, room, 9), HG_STRANGER));
+        CHECK(is_plain(hg_bank_write_bytes(bank, 0, wide, block, 0, "nine bytes", 9), HG_STRANGER));
         CHECK(is_plain(hg_bank_look(bank, 0, wide, 0, place), HG_STRANGER));
         CHECK(is_plain(hg_bank_alloc(bank, 0, 0, wide, 8), HG_FOREIGN_ARENA));
         CHECK(is_plain(hg_bank_refill(bank, 0, wide), HG_NO_SEGMENT));
@@ -307,9 +313,17 @@ static void try_absent(hg_bank *bank, hg_bank_handle block)
         CHECK(is_plain(hg_bank_write(bank, 0, 0, away, 0, 1), HG_STALE));
         CHECK(is_plain(hg_bank_read_words(bank, 0, 0, away, 0, &word, 1), HG_STALE));
         CHECK(is_plain(hg_bank_write_words(bank, 0, 0, away, 0, &word, 1), HG_STALE));
+        CHECK(is_plain(hg_bank_read_bytes(bank, 0, 0, away, 3, &word, 7), HG_STALE));
+        CHECK(is_plain(hg_bank_write_bytes(bank, 0, 0, away, 3, &word, 7), HG_STALE));
+        CHECK(is_plain(hg_bank_write_bytes(bank, 0, 0, away, 0, &word, 8), HG_STALE));
+        CHECK(is_plain(hg_bank_read_bytes(bank, 0, 0, away, 3, NULL, 0), HG_DONE));
         CHECK(is_plain(hg_bank_read(bank, 0, 2, away, 0), HG_STRANGER));
+        CHECK(is_plain(hg_bank_read_bytes(bank, 0, 2, away, 0, &word, 8), HG_STRANGER));
+        CHECK(is_plain(hg_bank_write_bytes(bank, 0, 2, away, 0, &word, 8), HG_STRANGER));
         away.handle = 0;
         CHECK(is_plain(hg_bank_read(bank, 0, 0, away, 0), HG_NO_BLOCK));
+        CHECK(is_plain(hg_bank_read_bytes(bank, 0, 0, away, 0, &word, 8), HG_NO_BLOCK));
+        CHECK(is_plain(hg_bank_write_bytes(bank, 0, 0, away, 0, &word, 8), HG_NO_BLOCK) && !word);
         if (ABSENT[n] > UINT32_MAX) continue;
         uint32_t core = (uint32_t)ABSENT[n];
         CHECK(is_plain(hg_bank_look(bank, 0, 0, core, place), HG_STALE));

@@ -1,7 +1,7 @@
 /* careless: a host that looks at no status. It asks for the numbers of names that the policy lacks,
  * of bytes that are no text, and of a core that is closed, and for the workers that hold segments
- * which nobody holds, and acts by what it is given: it is told nothing, and the block that is there
- * stays as it was.
+ * which nobody holds, and acts by what it is given, with words and with bytes: it is told nothing, and
+ * the block that is there stays as it was.
  */
 #include "heapguard.h"
 #include <stdio.h>
@@ -37,6 +37,22 @@ static uint32_t holder(hg_core *core, uint32_t segment)
 /* What a host does that doesn't look. */
 static void drop(hg_reply reply) { (void)reply; }
 
+/* Bytes of a block, of any part of it and of more than it has. */
+static uint64_t bytes_told(uint32_t worker, hg_core *core, uint32_t actor, hg_handle block)
+{
+    static const uint32_t FIRST[] = {0, 3, 8, 8 * WORDS - 1, 8 * WORDS, UINT32_MAX};
+    unsigned char bytes[16 * WORDS] = {0};
+    uint64_t all = 0;
+    for (unsigned n = 0; n < sizeof FIRST / sizeof *FIRST; n++) {
+        all |= hg_write_bytes(core, worker, actor, block, FIRST[n], bytes, sizeof bytes).value;
+        all |= hg_write_bytes(core, worker, actor, block, FIRST[n], NULL, 0).value;
+        all |= hg_read_bytes(core, worker, actor, block, FIRST[n], bytes, sizeof bytes).value;
+        all |= hg_read_bytes(core, worker, actor, block, FIRST[n], NULL, 0).value;
+    }
+    for (unsigned at = 0; at < sizeof bytes; at++) all |= bytes[at];
+    return all;
+}
+
 /* All that a tenant can do by a worker with a block of its own, and with one that it was told of.
  * Gives what the calls told: 0 where they told nothing. */
 static uint64_t told_by(uint32_t worker, hg_core *core, uint32_t actor, uint32_t where,
@@ -44,6 +60,7 @@ static uint64_t told_by(uint32_t worker, hg_core *core, uint32_t actor, uint32_t
 {
     hg_handle own = hg_alloc(core, worker, actor, where, 64).value;
     uint64_t all = own | hg_look(core, worker, actor, hg_place_of(block)).value;
+    all |= bytes_told(worker, core, actor, block) | bytes_told(worker, core, actor, own);
     for (uint32_t at = 0; at < WORDS; at++) {
         all |= hg_read(core, worker, actor, block, at).value;
         all |= hg_read(core, worker, actor, own, at).value;

@@ -16,13 +16,13 @@ static unsigned checks, failed;
         }                                                              \
     } while (0)
 
-static int is_plain(hg_reply reply, unsigned status)
+static inline int is_plain(hg_reply reply, unsigned status)
 {
     return reply.status == status && !reply.owner && !reply.detail && !reply.value;
 }
 
 /* What a look-up is answered that finds no number. */
-static int is_nobody(hg_reply reply, unsigned status)
+static inline int is_nobody(hg_reply reply, unsigned status)
 {
     return reply.status == status && !reply.owner && !reply.detail && reply.value == 255;
 }

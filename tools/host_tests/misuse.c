@@ -151,6 +151,8 @@ static void try_wide(hg_core *core, hg_handle block)
         CHECK(is_plain(hg_refill(core, wide, 0), HG_NO_WORKER));
         CHECK(is_plain(hg_read_words(core, wide, 0, block, 0, NULL, 0), HG_NO_WORKER));
         CHECK(is_plain(hg_write_words(core, wide, 0, block, 0, NULL, 0), HG_NO_WORKER));
+        CHECK(is_plain(hg_read_bytes(core, wide, 0, block, 0, room, 9), HG_NO_WORKER));
+        CHECK(is_plain(hg_write_bytes(core, wide, 0, block, 0, "nine bytes", 9), HG_NO_WORKER));
         CHECK(is_plain(hg_free_all(core, wide, 0, 0), HG_NO_WORKER));
         CHECK(is_plain(hg_free_all(core, 0, 0, wide), HG_DONE));
         CHECK(is_plain(hg_free_all(core, 0, wide, 0), HG_DONE));
@@ -158,6 +160,8 @@ static void try_wide(hg_core *core, hg_handle block)
         CHECK(is_plain(hg_free(core, 0, wide, block), HG_STRANGER));
         CHECK(is_plain(hg_read(core, 0, wide, block, 0), HG_STRANGER));
         CHECK(is_plain(hg_write(core, 0, wide, block, 0, 1), HG_STRANGER));
+        CHECK(is_plain(hg_read_bytes(core, 0, wide, block, 0, room, 9), HG_STRANGER));
+        CHECK(is_plain(hg_write_bytes(core, 0, wide, block, 0, "nine bytes", 9), HG_STRANGER));
         CHECK(is_plain(hg_look(core, 0, wide, hg_place_of(block)), HG_STRANGER));
         CHECK(is_plain(hg_alloc(core, 0, 0, wide, 8), HG_FOREIGN_ARENA));
         CHECK(is_plain(hg_refill(core, 0, wide), HG_NO_SEGMENT));

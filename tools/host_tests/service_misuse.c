@@ -263,7 +263,10 @@ static void try_open(void)
     for (unsigned n = 0; n < sizeof WIDE / sizeof *WIDE; n++) {
         CHECK(is_plain(hg_worker_alloc(one, WIDE[n], 0, 8), HG_STRANGER));
         CHECK(is_plain(hg_worker_alloc(one, 0, WIDE[n], 8), HG_FOREIGN_ARENA));
+        char room[9] = "";
         CHECK(is_plain(hg_worker_read(one, WIDE[n], made.value, 0), HG_STRANGER));
+        CHECK(is_plain(hg_worker_read_bytes(one, WIDE[n], made.value, 0, room, 9), HG_STRANGER));
+        CHECK(is_plain(hg_worker_write_bytes(one, WIDE[n], made.value, 0, room, 9), HG_STRANGER));
         CHECK(is_plain(hg_worker_refill(one, WIDE[n]), HG_NO_SEGMENT));
         CHECK(is_plain(hg_worker_take(one, WIDE[n]), HG_NOT_HELD));
         CHECK(is_plain(hg_worker_abandon(one, WIDE[n]), HG_NOT_HELD));

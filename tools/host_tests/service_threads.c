@@ -4,105 +4,25 @@
  * is served. In the end each leaves, the service becomes a core, and what lives there is what
  * stands in the places, each with the word that was written in it.
  */
-#include "heapguard_service.h"
-#include <pthread.h>
+#define TEST "service_threads"
+#include "serving.h"
 #include <stdatomic.h>
-#include <stdio.h>
 #include <stdlib.h>
-#include <string.h>
 
-enum { MOST = 16, PLACES = 512, TENANT = 0, ARENA = 0, TIDY = 300 };
-
-static const char POLICY[] =
-    "version = 1\n"
-    "workers = %u\n"
-    "tenant = [ {name = \"host\", limit = 1000000000} ]\n"
-    "arena = [ {name = \"main\", segments = 48} ]\n";
+enum { PLACES = 512, TIDY = 300 };
 
 /* Handles of blocks that live, and 0. */
 static _Atomic uint64_t places[PLACES];
 
-typedef struct thread {
-    pthread_t id;
-    hg_worker worker;
-    uint64_t seed, events, made, freed, rivals, again, wrong;
-} thread;
-
-static uint64_t next(thread *of)
-{
-    uint64_t x = of->seed += UINT64_C(0x9e3779b97f4a7c15);
-    x = (x ^ x >> 30) * UINT64_C(0xbf58476d1ce4e5b9);
-    x = (x ^ x >> 27) * UINT64_C(0x94d049bb133111eb);
-    return x ^ x >> 31;
-}
-
-static void wrong(thread *of, const char *call, hg_reply reply)
-{
-    if (of->wrong++ == 0) printf("service_threads: %s: %s\n", call, hg_status_text(reply.status));
-}
-
-/* Makes a call again as long as it is answered so; that is one event. */
-#define ASKING(of, reply, call)                                          \
-    do {                                                                 \
-        (of)->events++;                                                  \
-        for ((reply) = (call); (reply).status == HG_AGAIN; (of)->again++) \
-            (reply) = (call);                                            \
-    } while (0)
-
-/* Frees a block; whether this ended its life. */
-static int free_block(thread *of, hg_handle block)
-{
-    of->events++;
-    hg_reply reply = hg_worker_free(&of->worker, TENANT, block);
-    if (reply.status == HG_PARTED) {
-        hg_reply sent;
-        ASKING(of, sent, hg_worker_deliver(&of->worker));
-        if (sent.status != HG_DONE) wrong(of, "deliver", sent);
-    }
-    int ended = reply.status == HG_DONE || reply.status == HG_PARTED;
-    if (!ended && reply.status != HG_STALE && reply.status != HG_ALREADY_FREED)
-        wrong(of, "free", reply);
-    of->freed += (unsigned)ended;
-    return ended;
-}
-
-/* Takes in what others freed, and gives back what is empty. */
-static void tidy(thread *of)
-{
-    hg_reply reply;
-    for (uint32_t segment = 0; segment < 48; segment++) {
-        if (hg_worker_holds(&of->worker, segment).value != 1) continue;
-        ASKING(of, reply, hg_worker_take(&of->worker, segment));
-        if (reply.status != HG_TAKEN) wrong(of, "take", reply);
-        if (next(of) % 64 == 0) {
-            ASKING(of, reply, hg_worker_abandon(&of->worker, segment));
-            if (reply.status != HG_DONE) wrong(of, "abandon", reply);
-        }
-    }
-    of->events++;
-    reply = hg_worker_collect(&of->worker);
-    if (reply.status != HG_PAGES) wrong(of, "collect", reply);
-}
-
 /* A block with its own handle in its first word, or 0 where there is no room anywhere. */
 static hg_handle new_block(thread *of)
 {
-    for (;;) {
-        of->events++;
-        hg_reply made = hg_worker_alloc(&of->worker, TENANT, ARENA, 1 + next(of) % 512);
-        if (made.status == HG_BLOCK) {
-            of->events++;
-            hg_reply done = hg_worker_write(&of->worker, TENANT, made.value, 0, made.value);
-            if (done.status != HG_DONE) wrong(of, "write", done);
-            of->made++;
-            return made.value;
-        }
-        if (made.status != HG_NO_ROOM) wrong(of, "alloc", made);
-        hg_reply more;
-        ASKING(of, more, hg_worker_refill(&of->worker, ARENA));
-        if (more.status == HG_NO_SEGMENT) return 0;
-        if (more.status != HG_REFILLED) wrong(of, "refill", more);
-    }
+    hg_handle block = alloc_block(of, 1 + next(of) % 512);
+    if (block == 0) return 0;
+    of->events++;
+    hg_reply done = hg_worker_write(&of->worker, TENANT, block, 0, block);
+    if (done.status != HG_DONE) wrong(of, "write", done);
+    return block;
 }
 
 static uint64_t most;
@@ -134,7 +54,7 @@ static uint64_t compare(hg_core *core, uint64_t *lives)
 {
     uint64_t unlike = 0;
     while (hg_refill(core, 0, ARENA).status == HG_REFILLED) {}
-    for (uint32_t place = 0; place < 48 * 8192; place++) {
+    for (uint32_t place = 0; place < SEGMENTS * 8192; place++) {
         hg_reply row = hg_look(core, 0, TENANT, place);
         if (row.status != HG_LISTED) continue;
         (*lives)++;
@@ -155,15 +75,11 @@ int main(int count, char **words)
     if (threads < 1 || threads > MOST || events < 1) return 2;
     most = events / threads;
     static thread all[MOST];
-    char policy[sizeof POLICY + 8];
-    int length = snprintf(policy, sizeof policy, POLICY, threads);
+    hg_worker *workers[MOST];
     hg_service service = HG_SERVICE_INIT;
     hg_core core = HG_CORE_INIT;
-    if (hg_service_open(&service, policy, (size_t)length, NULL, 0).status != HG_DONE) return 1;
-    for (unsigned n = 0; n < threads; n++) {
-        all[n].seed = n + 1;
-        if (hg_service_worker(&service, n, &all[n].worker).status != HG_DONE) return 1;
-    }
+    for (unsigned n = 0; n < threads; n++) workers[n] = &all[n].worker, all[n].seed = n + 1;
+    if (!open_service(&service, workers, threads)) return 1;
     for (unsigned n = 0; n < threads; n++)
         if (pthread_create(&all[n].id, NULL, serve, &all[n]) != 0) return 1;
     /* The service may be asked meanwhile. */
