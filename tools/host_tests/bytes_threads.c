@@ -8,6 +8,7 @@
 #define TEST "bytes_threads"
 #include "all_are.h"
 #include "serving.h"
+#include <sched.h>
 #include <stdatomic.h>
 #include <stdlib.h>
 #include <string.h>
@@ -180,10 +181,14 @@ static void free_shared(server *of, _Atomic uint64_t *place, hg_handle block, ui
 }
 
 static uint64_t most;
+static unsigned threads;
+static _Atomic unsigned begun;
 
 static void *serve(void *given)
 {
     server *of = given;
+    /* All begin at once, or the first is done before there is another. */
+    for (atomic_fetch_add(&begun, 1); atomic_load(&begun) < threads;) sched_yield();
     while (of->by.events < most) {
         unsigned n = below(of, PLACES), what = below(of, 8);
         hg_handle block = atomic_load(&places[n]);
@@ -215,7 +220,7 @@ static int has(hg_core *core, hg_handle block, const unsigned char *wanted, uint
 }
 
 /* How many blocks were left, and how many of them aren't in the core as they were left. */
-static uint64_t compare(hg_core *core, const server *all, unsigned threads, uint64_t *lives)
+static uint64_t compare(hg_core *core, const server *all, uint64_t *lives)
 {
     uint64_t unlike = 0;
     while (hg_refill(core, 0, ARENA).status == HG_REFILLED) {}
@@ -245,7 +250,7 @@ static void add(server *sum, const server *more)
 int main(int count, char **words)
 {
     uint64_t events = count > 1 ? strtoull(words[1], NULL, 10) : 200000, lives = 0;
-    unsigned threads = count > 2 ? (unsigned)strtoul(words[2], NULL, 10) : 2;
+    threads = count > 2 ? (unsigned)strtoul(words[2], NULL, 10) : 2;
     if (threads < 1 || threads > MOST || events < 1) return 2;
     most = events / threads;
     static server all[MOST];
@@ -259,7 +264,7 @@ int main(int count, char **words)
     for (unsigned n = 0; n < threads; n++) pthread_join(all[n].by.id, NULL);
     hg_reply closed = hg_service_close(&service, &core);
     if (closed.status != HG_DONE) return printf(TEST ": close: %u\n", closed.status), 1;
-    uint64_t unlike = compare(&core, all, threads, &lives);
+    uint64_t unlike = compare(&core, all, &lives);
     server *sum = &all[0];
     for (unsigned n = 1; n < threads; n++) add(sum, &all[n]);
     uint64_t faults = sum->by.wrong + unlike + (sum->by.made != sum->by.freed + lives);
