@@ -2,9 +2,8 @@
 use Rattle.std.proofs.Common.{◌≡◌, ℕ, ◌<◌, List, [], ◌∷◌, length, slice_get, Option, None, Some, sym, ap, ◌∙◌, subst, length-set}
 use Rattle.std.specs.Prelude.{Contains, IfSome}
 use Rattle.std.proofs.lemmas.List.{length-map}
-use Rattle.hg_lists.specs.Repeats.{HasNoRepeats}
 use Rattle.hg_lists.specs.Lists.{Lists, list_of, without, with_front, without_entry, AreApart}
-use Rattle.hg_lists.proofs.Listed.{list_of-without, without-first, without_entry-nowhere, Contains-first}
+use Rattle.hg_lists.proofs.Listed.{without_entry-nowhere, Contains-first}
 use Rattle.hg_queue.specs.declared.page_queues.TheConstants.{PAGES}
 use Rattle.hg_queue.specs.Queues.{queue_of, IsQueued, AreQueues, IsRight}
 
@@ -41,20 +40,6 @@ removed_nowhere old new queues page seen e away =
     let nowhere : (key : ℕ) → ¬ Contains (list_of old key) page =
     λ key on. away (key, subst (λ (qs : List (List ℕ)). Contains (queue_of qs key) page) seen on) in
     ap (λ (l : Lists). l.by_key) e ∙ ap (λ (l : Lists). l.by_key) (without_entry-nowhere old page nowhere) ∙ seen
-
--- what is left of a list without its first
-first_out : (pages : List ℕ) (page : ℕ) → HasNoRepeats pages → slice_get pages 0 ≡ Some page → pages ≡ page ∷ without page pages
-first_out [] page once e = cc
-first_out (x ∷ xs) page once e =
-    let same : x ≡ page = cc in
-    subst (λ (p : ℕ). x ∷ xs ≡ p ∷ without p (x ∷ xs)) same (ap (λ (ys : List ℕ). x ∷ ys) (sym (without-first x xs once)))
-
-pub first_parted : (old new : Lists) (queues : List (List ℕ)) (key page : ℕ) → old.by_key ≡ queues → new ≡ without_entry old page → AreApart old
-    → slice_get (queue_of queues key) 0 ≡ Some page → queue_of queues key ≡ page ∷ queue_of new.by_key key
-first_parted old new queues key page seen e apart first =
-    let rest : list_of new key ≡ without page (list_of old key) = ap (λ (l : Lists). list_of l key) e ∙ list_of-without old page key in
-    let same : list_of old key ≡ queue_of queues key = ap (λ (qs : List (List ℕ)). queue_of qs key) seen in
-    sym same ∙ first_out (list_of old key) page (apart.once key) (ap (λ (xs : List ℕ). slice_get xs 0) same ∙ first) ∙ ap (λ (xs : List ℕ). page ∷ xs) (sym rest)
 
 -- the first of a queue is a page
 pub first_below : (lists : Lists) (key : ℕ) (first : Option ℕ) → IsRight lists → first ≡ slice_get (list_of lists key) 0 → IfSome first (λ page. page < PAGES)

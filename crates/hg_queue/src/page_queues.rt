@@ -72,19 +72,6 @@ impl PageQueues {
         self.lists.remove(page);
     }
 
-    /// Takes out the page at the front of a queue, once it has no place to give out any more.
-    pub fn part_full(&mut self, page: u16)
-        requires page { page < PAGES }
-        requires front { (key : ℕ) × (slice_get (queue_of self.old key) 0 ≡ Some page) }
-        ensures parted { (key : ℕ) → slice_get (queue_of self.old key) 0 ≡ Some page
-            → queue_of self.old key ≡ page ∷ queue_of self.new key }
-        ensures removed { self.new ≡ map (without page) self.old }
-        ensures queues { AreQueues self.new }
-    {
-        let queues = &mut self.lists;
-        queues.remove(page);
-    }
-
     /// The page at the front of a key's queue.
     pub fn front(&self, arena: u8, class: Class) -> Option<u16>
         requires { arena < ARENAS }

@@ -25,7 +25,7 @@ fn part(queues: &mut PageQueues, arena: u8, class: Class) -> Option<u16>
     requires { arena < ARENAS }
 {
     let page = queues.front(arena, class)?;
-    queues.part_full(page);
+    queues.remove(page);
     Some(page)
 }
 
