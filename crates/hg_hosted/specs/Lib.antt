@@ -12,3 +12,4 @@ pub mod Closing
 pub mod Steps
 pub mod Waiting
 pub mod Reaching
+pub mod Charges

@@ -4,6 +4,7 @@
 //! call waits for another.
 #![tactic(auto)]
 
+mod charging;
 mod closing;
 mod leaving;
 mod of_service;

@@ -17,3 +17,4 @@ pub mod Judged
 pub mod WorkerLaws
 pub mod Replaced
 pub mod Copied
+mod Charging

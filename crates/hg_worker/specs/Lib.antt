@@ -14,3 +14,4 @@ pub mod States
 pub mod Workers
 pub mod WorkerLaws
 pub mod Missing
+pub mod Charged

@@ -1,14 +1,18 @@
 //! What a worker has, without its service's name.
 
-ghost use Rattle.std.specs.Prelude.{◌≡◌, ◌<◌, ◌+◌, ◌*◌, length, option_map};
+ghost use Rattle.std.specs.Prelude.{◌≡◌, ◌<◌, ◌≤◌, ◌+◌, ◌*◌, ◌^◌, length, option_map};
 ghost use Rattle.hg_place.specs.declared.geometry.TheConstants.{SEGMENT_PLACES};
 ghost use Rattle.hg_machine.specs.SoundPolicy.{IsSoundPolicy};
+ghost use Rattle.hg_heap.specs.Charges.{charge_in};
 ghost use Rattle.hg_heap.specs.Held.{is_held};
 ghost use Rattle.hg_heap.specs.Policies.{AreOf};
+ghost use Rattle.hg_segment.specs.declared.charges.TheConstants.{TENANTS};
 ghost use Rattle.hg_table.specs.Named.{table_of_worker};
 ghost use Rattle.hg_table.specs.Seats.{part_on};
+ghost use Rattle.hg_worker.specs.Charged.{AreKept};
 ghost use Rattle.hg_worker.specs.Hands.{KnowsHand};
-ghost use Rattle.hg_worker.specs.Seats.{number_in, part_of_seat, AreOnTable, IsInReach};
+ghost use Rattle.hg_worker.specs.Seats.{number_in, records_in, part_of_seat};
+ghost use Rattle.hg_worker.specs.Seats.{AreOnTable, IsInReach};
 
 use hg_heap::Heap;
 use hg_place::{Handle, Place};
@@ -59,5 +63,18 @@ impl WorkerState {
             Some(handle) => Some(handle.place),
             None => None,
         }
+    }
+
+    /// What a tenant is charged for the open places of the segments that the worker holds, in
+    /// bytes, 32 GiB at most; a number that no tenant may have is charged nothing.
+    pub fn charge(&self, tenant: u8) -> u64
+        ensures counted { tenant < TENANTS
+            → result ≡ charge_in records_in self.now.heap.segments tenant }
+        ensures nobody { ¬ tenant < TENANTS → result ≡ 0 }
+        ensures few { result ≤ 2 ^ 35 }
+        ensures kept { AreKept self.now.heap.segments }
+    {
+        self.heap.settled();
+        self.heap.charge(tenant)
     }
 }

@@ -1,0 +1,12 @@
+use Rattle.std.proofs.Common.{◌≤◌, Some, length, refl, ap, arith}
+use Rattle.std.proofs.lemmas.Option.{slice_get_past}
+use Rattle.hg_bank_service.proofs.Calls.{absent_serves}
+use Rattle.hg_bank_service.proofs.worker.BankWorker.counting.Goals as goal
+
+pub returns-then-from-len : goal.returns-then-from-len
+returns-then-from-len c =
+    let old = c.args.self.now in
+    let past : length old.workers.items ≤ c.args.core =
+    omega (arith, old.workers.ok.0, c.if-from-len.true, c.from.ensures, c.len.ensures) in
+    absent_serves c.args.core c.args.event old _ (slice_get_past old.workers.items c.args.core past)
+    record { told = ap Some c.absent.ensures; same = refl }

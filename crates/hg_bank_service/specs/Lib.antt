@@ -1,0 +1,16 @@
+pub mod Has
+pub mod Sums
+pub mod Order
+pub mod Named
+pub mod Listing
+pub mod Choosing
+pub mod Allocating
+pub mod Refilling
+pub mod Searching
+pub mod Dealing
+pub mod New
+pub mod Rows
+pub mod Idle
+pub mod Leaving
+pub mod Closing
+pub mod Laws

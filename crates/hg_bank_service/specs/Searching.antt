@@ -1,0 +1,24 @@
+-- How a search for a segment ends.
+use Rattle.std.specs.Prelude.{ℕ, List, length, Option, Some, None}
+use Rattle.hg_machine.specs.declared.Answer.{Answer}
+use Rattle.hg_machine.specs.declared.Answer.TheVariants as answer
+use Rattle.hg_hosted.specs.declared.worker.HostedWorker.{HostedWorker}
+use Rattle.hg_bank_service.specs.Choosing.{AreAsked, IsServed}
+use Rattle.hg_bank_service.specs.Refilling.{AnswersRefill, RefillWaits}
+use Rattle.hg_bank_service.specs.declared.refilling.Found.{Found}
+use Rattle.hg_bank_service.specs.declared.refilling.Found.TheVariants as found
+
+-- the segment that an answer gives
+abbrev pub segment_given : Answer → Option ℕ
+segment_given (answer.Refilled segment) = Some segment
+segment_given other = None
+
+-- those before a core have none, and it gives one, or another call has its segments; or none has one
+abbrev pub EndsSo : ℕ → ℕ → Found → List HostedWorker → List HostedWorker → Type 0
+EndsSo arena current (found.Segment segment) old new =
+    IsServed (AnswersRefill arena answer.NoSegment)
+    (AnswersRefill arena (answer.Refilled segment.segment)) current segment.core old new
+EndsSo arena current (found.Busy core) old new =
+    IsServed (AnswersRefill arena answer.NoSegment) (RefillWaits arena) current core old new
+EndsSo arena current found.Nothing old new =
+    AreAsked (AnswersRefill arena answer.NoSegment) current (length old) old new

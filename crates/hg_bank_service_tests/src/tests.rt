@@ -1,0 +1,6 @@
+mod closing;
+mod opened;
+mod refused;
+mod same;
+mod threads;
+mod worked;
