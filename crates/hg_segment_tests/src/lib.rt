@@ -1,5 +1,5 @@
-//! Worked calls: on sizes, slot words, lists, pages, queues and segments, and the same seeded calls
-//! on plain models of them.
+//! Tests of what is made below a heap, of the words of slots and handles, and of slot words that
+//! threads share.
 #![tactic(auto)]
 
 #[cfg(test)]

@@ -1,5 +1,5 @@
 use Rattle.hg_table.specs.Named.{table_of}
-use Rattle.hg_table_tests.proofs.two_parts.two_parts.Given as goal
+use Rattle.hg_segment_tests.proofs.tests.two_parts.two_parts.Given as goal
 
 -- the table that was just made
 abbrev pub ghosts-parted : goal.ghosts-parted

@@ -3,7 +3,7 @@
 ghost use Rattle.std.specs.Prelude.{◌≡◌};
 ghost use Rattle.hg_table.specs.Named.{table_of};
 
-use crate::policies::policy;
+use crate::tests::policies::policy;
 use hg_table::{LifeTable, Seats, TableName};
 use std::alloc::{AllocError, Global};
 use std::marker::Brand;
@@ -18,7 +18,7 @@ fn opened<N: TableName>(alloc: Global, table: LifeTable) -> Result<(usize, usize
 
 // The seats are there, or memory was refused: for a run in which requests are refused in turn.
 #[test]
-fn table_refused_in_turn(rt: HostRuntime) {
+fn seats_refused_in_turn(rt: HostRuntime) {
     let alloc = rt.alloc();
     let Ok(policy) = policy(alloc) else {
         return;

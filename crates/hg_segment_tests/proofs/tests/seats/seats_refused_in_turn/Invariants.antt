@@ -1,5 +1,5 @@
 use Rattle.hg_table.specs.Named.{table_of}
-use Rattle.hg_table_tests.proofs.refused.table_refused_in_turn.Given as goal
+use Rattle.hg_segment_tests.proofs.tests.seats.seats_refused_in_turn.Given as goal
 
 -- the table that was just made
 abbrev pub ghosts-opened : goal.ghosts-opened

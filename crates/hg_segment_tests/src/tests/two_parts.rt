@@ -6,15 +6,22 @@ ghost use Rattle.hg_place.specs.Standings.{slot_of};
 ghost use Rattle.hg_table.specs.Seats.{word_at};
 ghost use Rattle.hg_table.specs.Named.{table_of};
 
-use crate::both_words::live;
-use crate::policies::policy;
-use hg_place::{Place, SlotWords, Standing};
+use crate::tests::policies::policy;
+use hg_place::{Place, SlotWords, Standing, pack};
 use hg_table::{LifeTable, Seats, SegmentSeat, TableName, WorkerSeat};
 use std::alloc::Global;
 use std::marker::Brand;
 use std::process::Abort;
 use std::test::Fail;
 use std::thread::{Threads, join};
+
+/// The word of a live block of tenant 7.
+fn live(rt: &impl Abort, generation: u32) -> u64
+    ensures { IsLiveWord result }
+{
+    assert!(rt; generation > 0);
+    pack(generation, 7, true)
+}
 
 /// A place of segment 0.
 fn place() -> Place
@@ -74,7 +81,7 @@ fn parted<N: TableName + Send + Sync, R: Threads + Abort + Sync>(
     let mut two = workers.pop().ok_or("worker 0")?;
     let place = place();
     let generation = open(rt, &mut seat, place);
-    let expected = live(rt, generation, 7);
+    let expected = live(rt, generation);
     assert_eq!(rt; take(rt, &mut seat, place), Err(expected));
     let (first, second) = join(
         rt,
