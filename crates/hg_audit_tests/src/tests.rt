@@ -1,7 +1,7 @@
 mod asked;
+mod at_once;
 mod damaged_parts;
 mod each_step;
-mod event_rows;
 mod policies;
 mod refused;
-mod seeded;
+mod runs;

@@ -3,15 +3,16 @@
 ghost use Rattle.std.specs.Prelude.{IsTrue};
 ghost use Rattle.hg_audit.specs.Handed.{IsComplete};
 
+use crate::tests::asked::{Asked, Block, Row, Told};
+use crate::tests::each_step::{opened, serve};
 use crate::tests::policies::{LARGE_BLOCKS, ONE_LIFE, OTHER_ARENAS, policy_of};
+use crate::tests::runs::{ALICE, MAIN, X};
 use hg_core::{AuditFault, Core, Parts};
-use hg_place::{Actor, Handle, Place, PlainWords};
+use hg_place::{Place, PlainWords};
 use hg_pool::Pool;
 use hg_segment::Segment;
 use std::alloc::Global;
 use std::process::Abort;
-
-const ALICE: Actor = Actor(0);
 
 /// A place by its segment, its page and its index there.
 #[derive(Clone, Copy)]
@@ -20,7 +21,6 @@ struct At(u8, u8, u16);
 /// What is done to parts.
 #[derive(Clone, Copy)]
 enum Damage {
-    Nothing,
     /// A segment is taken out of the pool.
     Picked(u8),
     /// Another segment of that number is put into the pool.
@@ -39,9 +39,9 @@ enum Damage {
 
 /// What an audit tells.
 #[derive(Clone, Copy)]
-enum Told {
+enum Found {
     Segment(u8),
-    Place(u8, u8, u16),
+    Place(At),
 }
 
 /// A place.
@@ -56,54 +56,28 @@ fn place(rt: &impl Abort, at: At) -> Place {
     }
 }
 
-/// A block of alice's with so many bytes.
-fn block(rt: &impl Abort, core: &mut Core, bytes: u64) -> Handle {
-    assert!(rt; core.policy().workers() == 2);
-    core.alloc(0, ALICE, 0, bytes).expect(rt, "a block")
-}
+/// Of page 0 the place is live in its second life; of page 1 the second place is on the remote list
+/// of segment 0, the first in the hand of worker 1, and the others are home; and a live block lies
+/// over the pages 2 and 3.
+static USED: [Row; 10] = [
+    Row(0, Asked::Refill(MAIN), Told::Refilled(0)),
+    Row(0, Asked::Alloc(ALICE, 4096), Told::Block(0, 0, 1)),
+    Row(0, Asked::Free(ALICE, X), Told::Done),
+    Row(0, Asked::Alloc(ALICE, 4096), Told::Block(0, 0, 2)),
+    Row(0, Asked::Alloc(ALICE, 24), Told::Block(1, 0, 1)),
+    Row(0, Asked::Alloc(ALICE, 24), Told::Block(1, 1, 1)),
+    Row(0, Asked::Alloc(ALICE, 8192), Told::Block(2, 0, 1)),
+    Row(1, Asked::Free(ALICE, Block(1, 1, 1)), Told::Parted),
+    Row(1, Asked::Deliver, Told::Done),
+    Row(1, Asked::Free(ALICE, Block(1, 0, 1)), Told::Parted),
+];
 
-/// Worker 0 frees a block, which is home again.
-fn free(rt: &impl Abort, core: &mut Core, handle: Handle) {
-    assert!(rt; core.policy().workers() == 2);
-    assert!(rt; core.free(0, ALICE, handle).is_ok());
-}
-
-/// Worker 1 frees a block, which it then has in hand.
-fn part(rt: &impl Abort, core: &mut Core, handle: Handle) {
-    assert!(rt; core.policy().workers() == 2);
-    assert!(rt; core.free(1, ALICE, handle).is_ok());
-}
-
-/// A core whose worker 0 has refilled the main arena.
-fn refilled(rt: &impl Abort, alloc: Global) -> Core {
-    let mut core = Core::open(alloc, policy_of(rt, alloc, LARGE_BLOCKS)).expect(rt, "memory");
-    assert!(rt; core.policy().workers() == 2);
-    assert!(rt; core.refill(0, 0).is_ok());
-    core
-}
-
-/// Worker 1 delivers what it has in hand.
-fn deliver(rt: &impl Abort, core: &mut Core) {
-    assert!(rt; core.policy().workers() == 2);
-    assert!(rt; core.deliver(1).is_ok());
-}
-
-/// Worker 0 holds segment 0. There the place of page 0 is live in its second life; of page 1 the
-/// first is in the hand of worker 1, the second on the remote list, and the others home; and a live
-/// block lies over the pages 2 and 3.
+/// The parts of a core whose worker 0 holds segment 0, after those events.
 fn parts(rt: &impl Abort, alloc: Global) -> Parts {
-    let mut core = refilled(rt, alloc);
-    let first = block(rt, &mut core, 4096);
-    free(rt, &mut core, first);
-    let first = block(rt, &mut core, 4096);
-    let second = block(rt, &mut core, 24);
-    let third = block(rt, &mut core, 24);
-    let large = block(rt, &mut core, 8192);
-    assert_eq!(rt; first.generation, 2);
-    assert_eq!(rt; large.place, place(rt, At(0, 2, 0)));
-    part(rt, &mut core, third);
-    deliver(rt, &mut core);
-    part(rt, &mut core, second);
+    let mut core = opened(rt, alloc, LARGE_BLOCKS);
+    for row in &USED {
+        serve(rt, &mut core, row);
+    }
     core.into_parts()
 }
 
@@ -147,7 +121,6 @@ fn fill(rt: &impl Abort, parts: &mut Parts, worker: usize, hand: Option<Place>) 
 /// Damages parts.
 fn inflict(rt: &impl Abort, alloc: Global, parts: &mut Parts, damage: Damage) {
     match damage {
-        Damage::Nothing => (),
         Damage::Picked(segment) => pick(rt, parts, segment),
         Damage::Twin(segment) => put_twin(rt, alloc, parts, segment),
         Damage::OtherArenas => parts.policy = policy_of(rt, alloc, OTHER_ARENAS),
@@ -181,31 +154,29 @@ fn refused(rt: &impl Abort, alloc: Global, parts: Parts) -> (Parts, AuditFault) 
 }
 
 /// The fault that is told.
-fn fault(rt: &impl Abort, told: Told) -> AuditFault {
+fn fault(rt: &impl Abort, told: Found) -> AuditFault {
     match told {
-        Told::Segment(segment) => AuditFault::Segment(segment),
-        Told::Place(segment, page, index) => {
-            AuditFault::Place(place(rt, At(segment, page, index)))
-        }
+        Found::Segment(segment) => AuditFault::Segment(segment),
+        Found::Place(at) => AuditFault::Place(place(rt, at)),
     }
 }
 
 /// Of damaged parts an audit tells this fault, and tells it again of the parts that come back.
-fn tells(rt: &impl Abort, alloc: Global, row: Row) {
-    let Row(first, second, told) = row;
+fn tells(rt: &impl Abort, alloc: Global, case: &Case) {
+    let Case(done, told) = case;
     let mut damaged = parts(rt, alloc);
-    inflict(rt, alloc, &mut damaged, first);
-    inflict(rt, alloc, &mut damaged, second);
+    for damage in *done {
+        inflict(rt, alloc, &mut damaged, *damage);
+    }
     let (damaged, once) = refused(rt, alloc, damaged);
-    assert_eq!(rt; once, fault(rt, told));
+    assert_eq!(rt; once, fault(rt, *told));
     let (damaged, again) = refused(rt, alloc, damaged);
     assert_eq!(rt; again, once);
     drop(damaged);
 }
 
 /// What is done to the parts, and what an audit tells.
-#[derive(Clone, Copy)]
-struct Row(Damage, Damage, Told);
+struct Case(&'static [Damage], Found);
 
 /// The places of the parts that are live, in a hand, sent, and home; one of a page that a block
 /// covers; and one of a segment that the policy lacks.
@@ -221,77 +192,50 @@ const COVERED: At = At(0, 3, 0);
 
 const BEYOND: At = At(63, 15, 511);
 
-/// One kind of damage each.
-static ONCE: [Row; 13] = [
-    Row(Damage::Picked(1), Damage::Nothing, Told::Segment(1)),
-    Row(Damage::Picked(2), Damage::Nothing, Told::Segment(2)),
-    Row(Damage::Twin(0), Damage::Nothing, Told::Segment(0)),
-    Row(Damage::Twin(5), Damage::Nothing, Told::Segment(5)),
-    Row(Damage::OtherArenas, Damage::Nothing, Told::Segment(1)),
-    Row(Damage::FewerLives, Damage::Nothing, Told::Segment(0)),
-    Row(Damage::Sent(LIVE), Damage::Nothing, Told::Place(0, 0, 0)),
-    Row(Damage::Sent(HELD), Damage::Nothing, Told::Place(0, 1, 0)),
-    Row(
-        Damage::InHand(0, HOME),
-        Damage::Nothing,
-        Told::Place(0, 1, 2),
+/// One kind of damage each; then two at once: the lowest segment is told before any place, and the
+/// lowest place.
+static CASES: [Case; 20] = [
+    Case(&[Damage::Picked(1)], Found::Segment(1)),
+    Case(&[Damage::Picked(2)], Found::Segment(2)),
+    Case(&[Damage::Twin(0)], Found::Segment(0)),
+    Case(&[Damage::Twin(5)], Found::Segment(5)),
+    Case(&[Damage::OtherArenas], Found::Segment(1)),
+    Case(&[Damage::FewerLives], Found::Segment(0)),
+    Case(&[Damage::Sent(LIVE)], Found::Place(LIVE)),
+    Case(&[Damage::Sent(HELD)], Found::Place(HELD)),
+    Case(&[Damage::InHand(0, HOME)], Found::Place(HOME)),
+    Case(&[Damage::InHand(0, HELD)], Found::Place(HELD)),
+    Case(&[Damage::InHand(0, COVERED)], Found::Place(COVERED)),
+    Case(&[Damage::Emptied(1)], Found::Place(HELD)),
+    Case(&[Damage::InHand(0, BEYOND)], Found::Place(BEYOND)),
+    Case(&[Damage::Picked(2), Damage::Twin(0)], Found::Segment(0)),
+    Case(&[Damage::Sent(LIVE), Damage::Picked(1)], Found::Segment(1)),
+    Case(
+        &[Damage::InHand(0, SENT), Damage::Sent(LIVE)],
+        Found::Place(LIVE),
     ),
-    Row(
-        Damage::InHand(0, HELD),
-        Damage::Nothing,
-        Told::Place(0, 1, 0),
+    Case(
+        &[Damage::InHand(0, BEYOND), Damage::Emptied(1)],
+        Found::Place(HELD),
     ),
-    Row(
-        Damage::InHand(0, COVERED),
-        Damage::Nothing,
-        Told::Place(0, 3, 0),
+    Case(
+        &[Damage::InHand(0, COVERED), Damage::Sent(HOME)],
+        Found::Place(HOME),
     ),
-    Row(Damage::Emptied(1), Damage::Nothing, Told::Place(0, 1, 0)),
-    Row(
-        Damage::InHand(0, BEYOND),
-        Damage::Nothing,
-        Told::Place(63, 15, 511),
+    Case(
+        &[Damage::InHand(0, At(2, 3, 4)), Damage::Sent(At(1, 15, 511))],
+        Found::Place(At(1, 15, 511)),
     ),
-];
-
-/// Two at once: the lowest segment is told before any place, and the lowest place.
-static TWICE: [Row; 7] = [
-    Row(Damage::Picked(2), Damage::Twin(0), Told::Segment(0)),
-    Row(Damage::Sent(LIVE), Damage::Picked(1), Told::Segment(1)),
-    Row(
-        Damage::InHand(0, SENT),
-        Damage::Sent(LIVE),
-        Told::Place(0, 0, 0),
-    ),
-    Row(
-        Damage::InHand(0, BEYOND),
-        Damage::Emptied(1),
-        Told::Place(0, 1, 0),
-    ),
-    Row(
-        Damage::InHand(0, COVERED),
-        Damage::Sent(HOME),
-        Told::Place(0, 1, 2),
-    ),
-    Row(
-        Damage::InHand(0, At(2, 3, 4)),
-        Damage::Sent(At(1, 15, 511)),
-        Told::Place(1, 15, 511),
-    ),
-    Row(
-        Damage::InHand(0, At(40, 0, 0)),
-        Damage::Sent(At(2, 0, 511)),
-        Told::Place(2, 0, 511),
+    Case(
+        &[Damage::InHand(0, At(40, 0, 0)), Damage::Sent(At(2, 0, 511))],
+        Found::Place(At(2, 0, 511)),
     ),
 ];
 
 // Each kind of damage is told, and the lower of two.
 #[test]
 fn damaged_parts(rt: HostRuntime) {
-    for row in &ONCE {
-        tells(&rt, rt.alloc(), *row);
-    }
-    for row in &TWICE {
-        tells(&rt, rt.alloc(), *row);
+    for case in &CASES {
+        tells(&rt, rt.alloc(), case);
     }
 }

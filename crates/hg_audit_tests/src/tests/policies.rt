@@ -29,17 +29,6 @@ arena = [ {name = "main", segments = 2}, {name = "vault", segments = 1, exclusiv
 grant = [ {owner = "alice", to = "bob", rights = ["read", "free"]} ]
 "#;
 
-/// An arena of one segment for both tenants and one for alice, where each place is given out three
-/// times.
-pub const TWO_SEGMENTS: &str = r#"version = 2
-workers = 2
-max_generation = 3
-tenant = [ {name = "alice", limit = 90000}, {name = "bob", limit = 2000} ]
-arena = [ {name = "main", segments = 1}, {name = "vault", segments = 1, exclusive = ["alice"]} ]
-grant = [ {owner = "alice", to = "bob", rights = ["read", "list", "free"]} ]
-deny = [ {owner = "alice", to = "bob", rights = ["read"]} ]
-"#;
-
 /// With other arenas: segment 1 is the vault's.
 pub const OTHER_ARENAS: &str = r#"version = 1
 workers = 2
