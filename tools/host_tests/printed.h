@@ -6,14 +6,14 @@
 #include <inttypes.h>
 #include <stdio.h>
 
-static void put_handle(FILE *out, hg_handle block)
+static inline void put_handle(FILE *out, hg_handle block)
 {
     fprintf(out, "@%" PRIu32 ".%" PRIu32 ".%" PRIu32 ".%" PRIu32, hg_segment_of(block),
             hg_page_of(block), hg_index_of(block), hg_generation_of(block));
 }
 
 /* A row of a listing: the handle left in 21 places, the owner in 16, the bytes right in 5. */
-static void put_row(FILE *out, const hg_core *core, hg_reply reply)
+static inline void put_row(FILE *out, const hg_core *core, hg_reply reply)
 {
     char handle[32], name[16];
     hg_reply named = hg_tenant_name(core, reply.owner, name, sizeof name);
@@ -23,7 +23,7 @@ static void put_row(FILE *out, const hg_core *core, hg_reply reply)
     fprintf(out, "%-21s %-16.*s %5" PRIu32 "\n", handle, (int)named.value, name, reply.detail);
 }
 
-static void put_answer(FILE *out, const hg_core *core, hg_reply reply)
+static inline void put_answer(FILE *out, const hg_core *core, hg_reply reply)
 {
     if (reply.status == HG_LISTED) {
         put_row(out, core, reply);
