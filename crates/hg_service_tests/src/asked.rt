@@ -1,9 +1,20 @@
 //! Events and answers as data. Blocks stand there by their numbers, since no table has handles.
 
-use crate::services::{free, read, refill, take, write};
 use hg_machine::{Answer, Event, Rule};
 use hg_place::{Actor, Handle, Place};
 use std::process::Abort;
+
+pub const ALICE: Actor = Actor(0);
+
+pub const BOB: Actor = Actor(1);
+
+pub const MAIN: u8 = 0;
+
+/// The arena of segment 2.
+pub const VAULT: u8 = 1;
+
+/// A number that no arena has.
+pub const NOWHERE: u8 = 255;
 
 /// A block, by its segment, its page, its index there, and its generation.
 #[derive(Clone, Copy)]
@@ -53,7 +64,6 @@ pub enum Told {
     Refilled(u8),
     Denied(Rule),
     Elsewhere,
-    Busy,
     NothingInHand,
     NotHeld,
     NoSegment,
@@ -85,14 +95,26 @@ pub fn event(rt: &impl Abort, asked: Asked) -> Event {
             arena,
             bytes,
         },
-        Asked::Free(actor, block) => free(actor, handle(rt, block)),
+        Asked::Free(actor, block) => Event::Free {
+            actor,
+            handle: handle(rt, block),
+        },
         Asked::Deliver => Event::Deliver,
-        Asked::Take(segment) => take(segment),
+        Asked::Take(segment) => Event::Take { segment },
         Asked::Collect => Event::Collect,
-        Asked::Read(actor, block) => read(actor, handle(rt, block)),
-        Asked::Write(actor, block, value) => write(actor, handle(rt, block), value),
+        Asked::Read(actor, block) => Event::Read {
+            actor,
+            handle: handle(rt, block),
+            index: 0,
+        },
+        Asked::Write(actor, block, value) => Event::Write {
+            actor,
+            handle: handle(rt, block),
+            index: 0,
+            value,
+        },
         Asked::Abandon(segment) => Event::Abandon { segment },
-        Asked::Refill(arena) => refill(arena),
+        Asked::Refill(arena) => Event::Refill { arena },
     }
 }
 
@@ -108,7 +130,6 @@ pub fn answer(rt: &impl Abort, told: Told) -> Answer {
         Told::Refilled(segment) => Answer::Refilled(segment),
         Told::Denied(rule) => Answer::Denied(rule),
         Told::Elsewhere => Answer::Elsewhere,
-        Told::Busy => Answer::Busy,
         Told::NothingInHand => Answer::NothingInHand,
         Told::NotHeld => Answer::NotHeld,
         Told::NoSegment => Answer::NoSegment,

@@ -6,42 +6,22 @@ mod after;
 #[cfg(test)]
 mod asked;
 #[cfg(test)]
-mod closed;
+mod calls;
 #[cfg(test)]
 mod closing;
 #[cfg(test)]
-mod closing_each;
-#[cfg(test)]
-mod closing_parts;
-#[cfg(test)]
-mod closing_refused;
-#[cfg(test)]
-mod in_threads;
-#[cfg(test)]
-mod kept_lists;
-#[cfg(test)]
-mod leaving;
+mod in_turn;
 #[cfg(test)]
 mod lost;
 #[cfg(test)]
 mod meanwhile;
 #[cfg(test)]
-mod memory;
+mod refused;
 #[cfg(test)]
-mod parts;
-#[cfg(test)]
-mod parts_steps;
-#[cfg(test)]
-mod rows_on_service;
-#[cfg(test)]
-mod sending;
-#[cfg(test)]
-mod services;
+mod runs;
 #[cfg(test)]
 mod steps;
 #[cfg(test)]
-mod stress;
-#[cfg(test)]
-mod threads;
+mod tried;
 #[cfg(test)]
 mod used_up;

@@ -1,17 +1,20 @@
-//! A service is asked to close, again and again, while its workers go on in threads.
+//! A service is asked to close, again and again, while one of its workers goes on in a thread.
 
-use crate::closed::answers_so;
-use crate::in_threads::{Tried, in_threads};
-use crate::services::{
-    ALICE, DOCUMENT, MAIN, answers, block, both, free, leaves, read, refill, take, write,
-};
+ghost use Rattle.std.specs.Prelude.{◌≡◌, length};
+ghost use Rattle.hg_table.specs.Named.{table_of};
+
+use crate::asked::{ALICE, Asked, Block, MAIN, Told, X};
+use crate::calls::{answers, is_told};
+use crate::steps::DOCUMENT;
+use crate::tried::made;
 use hg_close::CloseFault;
 use hg_core::Core;
-use hg_machine::{Answer, Event};
-use hg_place::Handle;
+use hg_policy::Policy;
 use hg_service::{Service, Unclosed, Worker};
+use hg_table::LifeTable;
 use hg_worker::ServiceName;
 use std::alloc::Global;
+use std::marker::Brand;
 use std::process::Abort;
 use std::sync::Wait;
 use std::sync::atomic::{AtomicU64, Ordering};
@@ -24,19 +27,10 @@ const TRIES: u32 = 1_000_000;
 const TURNS: u32 = 1_000_000_000;
 
 /// How many blocks are freed, each after the service was asked once more.
-const BLOCKS: usize = 16;
+const BLOCKS: u16 = 16;
 
-/// How often the other worker takes the segment and gives it up.
-const ROUNDS: u32 = 2_000;
-
-/// What is told while workers are out.
-fn may_be_told(fault: CloseFault) -> bool {
-    match fault {
-        CloseFault::StillHeld(segment) => segment == 0,
-        CloseFault::StillOut(worker) => worker < 2,
-        CloseFault::Memory => false,
-    }
-}
+/// How often the worker takes the segment and gives it up.
+const ROUNDS: u16 = 2_000;
 
 /// A service is asked until it closes; each time that it doesn't is counted.
 fn closes_at_last<N: ServiceName, R: Wait + Abort>(
@@ -50,7 +44,7 @@ fn closes_at_last<N: ServiceName, R: Wait + Abort>(
         match service.close(rt, alloc) {
             Ok(core) => return core,
             Err(Unclosed::Running(same, fault)) => {
-                assert!(rt; may_be_told(fault));
+                assert!(rt; fault == CloseFault::StillHeld(0) || fault == CloseFault::StillOut(0));
                 asked.fetch_add(1, Ordering::SeqCst);
                 service = same;
             }
@@ -74,88 +68,77 @@ fn waits(asked: &AtomicU64) {
     }
 }
 
-/// Frees blocks that lie with nobody, or with the other worker, and sends each; then leaves.
-fn frees<N: ServiceName, R: Wait + Abort>(
-    rt: &R,
-    worker: Worker<N>,
-    blocks: &[Handle],
-    asked: &AtomicU64,
-) {
-    let mut worker = worker;
-    for block in blocks {
-        waits(asked);
-        answers(rt, &mut worker, free(ALICE, *block), Answer::Parted);
-        answers(rt, &mut worker, Event::Deliver, Answer::Done);
-    }
-    leaves(rt, worker);
+/// The block of a number, behind the one that is kept.
+fn block(number: u16) -> Block {
+    Block(0, 0, number, 1)
 }
 
-/// Takes the segment and gives it up, again and again: it is always there. Then leaves.
-fn goes_round<N: ServiceName, R: Wait + Abort>(rt: &R, worker: Worker<N>, kept: Handle) {
-    let mut worker = worker;
-    for _ in 0..ROUNDS {
-        answers(rt, &mut worker, refill(MAIN), Answer::Refilled(0));
-        answers(rt, &mut worker, read(ALICE, kept), Answer::Value(5));
-        answers(rt, &mut worker, Event::Abandon { segment: 0 }, Answer::Done);
+/// Gives out the block that is kept, with a word, and those that are freed then, and gives the segment
+/// up.
+fn begins<N: ServiceName, R: Wait + Abort>(rt: &R, worker: &mut Worker<N>) {
+    answers(rt, worker, Asked::Refill(MAIN), Told::Refilled(0));
+    for number in 0..=BLOCKS {
+        let told = Told::Block(block(number));
+        answers(rt, worker, Asked::Alloc(ALICE, MAIN, 24), told);
     }
-    leaves(rt, worker);
+    answers(rt, worker, Asked::Write(ALICE, X, 5), Told::Done);
+    answers(rt, worker, Asked::Abandon(0), Told::Done);
 }
 
-/// Both workers go on while the service is asked.
-fn in_three<N: ServiceName + Send + Sync, R: Threads + Wait + Abort + Sync>(
+/// Takes the segment and gives it up, again and again: it is always there. Between that it frees
+/// blocks there, which nobody holds then, and sends each; and in the end it leaves.
+fn goes_round<N: ServiceName, R: Wait + Abort>(rt: &R, worker: Worker<N>, asked: &AtomicU64) {
+    let mut worker = worker;
+    for round in 1..=ROUNDS {
+        answers(rt, &mut worker, Asked::Refill(MAIN), Told::Refilled(0));
+        answers(rt, &mut worker, Asked::Read(ALICE, X), Told::Value(5));
+        answers(rt, &mut worker, Asked::Abandon(0), Told::Done);
+        if round <= BLOCKS {
+            waits(asked);
+            answers(
+                rt,
+                &mut worker,
+                Asked::Free(ALICE, block(round)),
+                Told::Parted,
+            );
+            answers(rt, &mut worker, Asked::Deliver, Told::Done);
+        }
+    }
+    worker.leave(rt);
+}
+
+/// A service is asked while its worker goes on, and has in the end what that left.
+fn asked_meanwhile<N: ServiceName + Send + Sync, R: Threads + Wait + Abort + Sync>(
     rt: &R,
     alloc: Global,
-    service: Service<N>,
-    workers: (Worker<N>, Worker<N>),
-    blocks: &[Handle],
-    kept: Handle,
-) -> Core {
-    let (one, other) = workers;
+    made: (Policy, LifeTable),
+) -> Core
+    requires table { table_of made.1 ≡ N.table }
+    requires policy { made.0 ≡ N.policy }
+    requires segments { made.1.segments ≡ length made.0.segments }
+    requires workers { made.1.workers ≡ made.0.workers }
+{
+    let mut service = Service::<N>::open(alloc, made.0, made.1).expect(rt, "a service");
+    let mut worker = service.worker(0).expect(rt, "a worker");
+    begins(rt, &mut worker);
     let asked = AtomicU64::new(0);
-    let (core, ((), ())) = join(
+    let (core, ()) = join(
         rt,
         || closes_at_last(rt, alloc, service, &asked),
-        || {
-            join(
-                rt,
-                || goes_round(rt, one, kept),
-                || frees(rt, other, blocks, &asked),
-            )
-        },
+        || goes_round(rt, worker, &asked),
     );
     core
 }
 
-/// A service is asked while its workers go on, and has in the end what they left.
-pub fn asked_meanwhile<N: ServiceName + Send + Sync, R: Threads + Wait + Abort + Sync>(
-    rt: &R,
-    alloc: Global,
-    service: Service<N>,
-) {
-    let mut service = service;
-    let (mut one, other) = both(rt, &mut service);
-    let kept = block(rt, &mut one);
-    answers(rt, &mut one, write(ALICE, kept, 5), Answer::Done);
-    let mut blocks = Vec::new(alloc);
-    for _ in 0..BLOCKS {
-        blocks.push(block(rt, &mut one)).expect(rt, "memory");
-    }
-    answers(rt, &mut one, Event::Abandon { segment: 0 }, Answer::Done);
-    let core = in_three(rt, alloc, service, (one, other), blocks.as_slice(), kept);
-    drop(blocks);
-    answers_so(
-        rt,
-        core,
-        &[
-            (read(ALICE, kept), Answer::Value(5)),
-            (take(0), Answer::Taken(16)),
-        ],
-    );
-}
-
-/// A service that is asked while its workers take a segment, give it up, send blocks and leave comes
-/// back each time, none of them meets an empty pool, and it closes with all that they left.
+/// A service that is asked while its worker takes a segment, gives it up, sends blocks and leaves comes
+/// back each time, the worker never meets an empty pool, and it closes with all that was left.
 #[test]
 fn close_is_asked_meanwhile(rt: HostRuntime) {
-    in_threads(&rt, rt.alloc(), DOCUMENT, Tried::AskedMeanwhile);
+    let alloc = rt.alloc();
+    let made = made(alloc, DOCUMENT).expect(&rt, "a policy and a table");
+    let mut core = asked_meanwhile::<Brand, HostRuntime>(&rt, alloc, made);
+    assert!(&rt; is_told(&rt, &mut core, Asked::Refill(MAIN), Told::Refilled(0)));
+    assert!(&rt; is_told(&rt, &mut core, Asked::Read(ALICE, X), Told::Value(5)));
+    assert!(&rt; is_told(&rt, &mut core, Asked::Take(0), Told::Taken(16)));
+    drop(core);
 }
