@@ -63,13 +63,27 @@ static int serves_with_none(void)
     int served = hg_worker_refill(&workers[0], 0).status == HG_REFILLED;
     block = hg_worker_alloc(&workers[0], 0, 0, 24).value;
     hg_handle other = hg_worker_alloc(&workers[0], 0, 0, 24).value;
+    hg_handle sent = hg_worker_alloc(&workers[0], 0, 0, 24).value;
     served = served && hg_worker_write(&workers[0], 0, block, 2, 7).status == HG_DONE
         && hg_worker_look(&workers[0], 0, hg_place_of(block)).status == HG_LISTED
         && hg_worker_free(&workers[1], 0, other).status == HG_PARTED
         && hg_worker_deliver(&workers[1]).status == HG_DONE
-        && hg_worker_take(&workers[0], 0).value == 1 && hg_worker_collect(&workers[0]).status == HG_PAGES;
+        && hg_worker_take(&workers[0], 0).value == 1
+        && hg_worker_collect(&workers[0]).status == HG_PAGES
+        && hg_worker_free(&workers[1], 0, sent).status == HG_PARTED
+        && hg_worker_deliver(&workers[1]).status == HG_DONE;
     left = -1;
     return served;
+}
+
+/* A service whose workers are out asks for memory first, and tells then who is out. */
+static int asks_first(void)
+{
+    left = 0;
+    hg_reply refused = closing();
+    left = -1;
+    hg_reply told = closing();
+    return refused.status == HG_NO_MEMORY && told.status == HG_STILL_OUT && told.value == 0;
 }
 
 static int leaves_with_none(void)
@@ -88,10 +102,11 @@ int main(void)
     long another = refuse_each("worker", giving_another);
     int served = serves_with_none();
     long listed = refuse_each("list", listing);
-    served = leaves_with_none() && served;
+    served = asks_first() && leaves_with_none() && served;
     long closed = refuse_each("close", closing);
     int kept = hg_refill(&core, 0, 0).status == HG_REFILLED
-        && hg_read(&core, 0, 0, block, 2).value == 7 && hg_close(&core).status == HG_DONE;
+        && hg_read(&core, 0, 0, block, 2).value == 7 && hg_take(&core, 0, 0).value == 1
+        && hg_close(&core).status == HG_DONE;
     printf("service_refused: %ld requests of an opening, %ld and %ld of a worker, %ld of a listing, %ld "
            "of a closing; with none served: %s; %ld lost\n",
            opened, given, another, listed, closed, served ? "all events served" : "an event wasn't", live);

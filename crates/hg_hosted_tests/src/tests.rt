@@ -1,4 +1,0 @@
-mod calls;
-mod opened;
-mod same;
-mod threads;

@@ -1,5 +1,0 @@
-//! What the parts of a service answer a host.
-#![tactic(auto)]
-
-#[cfg(test)]
-mod tests;

@@ -1,2 +1,0 @@
-mod opened;
-mod parts;
