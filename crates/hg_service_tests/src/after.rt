@@ -58,30 +58,15 @@ fn are_complete(parts: &Parts) -> bool
         && parts.remotes.len() == usize::from(parts.policy.segments())
 }
 
-/// A place comes on the first remote list. Whether it wasn't there.
-fn is_put(parts: &mut Parts, place: Place) -> bool {
-    match parts.remotes.first_mut() {
-        Some(list) => list.push(place.page, place.index).is_ok(),
-        None => false,
-    }
-}
-
-/// Whether so many segments come to worker 0, and in each of them a place comes home.
-fn is_taken_in(rt: &impl Abort, core: &mut Core, count: u8) -> bool {
-    for segment in 0..count {
-        if !is_told(rt, core, Asked::Refill(MAIN), Told::Refilled(segment)) {
-            return false;
-        }
-    }
-    for segment in 0..count {
-        if !is_told(rt, core, Asked::Take(segment), Told::Taken(1)) {
-            return false;
-        }
-    }
-    true
-}
-
 impl After {
+    /// Before anything has closed.
+    pub fn nothing() -> After {
+        After {
+            core: None,
+            parts: None,
+        }
+    }
+
     /// Makes a core of the parts, or tells the first fault, where there are parts.
     fn audit(&mut self, rt: &impl Abort, alloc: Global) -> Option<Result<(), AuditFault>> {
         let parts = self.parts.take()?;
@@ -116,19 +101,52 @@ impl After {
         told == Some(Err(first)) && self.audit(rt, alloc) == Some(Err(AuditFault::Segment(0)))
     }
 
+    /// Whether the core answers its first worker so.
+    fn is_told(&mut self, rt: &impl Abort, asked: Asked, wanted: Told) -> bool {
+        match &mut self.core {
+            Some(core) => is_told(rt, core, asked, wanted),
+            None => false,
+        }
+    }
+
+    /// Whether so many segments come to worker 0, and in each of them a place comes home.
+    fn is_taken_in(&mut self, rt: &impl Abort, count: u8) -> bool {
+        for segment in 0..count {
+            if !self.is_told(rt, Asked::Refill(MAIN), Told::Refilled(segment)) {
+                return false;
+            }
+        }
+        for segment in 0..count {
+            if !self.is_told(rt, Asked::Take(segment), Told::Taken(1)) {
+                return false;
+            }
+        }
+        true
+    }
+
+    /// A place comes on the first remote list of the parts. Whether it wasn't there.
+    fn is_put(&mut self, place: Place) -> bool {
+        let Some(parts) = &mut self.parts else {
+            return false;
+        };
+        match parts.remotes.first_mut() {
+            Some(list) => list.push(place.page, place.index).is_ok(),
+            None => false,
+        }
+    }
+
     /// Whether a step goes so.
     fn is_met(&mut self, rt: &(impl Abort + Print), alloc: Global, step: &Then) -> bool {
-        match (step, &mut self.core, &mut self.parts) {
-            (Then::Answers(asked, wanted), Some(core), _) => is_told(rt, core, *asked, *wanted),
-            (Then::TakesInEach(count), Some(core), _) => is_taken_in(rt, core, *count),
-            (Then::Puts(block), _, Some(parts)) => is_put(parts, handle(rt, *block).place),
-            (Then::Loses(block), ..) => {
+        match step {
+            Then::Answers(asked, wanted) => self.is_told(rt, *asked, *wanted),
+            Then::TakesInEach(count) => self.is_taken_in(rt, *count),
+            Then::Puts(block) => self.is_put(handle(rt, *block).place),
+            Then::Loses(block) => {
                 let place = handle(rt, *block).place;
                 self.audit(rt, alloc) == Some(Err(AuditFault::Place(place)))
             }
-            (Then::Closes, ..) => self.audit(rt, alloc) == Some(Ok(())),
-            (Then::LacksSegment0, ..) => self.is_missed(rt, alloc),
-            _ => false,
+            Then::Closes => self.audit(rt, alloc) == Some(Ok(())),
+            Then::LacksSegment0 => self.is_missed(rt, alloc),
         }
     }
 

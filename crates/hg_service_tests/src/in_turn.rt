@@ -26,18 +26,18 @@ const SEGMENT: u64 = 65_536;
 #[derive(Drop)]
 pub struct InTurn<N: ServiceName> {
     /// Until it closes.
-    pub service: Option<Service<N>>,
+    service: Option<Service<N>>,
     /// Or its parts, until they do.
-    pub parts: Option<CallerLocked<N>>,
+    parts: Option<CallerLocked<N>>,
     /// By number, those that were taken, and neither left nor were dropped.
-    pub workers: Vec<Option<Worker<N>>>,
+    workers: Vec<Option<Worker<N>>>,
     /// One of the caller's own.
-    pub list: RemoteList,
-    pub after: After,
+    list: RemoteList,
+    after: After,
 }
 
 /// Room for the workers that are taken.
-pub fn room<N: ServiceName>(alloc: Global) -> Result<Vec<Option<Worker<N>>>, AllocError> {
+fn room<N: ServiceName>(alloc: Global) -> Result<Vec<Option<Worker<N>>>, AllocError> {
     let mut room = Vec::with_capacity(alloc, WORKERS)?;
     for _ in 0..WORKERS {
         room.push(None)?;
@@ -46,6 +46,23 @@ pub fn room<N: ServiceName>(alloc: Global) -> Result<Vec<Option<Worker<N>>>, All
 }
 
 impl<N: ServiceName> InTurn<N> {
+    /// Of a service, or of its parts.
+    pub fn new(
+        alloc: Global,
+        service: Option<Service<N>>,
+        parts: Option<CallerLocked<N>>,
+    ) -> Result<InTurn<N>, AllocError> {
+        let list = RemoteList::new(alloc)?;
+        let workers = room(alloc)?;
+        Ok(InTurn {
+            service,
+            parts,
+            workers,
+            list,
+            after: After::nothing(),
+        })
+    }
+
     /// Takes a worker. Whether there was one.
     fn is_taken(&mut self, number: u8) -> bool {
         let Some(service) = &mut self.service else {

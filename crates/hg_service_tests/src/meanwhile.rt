@@ -130,13 +130,17 @@ fn asked_meanwhile<N: ServiceName + Send + Sync, R: Threads + Wait + Abort + Syn
     core
 }
 
+/// The core that the service of the document becomes.
+fn closed_meanwhile<R: Threads + Wait + Abort + Sync>(rt: &R, alloc: Global) -> Core {
+    let made = made(alloc, DOCUMENT).expect(rt, "a policy and a table");
+    asked_meanwhile::<Brand, R>(rt, alloc, made)
+}
+
 /// A service that is asked while its worker takes a segment, gives it up, sends blocks and leaves comes
 /// back each time, the worker never meets an empty pool, and it closes with all that was left.
 #[test]
 fn close_is_asked_meanwhile(rt: HostRuntime) {
-    let alloc = rt.alloc();
-    let made = made(alloc, DOCUMENT).expect(&rt, "a policy and a table");
-    let mut core = asked_meanwhile::<Brand, HostRuntime>(&rt, alloc, made);
+    let mut core = closed_meanwhile(&rt, rt.alloc());
     assert!(&rt; is_told(&rt, &mut core, Asked::Refill(MAIN), Told::Refilled(0)));
     assert!(&rt; is_told(&rt, &mut core, Asked::Read(ALICE, X), Told::Value(5)));
     assert!(&rt; is_told(&rt, &mut core, Asked::Take(0), Told::Taken(16)));

@@ -3,16 +3,14 @@
 ghost use Rattle.std.specs.Prelude.{◌≡◌, length, IfSome};
 ghost use Rattle.hg_table.specs.Named.{table_of};
 
-use crate::after::After;
-use crate::in_turn::{InTurn, room};
+use crate::in_turn::InTurn;
 use crate::steps::Run;
 use hg_policy::Policy;
 use hg_policy_text::read_policy;
-use hg_remote::RemoteList;
 use hg_service::{CallerLocked, Service};
 use hg_table::LifeTable;
 use hg_worker::ServiceName;
-use std::alloc::{AllocError, Global};
+use std::alloc::Global;
 use std::marker::Brand;
 use std::process::Abort;
 use std::sync::Wait;
@@ -29,62 +27,54 @@ pub fn made(alloc: Global, document: &str) -> Option<(Policy, LifeTable)>
     }
 }
 
-/// A service in turn.
-fn of_service<N: ServiceName>(
+/// Makes a run on a new service of the name N.
+fn on_service<N: ServiceName, R: Wait + Abort + Print>(
+    rt: &R,
     alloc: Global,
     made: (Policy, LifeTable),
-) -> Result<InTurn<N>, AllocError>
+    run: &Run,
+) -> bool
     requires table { table_of made.1 ≡ N.table }
     requires policy { made.0 ≡ N.policy }
     requires segments { made.1.segments ≡ length made.0.segments }
     requires workers { made.1.workers ≡ made.0.workers }
 {
-    let service = Service::<N>::open(alloc, made.0, made.1)?;
-    begun(alloc, Some(service), None)
+    match Service::<N>::open(alloc, made.0, made.1) {
+        Ok(service) => goes(rt, alloc, Some(service), None, run),
+        Err(_) => false,
+    }
 }
 
-/// Its parts in turn.
-fn of_parts<N: ServiceName>(
+/// The same on its parts.
+fn on_parts<N: ServiceName, R: Wait + Abort + Print>(
+    rt: &R,
     alloc: Global,
     made: (Policy, LifeTable),
-) -> Result<InTurn<N>, AllocError>
+    run: &Run,
+) -> bool
     requires table { table_of made.1 ≡ N.table }
     requires policy { made.0 ≡ N.policy }
     requires segments { made.1.segments ≡ length made.0.segments }
     requires workers { made.1.workers ≡ made.0.workers }
 {
-    let parts = CallerLocked::<N>::open(alloc, made.0, made.1)?;
-    begun(alloc, None, Some(parts))
+    match CallerLocked::<N>::open(alloc, made.0, made.1) {
+        Ok(parts) => goes(rt, alloc, None, Some(parts), run),
+        Err(_) => false,
+    }
 }
 
-fn begun<N: ServiceName>(
-    alloc: Global,
-    service: Option<Service<N>>,
-    parts: Option<CallerLocked<N>>,
-) -> Result<InTurn<N>, AllocError> {
-    Ok(InTurn {
-        service,
-        parts,
-        workers: room(alloc)?,
-        list: RemoteList::new(alloc)?,
-        after: After {
-            core: None,
-            parts: None,
-        },
-    })
-}
-
-/// A run goes as it says.
+/// A run goes as it says, on a service or on parts.
 fn goes<N: ServiceName, R: Wait + Abort + Print>(
     rt: &R,
     alloc: Global,
-    opened: Result<InTurn<N>, AllocError>,
+    service: Option<Service<N>>,
+    parts: Option<CallerLocked<N>>,
     run: &Run,
 ) -> bool {
-    match opened {
-        Ok(mut opened) => {
-            opened.meets(rt, alloc, run);
-            drop(opened);
+    match InTurn::new(alloc, service, parts) {
+        Ok(mut all) => {
+            all.meets(rt, alloc, run);
+            drop(all);
             true
         }
         Err(_) => false,
@@ -97,8 +87,8 @@ pub fn is_tried<R: Wait + Abort + Print>(rt: &R, alloc: Global, run: &Run) -> bo
         return false;
     };
     match run.begins.is_of_parts {
-        true => goes(rt, alloc, of_parts::<Brand>(alloc, made), run),
-        false => goes(rt, alloc, of_service::<Brand>(alloc, made), run),
+        true => on_parts::<Brand, R>(rt, alloc, made, run),
+        false => on_service::<Brand, R>(rt, alloc, made, run),
     }
 }
 

@@ -1,5 +1,5 @@
 use Rattle.hg_table.specs.Named.{table_of}
-use Rattle.hg_service_tests.proofs.meanwhile.close_is_asked_meanwhile.Given as goal
+use Rattle.hg_service_tests.proofs.meanwhile.closed_meanwhile.Given as goal
 
 -- the table that was just made, and its policy
 abbrev pub ghosts-asked_meanwhile-N-TableName : goal.ghosts-asked_meanwhile-N-TableName
