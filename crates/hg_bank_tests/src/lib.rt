@@ -1,4 +1,4 @@
-//! Worked calls on banks of one to three cores, and banks that are refused memory.
+//! Banks that are taken apart, audited core by core and made again; and cores that are lent.
 #![tactic(auto)]
 
 #[cfg(test)]

@@ -1,9 +1,9 @@
-//! Banks that are taken apart, and made again.
+//! Banks that are taken apart, and made again; and a core that is lent.
 
 ghost use Rattle.std.specs.Prelude.{◌≡◌, vec_capacity};
 ghost use Rattle.hg_bank.specs.Parts.{AreParts};
 
-use crate::tests::asked::{ALICE, BOB, MAIN, alloc, grow, opened, refill};
+use crate::tests::asked::{ALICE, BOB, alloc, grow, opened, read, refill, write};
 use crate::tests::same::same;
 use hg_bank::{Bank, BankHandle, BankParts};
 use hg_core::{Core, Refused};
@@ -13,20 +13,18 @@ use std::process::Abort;
 
 /// The number of the core that a new block of Bob's is of.
 fn next_core(rt: &impl Abort, bank: &mut Bank) -> Option<u16> {
-    let told = alloc(rt, bank, 0, BOB, MAIN, 8);
-    told.ok().map(|block| block.core)
+    alloc(rt, bank, BOB, 8).ok().map(|block| block.core)
 }
 
 /// A bank of two cores, of which the second is current and has a block of Alice's with a word, and
 /// one of Bob's; the first is empty. And her block.
 fn in_second(rt: &impl Abort, memory: Global) -> (Bank, BankHandle) {
     let mut bank = opened(memory, 3).expect(rt, "a bank");
-    assert!(rt; refill(rt, &mut bank, 0, MAIN).is_ok());
+    assert!(rt; refill(rt, &mut bank).is_ok());
     same(rt, grow(rt, &mut bank, memory), Some(1));
-    assert!(rt; refill(rt, &mut bank, 0, MAIN).is_ok());
-    let block = alloc(rt, &mut bank, 0, ALICE, MAIN, 8).expect(rt, "a block");
-    assert!(rt; 0 < bank.policy().workers());
-    assert!(rt; bank.write(0, ALICE, block, 0, 7).is_ok());
+    assert!(rt; refill(rt, &mut bank).is_ok());
+    let block = alloc(rt, &mut bank, ALICE, 8).expect(rt, "a block");
+    assert!(rt; write(rt, &mut bank, block, 7));
     same(rt, next_core(rt, &mut bank), Some(1));
     (bank, block)
 }
@@ -51,14 +49,13 @@ fn made_again(rt: HostRuntime) {
         panic!(&rt; "no memory");
     };
     same(&rt, bank.charge(0, 0), Some(8));
-    assert!(&rt; 0 < bank.policy().workers());
-    same(&rt, bank.read(0, ALICE, block, 0), Ok(7));
+    same(&rt, read(&rt, &mut bank, block), Ok(7));
     same(&rt, next_core(&rt, &mut bank), Some(0));
     same(&rt, bank.charge(0, 1), Some(16));
     // Bob may have 64 bytes: of the first core alone these would fit.
     same(
         &rt,
-        alloc(&rt, &mut bank, 0, BOB, MAIN, 56),
+        alloc(&rt, &mut bank, BOB, 56),
         Err(Refused::Denied(Rule::OverLimit)),
     );
     same(&rt, grow(&rt, &mut bank, rt.alloc()), Some(2));
@@ -86,6 +83,7 @@ fn audited_again(rt: &impl Abort, memory: Global, parts: BankParts) -> Result<Ba
         return Err(parts);
     };
     let Some(first) = parts.cores.pop() else {
+        drop(second);
         return Err(parts);
     };
     parts.cores.push_reserved(audited(rt, memory, first));
@@ -102,8 +100,7 @@ fn audited_core_by_core(rt: HostRuntime) {
     };
     same(&rt, bank.cores(), 2);
     same(&rt, bank.charge(0, 1), Some(8));
-    assert!(&rt; 0 < bank.policy().workers());
-    same(&rt, bank.read(0, ALICE, block, 0), Ok(7));
+    same(&rt, read(&rt, &mut bank, block), Ok(7));
     drop(bank);
 }
 
@@ -114,14 +111,30 @@ fn made_again_refused_in_turn(rt: HostRuntime) {
     let Ok(mut bank) = opened(rt.alloc(), 2) else {
         return;
     };
-    assert!(&rt; refill(&rt, &mut bank, 0, MAIN).is_ok());
-    assert!(&rt; alloc(&rt, &mut bank, 0, ALICE, MAIN, 8).is_ok());
+    assert!(&rt; refill(&rt, &mut bank).is_ok());
+    assert!(&rt; alloc(&rt, &mut bank, ALICE, 8).is_ok());
     match Bank::from_parts(rt.alloc(), bank.into_parts()) {
-        Ok(bank) => same(&rt, bank.charge(0, 0), Some(8)),
+        Ok(bank) => {
+            same(&rt, bank.charge(0, 0), Some(8));
+            drop(bank);
+        }
         Err(parts) => {
             same(&rt, parts.room, 2);
             assert_eq!(&rt; parts.cores.len(), 1);
             same(&rt, parts.cores[0].charge(0, 0), 8);
+            drop(parts);
         }
     }
+}
+
+// A core that is open is lent to be asked, and no other.
+#[test]
+fn core_of_a_number(rt: HostRuntime) {
+    let mut bank = opened(rt.alloc(), 2).expect(&rt, "a bank");
+    assert!(&rt; refill(&rt, &mut bank).is_ok());
+    let holder = bank.core(0).map(|core| core.holder(0));
+    same(&rt, holder, Some(Some(0)));
+    assert!(&rt; bank.core(1).is_none());
+    assert!(&rt; bank.core(u16::MAX).is_none());
+    drop(bank);
 }

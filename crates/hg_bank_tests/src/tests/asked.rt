@@ -1,19 +1,18 @@
-//! Calls of the tests, each of a worker that the policy has.
+//! Calls of the first worker.
 
 ghost use Rattle.std.specs.Prelude.{◌<◌, ◌≤◌, IsTrue};
 
 use hg_bank::{Bank, BankHandle, BankSegment};
-use hg_core::{Freed, NoSegment, NotFreed, NotHeld, Refused};
+use hg_core::{NoSegment, Refused};
 use hg_place::Actor;
 use hg_policy_text::{PolicyFault, read_policy};
 use std::alloc::Global;
 use std::process::Abort;
 
-/// Two workers, and one segment for two tenants and one for alice, in each core. Alice may have two
-/// whole segments and one word more.
-pub const SMALL: &str = r#"version = 1
+/// Two workers, and one segment for two tenants and one for alice, in each core.
+const SMALL: &str = r#"version = 1
 workers = 2
-tenant = [ {name = "alice", limit = 131080}, {name = "bob", limit = 64} ]
+tenant = [ {name = "alice", limit = 4096}, {name = "bob", limit = 64} ]
 arena = [ {name = "main", segments = 1}, {name = "vault", segments = 1, exclusive = ["alice"]} ]
 grant = [ {owner = "alice", to = "bob", rights = ["read", "free"]} ]
 "#;
@@ -22,12 +21,10 @@ pub const ALICE: Actor = Actor(0);
 
 pub const BOB: Actor = Actor(1);
 
-pub const STRANGER: Actor = Actor(2);
+/// The worker, and the arena for both tenants.
+const FIRST: u8 = 0;
 
-/// The arenas.
-pub const MAIN: u8 = 0;
-
-pub const VAULT: u8 = 1;
+const MAIN: u8 = 0;
 
 /// A bank with room for so many cores.
 pub fn opened(alloc: Global, room: u16) -> Result<Bank, PolicyFault>
@@ -38,54 +35,36 @@ pub fn opened(alloc: Global, room: u16) -> Result<Bank, PolicyFault>
     Ok(Bank::open(alloc, policy, room)?)
 }
 
-/// Whether the policy has such a worker.
-fn has_worker(bank: &Bank, worker: u8) -> bool
-    ensures { IsTrue result → worker < bank.now.policy.workers }
+/// Whether the policy has a worker.
+fn has_worker(bank: &Bank) -> bool
+    ensures { IsTrue result → 0 < bank.now.policy.workers }
 {
-    worker < bank.policy().workers()
+    FIRST < bank.policy().workers()
 }
 
 pub fn alloc(
     rt: &impl Abort,
     bank: &mut Bank,
-    worker: u8,
     actor: Actor,
-    arena: u8,
     bytes: u64,
 ) -> Result<BankHandle, Refused> {
-    assert!(rt; has_worker(bank, worker));
-    bank.alloc(worker, actor, arena, bytes)
+    assert!(rt; has_worker(bank));
+    bank.alloc(FIRST, actor, MAIN, bytes)
 }
 
-pub fn refill(
-    rt: &impl Abort,
-    bank: &mut Bank,
-    worker: u8,
-    arena: u8,
-) -> Result<BankSegment, NoSegment> {
-    assert!(rt; has_worker(bank, worker));
-    bank.refill(worker, arena)
+pub fn refill(rt: &impl Abort, bank: &mut Bank) -> Result<BankSegment, NoSegment> {
+    assert!(rt; has_worker(bank));
+    bank.refill(FIRST, MAIN)
 }
 
-pub fn free(
-    rt: &impl Abort,
-    bank: &mut Bank,
-    worker: u8,
-    actor: Actor,
-    block: BankHandle,
-) -> Result<Freed, NotFreed> {
-    assert!(rt; has_worker(bank, worker));
-    bank.free(worker, actor, block)
+pub fn write(rt: &impl Abort, bank: &mut Bank, block: BankHandle, value: u64) -> bool {
+    assert!(rt; has_worker(bank));
+    bank.write(FIRST, ALICE, block, 0, value).is_ok()
 }
 
-pub fn abandon(
-    rt: &impl Abort,
-    bank: &mut Bank,
-    worker: u8,
-    segment: BankSegment,
-) -> Result<(), NotHeld> {
-    assert!(rt; has_worker(bank, worker));
-    bank.abandon(worker, segment)
+pub fn read(rt: &impl Abort, bank: &mut Bank, block: BankHandle) -> Result<u64, Refused> {
+    assert!(rt; has_worker(bank));
+    bank.read(FIRST, ALICE, block, 0)
 }
 
 /// Opens one more core, where there is room for it.
