@@ -41,24 +41,35 @@ fn operand<'a>(alloc: Global, name: &'a str, help: &'a str) -> Arg<'a> {
     Arg::new(alloc, name).required(true).help(help)
 }
 
+/// Each argument is made where it is added: what an error leaves is nothing but that.
 fn command<'a>(alloc: Global) -> Result<Command<'a>, AllocError> {
-    let policy = operand(alloc, "POLICY", "File with the policy, a TOML document");
-    let seed = operand(alloc, "SEED", "Seed of all streams");
-    let workers = operand(alloc, "WORKERS", "How many workers, 1 to 16");
-    let events = operand(alloc, "EVENTS", "How many events each makes");
-    let counts = Arg::new(alloc, "counts").long("counts");
     Command::new(alloc, "hg_stress")
         .about(ABOUT)
         .after_help(MORE)
-        .arg(policy)?
-        .arg(seed.value_parser(value_parser!(u64)))?
-        .arg(workers.value_parser(value_parser!(u8).range(1..=16)))?
-        .arg(events.value_parser(value_parser!(u64).range(1..=1_000_000_000_000)))?
-        .arg(
-            counts
-                .action(ArgAction::SetTrue)
-                .help("Only counts: keeps and prints no call"),
-        )
+        .arg(operand(alloc, "POLICY", "File with the policy, a TOML document"))?
+        .arg(operand(alloc, "SEED", "Seed of all streams").value_parser(value_parser!(u64)))?
+        .arg(workers(alloc))?
+        .arg(events(alloc))?
+        .arg(counts(alloc))
+}
+
+fn workers<'a>(alloc: Global) -> Arg<'a> {
+    operand(alloc, "WORKERS", "How many workers, 1 to 16").value_parser(value_parser!(u8).range(
+        1..=16,
+    ))
+}
+
+fn events<'a>(alloc: Global) -> Arg<'a> {
+    operand(alloc, "EVENTS", "How many events each makes").value_parser(value_parser!(u64).range(
+        1..=1_000_000_000_000,
+    ))
+}
+
+fn counts<'a>(alloc: Global) -> Arg<'a> {
+    Arg::new(alloc, "counts")
+        .long("counts")
+        .action(ArgAction::SetTrue)
+        .help("Only counts: keeps and prints no call")
 }
 
 /// Why the words aren't taken.
@@ -77,26 +88,23 @@ fn refusal(alloc: Global, error: &Error) -> Fault {
 
 /// The request of words that were taken.
 fn request_of(alloc: Global, matches: &ArgMatches) -> Result<Request, Fault> {
-    let request = Request {
+    let events = matches.get_one::<u64>("EVENTS").unwrap_or(1);
+    let is_counting = matches.get_flag("counts");
+    if events > MOST_KEPT && !is_counting {
+        return Err(Fault::ManyEvents);
+    }
+    Ok(Request {
         path: String::from_str(alloc, matches.get_str("POLICY").unwrap_or(""))?,
         seed: matches.get_one::<u64>("SEED").unwrap_or(0),
         workers: matches.get_one::<u8>("WORKERS").unwrap_or(1),
-        events: matches.get_one::<u64>("EVENTS").unwrap_or(1),
-        is_counting: matches.get_flag("counts"),
-    };
-    if request.events > MOST_KEPT && !request.is_counting {
-        return Err(Fault::ManyEvents);
-    }
-    Ok(request)
+        events,
+        is_counting,
+    })
 }
 
 /// What the words of the command ask for.
 pub fn asked(alloc: Global, words: &[String]) -> Result<Request, Fault> {
-    let mut texts = Vec::with_capacity(alloc, words.len())?;
-    for word in words {
-        texts.push(word.as_str())?;
-    }
-    match command(alloc)?.try_get_matches_from(texts.as_slice()) {
+    match command(alloc)?.try_get_matches_from(words) {
         Ok(matches) => request_of(alloc, &matches),
         Err(error) => Err(refusal(alloc, &error)),
     }

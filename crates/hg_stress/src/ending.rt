@@ -33,7 +33,11 @@ pub fn end<N: ServiceName, R: Wait>(
     shared: &Shared,
 ) -> Result<Ending, AllocError> {
     match service.close(rt, alloc) {
-        Ok(core) => Ok(ended(core, shared)),
+        Ok(mut core) => {
+            let ending = ended(&mut core, shared);
+            drop(core);
+            Ok(ending)
+        }
         Err(Unclosed::Running(service, fault)) => {
             drop(service);
             why_running(fault)
@@ -84,14 +88,13 @@ fn row_at(core: &mut Core, place: Place) -> Option<Row> {
 }
 
 /// What lives in a core, place by place beside the lives that were begun and ended.
-fn ended(core: Core, shared: &Shared) -> Ending {
-    let mut core = core;
-    hold_all(&mut core);
+fn ended(core: &mut Core, shared: &Shared) -> Ending {
+    hold_all(core);
     let mut count = 0u64;
     for number in 0..usize::from(core.policy().segments()).min(MAX_SEGMENTS) * SEGMENT_PLACES {
         let place = place_at(number);
-        let row = row_at(&mut core, place);
-        if row.map(|row| row.handle.generation) != shared.goes_on(place) {
+        let row = row_at(core, place);
+        if row.map(|row| row.handle.generation) != shared.lives.goes_on(place) {
             return Ending::Differs(place);
         }
         if row.is_some() {

@@ -33,25 +33,43 @@ pub struct Done {
     pub counts: Counts,
 }
 
-/// A worker of the plan for each of the first numbers, each with an own stream.
-pub fn lanes<N: ServiceName>(
+/// A worker with a stream of its own.
+fn lane<N: ServiceName>(
+    alloc: Global,
+    worker: Worker<N>,
+    plan: Plan,
+) -> Result<Lane<N>, AllocError> {
+    match Vec::with_capacity(alloc, plan.kept) {
+        Ok(calls) => {
+            let draw = Draw::new(plan, worker.own.number());
+            Ok(Lane {
+                worker,
+                plan,
+                draw,
+                tally: Tally::new(),
+                calls,
+            })
+        }
+        Err(error) => {
+            drop(worker);
+            Err(error)
+        }
+    }
+}
+
+/// Adds a worker of the plan for each of the first numbers.
+pub fn add_lanes<N: ServiceName>(
     alloc: Global,
     service: &mut Service<N>,
     plan: Plan,
-) -> Result<Vec<Lane<N>>, AllocError> {
-    let mut lanes = Vec::with_capacity(alloc, usize::from(plan.workers))?;
+    lanes: &mut Vec<Lane<N>>,
+) -> Result<(), AllocError> {
     for number in 0..plan.workers {
         if let Some(worker) = service.worker(number) {
-            lanes.push(Lane {
-                worker,
-                plan,
-                draw: Draw::new(plan, number),
-                tally: Tally::new(),
-                calls: Vec::with_capacity(alloc, plan.kept)?,
-            })?;
+            lanes.push(lane(alloc, worker, plan)?)?;
         }
     }
-    Ok(lanes)
+    Ok(())
 }
 
 /// What the service answers.

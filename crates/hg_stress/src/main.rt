@@ -23,9 +23,9 @@ mod tally;
 mod telling;
 
 use crate::asked::{Request, asked};
-use crate::ending::end;
+use crate::ending::{Ending, end};
 use crate::fault::Fault;
-use crate::lane::{Done, Lane, lanes};
+use crate::lane::{Done, Lane, add_lanes};
 use crate::plan::Plan;
 use crate::shared::Shared;
 use crate::telling::tell;
@@ -61,7 +61,7 @@ fn run<N: ServiceName + Send + Sync, R: Threads + Wait + Sync>(
     }
 }
 
-/// The workers of a service at once, until each has come to the end of its stream and left; what
+/// The workers of a service at once, until each has come to the end of its stream and left; adds what
 /// they did.
 fn served<N: ServiceName + Send + Sync, R: Threads + Wait + Sync>(
     rt: &R,
@@ -69,19 +69,77 @@ fn served<N: ServiceName + Send + Sync, R: Threads + Wait + Sync>(
     service: &mut Service<N>,
     plan: Plan,
     shared: &Shared,
-) -> Result<Vec<Done>, AllocError> {
-    let mut lanes = lanes(alloc, service, plan)?;
-    let mut done = Vec::with_capacity(alloc, lanes.len())?;
-    run(rt, &mut lanes, shared);
-    for lane in lanes {
-        done.push(lane.leave(rt))?;
+    done: &mut Vec<Done>,
+) -> Result<(), AllocError> {
+    let mut lanes = Vec::new(alloc);
+    if let Err(error) = add_lanes(alloc, service, plan, &mut lanes) {
+        drop(lanes);
+        return Err(error);
     }
-    Ok(done)
+    run(rt, &mut lanes, shared);
+    let mut kept = Ok(());
+    for lane in lanes {
+        if done.push(lane.leave(rt)).is_err() {
+            kept = Err(AllocError);
+        }
+    }
+    kept
 }
 
-/// A service of the policy, from its opening to its close; then what came of it is printed, and
-/// whether that is as it should be.
-fn stress<N: ServiceName + Send + Sync, R: Threads + Wait + Print + AllocGlobal + Sync>(
+/// A service from its first event to its close; adds what its workers did.
+fn ended<N: ServiceName + Send + Sync, R: Threads + Wait + Sync>(
+    rt: &R,
+    alloc: Global,
+    service: Service<N>,
+    plan: Plan,
+    shared: &Shared,
+    done: &mut Vec<Done>,
+) -> Result<Ending, AllocError> {
+    let mut service = service;
+    match served(rt, alloc, &mut service, plan, shared, done) {
+        Ok(()) => end(rt, alloc, service, shared),
+        Err(error) => {
+            drop(service);
+            Err(error)
+        }
+    }
+}
+
+/// Prints what came of a run, and whether that is as it should be.
+fn printed<R: Print>(
+    rt: &R,
+    alloc: Global,
+    names: &Names,
+    done: &[Done],
+    shared: &Shared,
+    ending: Ending,
+) -> Result<bool, Fault> {
+    let mut out = BufWriter::new(alloc, io::writer(rt))?;
+    let told = tell(&mut out, names, done, shared, ending);
+    drop(out);
+    Ok(told?)
+}
+
+/// A run of a service, and what came of it printed; whether that is as it should be.
+fn told<N: ServiceName + Send + Sync, R: Threads + Wait + Print + Sync>(
+    rt: &R,
+    alloc: Global,
+    service: Service<N>,
+    names: &Names,
+    plan: Plan,
+    shared: &Shared,
+) -> Result<bool, Fault> {
+    let mut done = Vec::new(alloc);
+    let told = match ended(rt, alloc, service, plan, shared, &mut done) {
+        Ok(ending) => printed(rt, alloc, names, &done, shared, ending),
+        Err(_) => Err(Fault::Memory),
+    };
+    drop(done);
+    told
+}
+
+/// A service of the policy, from its opening to its close, told of; whether that is as it should be.
+fn stress<N: ServiceName + Send + Sync, R: Threads + Wait + Print + Sync>(
     rt: &R,
     alloc: Global,
     policy: Policy,
@@ -94,23 +152,42 @@ fn stress<N: ServiceName + Send + Sync, R: Threads + Wait + Print + AllocGlobal 
     requires segments { table.segments ≡ length policy.segments }
     requires workers { table.workers ≡ policy.workers }
 {
-    let mut out = BufWriter::new(alloc, io::writer(rt))?;
-    let shared = Shared::new(alloc, plan)?;
-    let mut service = Service::<N>::open(alloc, policy, table)?;
-    let done = served(rt, alloc, &mut service, plan, &shared)?;
-    let ending = end(rt, alloc, service, &shared)?;
-    Ok(tell(&mut out, names, &done, &shared, ending)?)
+    let service = Service::<N>::open(alloc, policy, table)?;
+    match Shared::new(alloc, plan) {
+        Ok(shared) => {
+            let told = told(rt, alloc, service, names, plan, &shared);
+            drop(shared);
+            told
+        }
+        Err(_) => {
+            drop(service);
+            Err(Fault::Memory)
+        }
+    }
+}
+
+/// What a file has.
+fn document_at(rt: &HostRuntime, path: &str) -> Result<Vec<u8>, ReadFault> {
+    match fs::open(rt, path) {
+        Ok(mut file) => {
+            let document = read_limited(rt.alloc(), &mut file);
+            drop(file);
+            document
+        }
+        Err(_) => Err(ReadFault::Failed),
+    }
 }
 
 /// The policy that is asked for.
 fn policy_of(rt: &HostRuntime, request: &Request) -> Result<Policy, Fault> {
-    let Ok(mut file) = fs::open(rt, request.path.as_str()) else {
-        return Err(Fault::Read(ReadFault::Failed));
-    };
-    let document = read_limited(rt.alloc(), &mut file)?;
-    let policy = read_policy(rt.alloc(), &document)?;
-    if request.workers > policy.workers() {
-        return Err(Fault::ManyWorkers(policy.workers()));
+    let document = document_at(rt, request.path.as_str())?;
+    let read = read_policy(rt.alloc(), &document);
+    drop(document);
+    let policy = read?;
+    let workers = policy.workers();
+    if request.workers > workers {
+        drop(policy);
+        return Err(Fault::ManyWorkers(workers));
     }
     Ok(policy)
 }
@@ -132,22 +209,36 @@ struct Job {
     plan: Plan,
 }
 
+/// What a request comes to under its policy.
+fn job_for(rt: &HostRuntime, request: &Request) -> Result<Job, Fault> {
+    let policy = policy_of(rt, request)?;
+    let plan = Plan::of(&policy, request);
+    match Names::of(rt.alloc(), &policy) {
+        Ok(names) => Ok(Job {
+            policy,
+            names,
+            plan,
+        }),
+        Err(_) => {
+            drop(policy);
+            Err(Fault::Memory)
+        }
+    }
+}
+
 /// What the words ask for.
 fn job_of(rt: &HostRuntime) -> Result<Job, Fault> {
-    let alloc = rt.alloc();
-    let request = asked(alloc, &words(rt)?)?;
-    let policy = policy_of(rt, &request)?;
-    let names = Names::of(alloc, &policy)?;
-    let plan = Plan::of(&policy, &request);
-    Ok(Job {
-        policy,
-        names,
-        plan,
-    })
+    let words = words(rt)?;
+    let asked = asked(rt.alloc(), &words);
+    drop(words);
+    let request = asked?;
+    let job = job_for(rt, &request);
+    drop(request);
+    job
 }
 
 /// A run, and whether it ended as it should.
-fn stressed<R: Threads + Wait + Print + AllocGlobal + Sync>(
+fn stressed<R: Threads + Wait + Print + Sync>(
     rt: &R,
     alloc: Global,
     job: Job,
@@ -157,8 +248,18 @@ fn stressed<R: Threads + Wait + Print + AllocGlobal + Sync>(
         names,
         plan,
     } = job;
-    let table = LifeTable::new(alloc, &policy)?;
-    stress::<Brand, _>(rt, alloc, policy, table, &names, plan)
+    match LifeTable::new(alloc, &policy) {
+        Ok(table) => {
+            let told = stress::<Brand, _>(rt, alloc, policy, table, &names, plan);
+            drop(names);
+            told
+        }
+        Err(_) => {
+            drop(policy);
+            drop(names);
+            Err(Fault::Memory)
+        }
+    }
 }
 
 /// Prints help, or tells why there was no run; and the status of that.

@@ -1,7 +1,7 @@
 use crate::gate::Gate;
 use crate::lives::Lives;
 use crate::plan::Plan;
-use hg_place::{Handle, Place};
+use hg_place::Handle;
 use std::alloc::{AllocError, Global};
 use std::sync::atomic::{AtomicU64, Ordering};
 
@@ -13,8 +13,7 @@ pub struct Shared {
     shelf: Vec<AtomicU64>,
     /// For each segment how often it came to a worker.
     came: Vec<AtomicU64>,
-    pub begun: Lives,
-    pub ended: Lives,
+    pub lives: Lives,
 }
 
 /// So many words, all of them 0.
@@ -28,12 +27,14 @@ fn zeros(alloc: Global, count: usize) -> Result<Vec<AtomicU64>, AllocError> {
 
 impl Shared {
     pub fn new(alloc: Global, plan: Plan) -> Result<Shared, AllocError> {
+        let lives = Lives::none(alloc, plan.segments)?;
+        let shelf = zeros(alloc, plan.places)?;
+        let came = zeros(alloc, usize::from(plan.segments))?;
         Ok(Shared {
             gate: Gate::new(),
-            shelf: zeros(alloc, plan.places)?,
-            came: zeros(alloc, usize::from(plan.segments))?,
-            begun: Lives::none(alloc, plan.segments)?,
-            ended: Lives::none(alloc, plan.segments)?,
+            shelf,
+            came,
+            lives,
         })
     }
 
@@ -60,15 +61,6 @@ impl Shared {
             }
             None => false,
         }
-    }
-
-    /// The generation of the life that goes on at a place, by what was begun and ended there.
-    pub fn goes_on(&self, place: Place) -> Option<u32> {
-        let begun = self.begun.count(place);
-        if self.ended.count(place) == begun {
-            return None;
-        }
-        u32::try_from(begun).ok()
     }
 
     /// A segment came to a worker; whether it had come to one before.

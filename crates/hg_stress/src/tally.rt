@@ -44,13 +44,13 @@ impl Tally {
 
     fn note_begin(&mut self, shared: &Shared, handle: Handle) {
         more(&mut self.counts.allocated);
-        if !shared.begun.add(handle) {
+        if !shared.lives.begin(handle) {
             more(&mut self.counts.broken);
         }
     }
 
     fn note_end(&mut self, shared: &Shared, handle: Handle) {
-        if !shared.ended.add(handle) {
+        if !shared.lives.end(handle) {
             more(&mut self.counts.broken);
         }
     }

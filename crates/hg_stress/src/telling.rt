@@ -45,7 +45,7 @@ fn tell_counts<W: Write>(out: &mut W, all: Counts) -> io::Result<()> {
 
 /// Prints what became of the lives, and whether each was begun and ended once.
 fn tell_lives<W: Write>(out: &mut W, all: Counts, shared: &Shared) -> io::Result<bool> {
-    match shared.ended.compare(&shared.begun) {
+    match shared.lives.over_and_live() {
         Some((over, live)) if all.broken == 0 => {
             writeln!(out, "# lives ended {over} live {live}")?;
             Ok(true)
