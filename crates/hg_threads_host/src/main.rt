@@ -1,13 +1,13 @@
 //! A host in Rattle with two threads: a worker of one service serves each. One thread gives a block
-//! to the other, which frees it, while the first goes on with blocks of its own. Then both stop, the
-//! service closes, and one thread goes on in a core.
+//! to the other, which frees it, while the first gives out another. Then both stop, the service
+//! closes, and one thread goes on in a core.
 #![tactic(auto)]
 
 ghost use Rattle.std.specs.Prelude.{◌≡◌, length};
 ghost use Rattle.hg_table.specs.Named.{table_of};
 
 use hg_core::Core;
-use hg_machine::{Answer, Event};
+use hg_machine::Answer;
 use hg_place::{Actor, Handle};
 use hg_policy::Policy;
 use hg_policy_text::read_policy;
@@ -41,19 +41,6 @@ fn kept<N: ServiceName>(worker: &mut Worker<N>, number: u64) -> Option<Handle> {
     }
 }
 
-/// Gives out and frees a thousand blocks; how many of them.
-fn busy<N: ServiceName>(worker: &mut Worker<N>) -> u32 {
-    let mut count = 0u32;
-    for number in 0..1000 {
-        if let Some(block) = kept(worker, number) {
-            if let Answer::Done = worker.own.free(ALICE, block) {
-                count = count.saturating_add(1);
-            }
-        }
-    }
-    count
-}
-
 /// Frees another's block, and sends it to the worker that holds its segment.
 fn given_up<R: Wait, N: ServiceName>(
     rt: &R,
@@ -74,43 +61,45 @@ fn served<R: Print + Threads + Wait + Sync, N: ServiceName + Send + Sync>(
     let Some(block) = kept(one, 42) else {
         return println!(rt; "no block");
     };
-    println!(rt; "{block} holds {:?}", one.own.read(ALICE, block, 0))?;
-    let (count, (freed, sent)) = join(rt, || busy(one), || given_up(rt, other, block));
-    println!(rt; "meanwhile: {count} blocks")?;
-    println!(rt; "freed by the other: {freed:?}, sent: {sent:?}")?;
-    println!(rt; "then: {:?}", one.own.read(ALICE, block, 0))?;
+    let (next, (freed, sent)) = join(rt, || kept(one, 43), || given_up(rt, other, block));
+    println!(rt; "{block} freed by the other: {freed:?}, sent: {sent:?}")?;
+    println!(rt; "another given out meanwhile: {}", next.is_some())?;
     println!(rt; "take: {:?}", one.take(rt, 0))
 }
 
-/// One thread goes on: the first worker of the core holds what the pool has, and reads a block that
-/// was given out before.
-fn went_on<R: Print>(rt: &R, core: &mut Core, block: Handle) -> io::Result<()> {
-    if core.policy().workers() == 0 {
-        return println!(rt; "nobody is there");
-    }
-    let refill = core.step(0, Event::Refill { arena: MAIN });
-    let read = Event::Read {
-        actor: ALICE,
-        handle: block,
-        index: 0,
-    };
-    let read = core.step(0, read);
-    println!(rt; "closed; refill: {refill:?}")?;
-    println!(rt; "{block} holds {read:?}")
+/// Two threads, until both workers have left.
+fn left<R: Print + Threads + Wait + Sync, N: ServiceName + Send + Sync>(
+    rt: &R,
+    one: Worker<N>,
+    other: Worker<N>,
+) -> io::Result<()> {
+    let (mut one, mut other) = (one, other);
+    let ended = served(rt, &mut one, &mut other);
+    one.leave(rt);
+    other.leave(rt);
+    ended
 }
 
-/// The service closes, and its core goes on.
+/// The first worker of the core takes up the segment that the pool has.
+fn went_on(core: &mut Core) -> Option<u8> {
+    if core.policy().workers() == 0 {
+        return None;
+    }
+    core.refill(0, MAIN).ok()
+}
+
+/// The service closes, and one thread goes on in its core, in which alice's second block lives.
 fn closed<R: Print + Wait, N: ServiceName>(
     rt: &R,
     alloc: Global,
     service: Service<N>,
-    block: Handle,
 ) -> io::Result<()> {
     match service.close(rt, alloc) {
         Ok(mut core) => {
-            let told = went_on(rt, &mut core, block);
+            let told = went_on(&mut core);
+            let bytes = core.charge(0, 0);
             drop(core);
-            told
+            println!(rt; "closed; refill: {told:?}, then alice has {bytes} bytes")
         }
         Err(Unclosed::Running(service, fault)) => {
             drop(service);
@@ -121,21 +110,6 @@ fn closed<R: Print + Wait, N: ServiceName>(
             println!(rt; "{place:?} is lost")
         }
     }
-}
-
-/// Two threads, until both workers have left; then a block that the first gave out last.
-fn left<R: Print + Threads + Wait + Sync, N: ServiceName + Send + Sync>(
-    rt: &R,
-    one: Worker<N>,
-    other: Worker<N>,
-) -> io::Result<Option<Handle>> {
-    let (mut one, mut other) = (one, other);
-    let ended = served(rt, &mut one, &mut other);
-    let last = kept(&mut one, 7);
-    one.leave(rt);
-    other.leave(rt);
-    ended?;
-    Ok(last)
 }
 
 /// Opens the service that N names, and takes its two workers.
@@ -151,20 +125,16 @@ fn host<R: Print + Threads + Wait + Sync, N: ServiceName + Send + Sync>(
     requires workers { table.workers ≡ policy.workers }
 {
     let mut service = Service::<N>::open(alloc, policy, table)?;
-    let last = match (service.worker(0), service.worker(1)) {
+    let ended = match (service.worker(0), service.worker(1)) {
         (Some(one), Some(other)) => left(rt, one, other),
         (one, other) => {
             drop(one);
             drop(other);
-            println!(rt; "no such worker").map(|()| None)
+            println!(rt; "no such worker")
         }
     };
-    match last {
-        Ok(Some(block)) => closed(rt, alloc, service, block),
-        Ok(None) => {
-            drop(service);
-            println!(rt; "no block")
-        }
+    match ended {
+        Ok(()) => closed(rt, alloc, service),
         Err(fault) => {
             drop(service);
             Err(fault)
@@ -178,6 +148,11 @@ fn main(rt: HostRuntime) -> io::Result<()> {
         Ok(policy) => policy,
         Err(fault) => return println!(rt; "{fault}"),
     };
-    let table = LifeTable::new(alloc, &policy)?;
-    host::<_, Brand>(&rt, alloc, policy, table)
+    match LifeTable::new(alloc, &policy) {
+        Ok(table) => host::<_, Brand>(&rt, alloc, policy, table),
+        Err(error) => {
+            drop(policy);
+            Err(error.into())
+        }
+    }
 }
