@@ -1,5 +1,5 @@
 -- What may be read and written is.
-use Rattle.std.proofs.Common.{◌≡◌, ◌≢◌, ◌⊎◌, ℕ, zero, suc, ◌+◌, ◌*◌, ◌/◌, ◌%◌, ◌<◌, ◌≤◌, min, not, nat_lt, true, List, [], ◌∷◌, length, take, Option, Some, None, MatchOption, arith, refl, sym, ap, subst, inl, inr, ◌∙◌}
+use Rattle.std.proofs.Common.{◌≡◌, ◌≢◌, ◌⊎◌, ℕ, zero, suc, ◌+◌, ◌*◌, ◌/◌, ◌%◌, ◌<◌, ◌≤◌, min, not, nat_lt, true, List, [], ◌∷◌, length, take, Option, Some, None, arith, refl, sym, ap, subst, inl, inr, ◌∙◌}
 use Rattle.std.proofs.lemmas.Bool.{lt-ltb}
 use Rattle.hg_place.specs.declared.Right.{Right}
 use Rattle.hg_place.specs.declared.Right.TheVariants as right
@@ -20,7 +20,7 @@ use Rattle.hg_machine.proofs.Cases.{step_cases}
 use Rattle.hg_bytes.specs.Allowed.{AllowedIsRead, AllowedIsWritten, HoldsIts, MayUse}
 use Rattle.hg_bytes.specs.Blocks.{AreBytes, HasPut, block_bytes, block_words}
 use Rattle.hg_bytes.specs.Bytes.{ReadsBytes, WritesBytes}
-use Rattle.hg_bytes.specs.Ends.{index_at}
+use Rattle.hg_bytes.specs.Ends.{IsReadTo, IsWrittenTo, index_at}
 use Rattle.hg_bytes.specs.OfCore.{core_reads, core_writes}
 use Rattle.hg_bytes.specs.declared.of_core.CoreBlock.{CoreBlock}
 use Rattle.hg_bytes.specs.declared.progress.Progress.{Progress}
@@ -70,21 +70,14 @@ at_word first (suc d) is later = later (omega arith)
 
 module _ (by : CoreBlock) (first done n : ℕ) (k : Kept) (held : HoldsIts by k)
     (inside : first + n ≤ length (block_bytes k by.handle)) where
-  read_whole : (o : Option Answer) → MayUse right.Read by k
-      → MatchOption o (done ≡ n) (λ said. (done < n) × (1 ≤ done → (first + done) % 8 ≡ 0) × ((word : ℕ) → said ≢ answer.Value word)
-      × core_reads by (index_at (first + done)) said k k) → o ≡ None
+  read_whole : (o : Option Answer) → MayUse right.Read by k → IsReadTo by first n done o k → o ≡ None
   read_whole None may end = refl
   read_whole (Some said) may end =
       let below = end.0 in
       absurd (is_read by k (index_at (first + done)) said may held (word_of by k (first + done) (omega (arith, below))) end.3 end.2)
 
   written_whole : (o : Option Answer) → MayUse right.Write by k
-      → MayUse right.Read by k ⊎ ((first % 8 ≡ 0) × (n % 8 ≡ 0))
-      → MatchOption o (done ≡ n) (λ said. (done < n) × (1 ≤ done → (first + done) % 8 ≡ 0)
-      × ((((word : ℕ) → said ≢ answer.Value word) × ((first + done) % 8 ≡ 0 → n < done + 8)
-      × core_reads by (index_at (first + done)) said k k)
-      ⊎ ((value : ℕ) × (said ≢ answer.Done) × core_writes by (index_at (first + done)) value said k k)))
-      → o ≡ None
+      → MayUse right.Read by k ⊎ ((first % 8 ≡ 0) × (n % 8 ≡ 0)) → IsWrittenTo by first n done o k → o ≡ None
   written_whole None may also end = refl
   written_whole (Some said) may also end =
       let below = end.0 in
@@ -107,10 +100,7 @@ pub allowed_is_read : AllowedIsRead
 allowed_is_read by first room told made old new sound may held inside did =
     let same = (reads_show_bytes by first room told made old new sound did).0 in
     read_whole by first made.done (length room) old held inside made.refused may
-    (subst (λ k. MatchOption made.refused (made.done ≡ length room)
-    (λ said. (made.done < length room) × (1 ≤ made.done → (first + made.done) % 8 ≡ 0) × ((word : ℕ) → said ≢ answer.Value word)
-    × core_reads by (index_at (first + made.done)) said k k)) same
-    (reads_end by first room told made old new did))
+    (subst (IsReadTo by first (length room) made.done made.refused) same (reads_end by first room told made old new did))
 
 -- what was allowed is so after bytes were put into the block
 module _ (by : CoreBlock) (first : ℕ) (bytes : List ℕ) (old new : Kept) (put : HasPut by.handle first bytes old new) where

@@ -7,7 +7,7 @@ use Rattle.hg_machine.specs.declared.Answer.{Answer}
 use Rattle.hg_machine.specs.declared.Answer.TheVariants as answer
 use Rattle.hg_machine.specs.Lists.{Kept}
 use Rattle.hg_bytes.specs.Bytes.{PutsNot, word_index}
-use Rattle.hg_bytes.specs.Ends.{ReadsEnd, WritesEnd, index_at}
+use Rattle.hg_bytes.specs.Ends.{IsReadTo, IsWrittenTo, ReadsEnd, WritesEnd, index_at}
 use Rattle.hg_bytes.specs.Pieces.{before, laid, piece, start_in, words_for}
 use Rattle.hg_bytes.specs.OfCore.{core_reads, core_writes}
 use Rattle.hg_bytes.specs.declared.of_core.CoreBlock.{CoreBlock}
@@ -38,8 +38,7 @@ module _ (by : CoreBlock) (first n done many : ℕ) (mid new : Kept) (is : done 
       → MatchOption o ((many ≡ words_for (first % 8) n) × (new ≡ mid))
       (λ said. (many < words_for (first % 8) n) × ((word : ℕ) → said ≢ answer.Value word)
       × core_reads by (word_index first many) said mid new)
-      → MatchOption o (done ≡ n) (λ said. (done < n) × (1 ≤ done → (first + done) % 8 ≡ 0) × ((word : ℕ) → said ≢ answer.Value word)
-      × core_reads by (index_at (first + done)) said new new)
+      → IsReadTo by first n done o new
   read_next None end = is ∙ ap (λ k. min n (before (first % 8) k)) end.0 ∙ all_before (first % 8) n (omega arith)
   read_next (Some said) end =
       let next = next_at first n done many is end.0 in
@@ -51,16 +50,14 @@ module _ (by : CoreBlock) (first n done many : ℕ) (mid new : Kept) (is : done 
             (subst (λ i. core_reads by i said mid new) next.2 end.2),
       )
 
-  write_next : (start : ℕ) (part : List ℕ) (after : Type 0) (o : Option Answer) → length part ≤ 8
-      → (many < words_for (first % 8) n → length part < 8 → after)
+  write_next : (start : ℕ) (part : List ℕ) (o : Option Answer) → length part ≤ 8
+      → (many < words_for (first % 8) n → length part < 8 → (first + done) % 8 ≡ 0 → n < done + 8)
       → MatchOption o ((many ≡ words_for (first % 8) n) × (new ≡ mid))
       (λ said. (many < words_for (first % 8) n)
       × PutsNot core_reads core_writes by (word_index first many) start part said mid new)
-      → MatchOption o (done ≡ n) (λ said. (done < n) × (1 ≤ done → (first + done) % 8 ≡ 0)
-      × ((((word : ℕ) → said ≢ answer.Value word) × after × core_reads by (index_at (first + done)) said new new)
-      ⊎ ((value : ℕ) × (said ≢ answer.Done) × core_writes by (index_at (first + done)) value said new new)))
-  write_next start part after None short partly end = is ∙ ap (λ k. min n (before (first % 8) k)) end.0 ∙ all_before (first % 8) n (omega arith)
-  write_next start part after (Some said) short partly end =
+      → IsWrittenTo by first n done o new
+  write_next start part None short partly end = is ∙ ap (λ k. min n (before (first % 8) k)) end.0 ∙ all_before (first % 8) n (omega arith)
+  write_next start part (Some said) short partly end =
       let next = next_at first n done many is end.0 in (
         next.0,
         next.1,
@@ -104,5 +101,5 @@ reads_end by first room told made old new did =
 pub writes_end : WritesEnd
 writes_end by first bytes made old new did =
     write_next by first (length bytes) made.done did.many did.mid new did.done (start_in (first % 8) did.many)
-    (piece (first % 8) bytes did.many) ((first + made.done) % 8 ≡ 0 → length bytes < made.done + 8) made.refused
+    (piece (first % 8) bytes did.many) made.refused
     (short_piece (first % 8) bytes did.many) (unfilled first made.done did.many bytes did.done) did.end
