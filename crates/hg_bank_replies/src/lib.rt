@@ -11,4 +11,5 @@ mod serving;
 pub use asking::{BankQuestion, answer, shut};
 pub use at_once::{free_all, read_words, write_words};
 pub use block::{BankBlock, core_of};
+pub use replies::{alloc_reply, placed, refill_reply};
 pub use serving::{grow, serve, worker_of};

@@ -12,7 +12,7 @@ use hg_machine::Answer;
 use hg_reply::{Reply, reply_of};
 
 /// A status with a value, and the number of the core that it is of.
-fn placed(status: u16, core: u16, value: u64) -> Reply
+pub fn placed(status: u16, core: u16, value: u64) -> Reply
     ensures { result ≡ placed status core value }
 {
     Reply {
@@ -24,7 +24,7 @@ fn placed(status: u16, core: u16, value: u64) -> Reply
 }
 
 /// The reply that stands for what an allocation tells.
-pub(crate) fn alloc_reply(told: Result<BankHandle, Refused>) -> Reply
+pub fn alloc_reply(told: Result<BankHandle, Refused>) -> Reply
     ensures { result ≡ alloc_reply told }
 {
     match told {
@@ -34,7 +34,7 @@ pub(crate) fn alloc_reply(told: Result<BankHandle, Refused>) -> Reply
 }
 
 /// The reply that stands for what a refill tells.
-pub(crate) fn refill_reply(told: Result<BankSegment, NoSegment>) -> Reply
+pub fn refill_reply(told: Result<BankSegment, NoSegment>) -> Reply
     ensures { result ≡ refill_reply told }
 {
     match told {

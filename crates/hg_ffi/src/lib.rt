@@ -8,7 +8,7 @@ pub mod bank_at_once;
 pub mod bank_bytes;
 pub mod bank_opening;
 pub mod bank_serving;
-mod box_pointer;
+pub mod box_pointer;
 pub mod bytes;
 pub mod holding;
 pub mod host_bank;

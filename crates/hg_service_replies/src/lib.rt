@@ -16,7 +16,7 @@ pub use asking::{PartQuestion, answer, find};
 pub use closing::close;
 pub use dropping::{drop_service, drop_worker};
 pub use leaving::leave;
-pub use listing::list;
+pub use listing::{list, tell_rows};
 pub use opening::open;
 pub use part::{HostedPart, OpenService};
 pub use serving::serve;

@@ -27,8 +27,8 @@ pub fn list(alloc: Global, part: &mut HostedPart, actor: Actor, room: &mut [Repl
     }
 }
 
-/// As many rows as there is room for.
-fn tell_rows(rows: &[Row], room: &mut [Reply])
+/// Writes as many rows as there is room for; what is behind them stays.
+pub fn tell_rows(rows: &[Row], room: &mut [Reply])
     ensures { AreTold rows.now room.old room.new }
 {
     let count = rows.len().min(room.len());
