@@ -31,6 +31,7 @@ typedef struct {
 static thread all[WORKERS];
 static uint64_t rounds = 40;
 static atomic_ulong asked; /* how often a service was asked to close */
+static unsigned long most; /* and how often it is asked before its workers leave */
 
 static int is(hg_reply reply, unsigned status, uint64_t value)
 {
@@ -153,11 +154,12 @@ static void try_sending(void)
     CHECK(is_plain(hg_close(&core), HG_DONE));
 }
 
-/* Takes the segment, in which a block lives, and gives it up, again and again; then leaves. */
+/* Takes the segment, in which a block lives, and gives it up, until the service was asked often; then
+ * leaves. */
 static void *hold_and_give_up(void *given)
 {
     thread *of = given;
-    for (uint64_t n = 0; n < 50 * of->rounds; n++) {
+    while (atomic_load(&asked) < most) {
         of->wrong += !is(hg_worker_refill_now(&of->worker, ARENA), HG_REFILLED, 0);
         of->wrong += !is(hg_worker_read(&of->worker, OWNER, of->kept, 0), HG_VALUE, 5);
         of->wrong += !is(hg_worker_abandon_now(&of->worker, 0), HG_DONE, 0);
@@ -191,6 +193,7 @@ static void try_closing(void)
         all[1].blocks[n] = hg_worker_alloc(&all[0].worker, OWNER, ARENA, SIZE).value;
     CHECK(is(hg_worker_abandon_now(&all[0].worker, 0), HG_DONE, 0));
     for (unsigned n = 2; n < WORKERS; n++) CHECK(is_plain(hg_worker_leave(&all[n].worker), HG_DONE));
+    most = atomic_load(&asked) + BLOCKS + 5 * rounds;
     begin(&all[0], hold_and_give_up);
     begin(&all[1], send_and_leave);
     for (;;) {

@@ -23,14 +23,14 @@ use std::thread::{Threads, join};
 /// How often a service is asked at most.
 const TRIES: u32 = 1_000_000;
 
-/// How many turns a worker waits at most until it was asked once more.
-const TURNS: u32 = 1_000_000_000;
+/// How often the worker takes the segment and gives it up at most.
+const ROUNDS: u32 = 1_000_000_000;
+
+/// How often the service is asked while the worker goes on.
+const TIMES: u64 = 200;
 
 /// How many blocks are freed, each after the service was asked once more.
 const BLOCKS: u16 = 16;
-
-/// How often the worker takes the segment and gives it up.
-const ROUNDS: u16 = 2_000;
 
 /// A service is asked until it closes; each time that it doesn't is counted.
 fn closes_at_last<N: ServiceName, R: Wait + Abort>(
@@ -58,16 +58,6 @@ fn closes_at_last<N: ServiceName, R: Wait + Abort>(
     panic!(rt; "it never closes")
 }
 
-/// Waits until the service was asked once more.
-fn waits(asked: &AtomicU64) {
-    let before = asked.load(Ordering::SeqCst);
-    for _ in 0..TURNS {
-        if asked.load(Ordering::SeqCst) != before {
-            return;
-        }
-    }
-}
-
 /// The block of a number, behind the one that is kept.
 fn block(number: u16) -> Block {
     Block(0, 0, number, 1)
@@ -85,23 +75,33 @@ fn begins<N: ServiceName, R: Wait + Abort>(rt: &R, worker: &mut Worker<N>) {
     answers(rt, worker, Asked::Abandon(0), Told::Done);
 }
 
-/// Takes the segment and gives it up, again and again: it is always there. Between that it frees
-/// blocks there, which nobody holds then, and sends each; and in the end it leaves.
+/// Takes the segment and gives it up, again and again: it is always there.
+fn holds_and_gives_up<N: ServiceName, R: Wait + Abort>(rt: &R, worker: &mut Worker<N>) {
+    answers(rt, worker, Asked::Refill(MAIN), Told::Refilled(0));
+    answers(rt, worker, Asked::Read(ALICE, X), Told::Value(5));
+    answers(rt, worker, Asked::Abandon(0), Told::Done);
+}
+
+/// Goes on until the service was asked often. Whenever it was asked once more, a block is freed in the
+/// segment, which nobody holds then, and sent; and in the end the worker leaves.
 fn goes_round<N: ServiceName, R: Wait + Abort>(rt: &R, worker: Worker<N>, asked: &AtomicU64) {
     let mut worker = worker;
-    for round in 1..=ROUNDS {
-        answers(rt, &mut worker, Asked::Refill(MAIN), Told::Refilled(0));
-        answers(rt, &mut worker, Asked::Read(ALICE, X), Told::Value(5));
-        answers(rt, &mut worker, Asked::Abandon(0), Told::Done);
-        if round <= BLOCKS {
-            waits(asked);
+    let mut freed = 0u16;
+    for _ in 0..ROUNDS {
+        holds_and_gives_up(rt, &mut worker);
+        let times = asked.load(Ordering::SeqCst);
+        if freed < BLOCKS && times > u64::from(freed) {
+            freed += 1;
             answers(
                 rt,
                 &mut worker,
-                Asked::Free(ALICE, block(round)),
+                Asked::Free(ALICE, block(freed)),
                 Told::Parted,
             );
             answers(rt, &mut worker, Asked::Deliver, Told::Done);
+        }
+        if freed == BLOCKS && times >= TIMES {
+            break;
         }
     }
     worker.leave(rt);
