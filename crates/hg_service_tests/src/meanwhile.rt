@@ -108,6 +108,24 @@ fn goes_round<N: ServiceName, R: Wait + Abort>(rt: &R, worker: Worker<N>, asked:
 }
 
 /// A service is asked while its worker goes on, and has in the end what that left.
+fn in_two<N: ServiceName + Send + Sync, R: Threads + Wait + Abort + Sync>(
+    rt: &R,
+    alloc: Global,
+    service: Service<N>,
+) -> Core {
+    let mut service = service;
+    let mut worker = service.worker(0).expect(rt, "a worker");
+    begins(rt, &mut worker);
+    let asked = AtomicU64::new(0);
+    let (core, ()) = join(
+        rt,
+        || closes_at_last(rt, alloc, service, &asked),
+        || goes_round(rt, worker, &asked),
+    );
+    core
+}
+
+/// The core that a new service of the name N becomes.
 fn asked_meanwhile<N: ServiceName + Send + Sync, R: Threads + Wait + Abort + Sync>(
     rt: &R,
     alloc: Global,
@@ -118,16 +136,8 @@ fn asked_meanwhile<N: ServiceName + Send + Sync, R: Threads + Wait + Abort + Syn
     requires segments { made.1.segments ≡ length made.0.segments }
     requires workers { made.1.workers ≡ made.0.workers }
 {
-    let mut service = Service::<N>::open(alloc, made.0, made.1).expect(rt, "a service");
-    let mut worker = service.worker(0).expect(rt, "a worker");
-    begins(rt, &mut worker);
-    let asked = AtomicU64::new(0);
-    let (core, ()) = join(
-        rt,
-        || closes_at_last(rt, alloc, service, &asked),
-        || goes_round(rt, worker, &asked),
-    );
-    core
+    let service = Service::<N>::open(alloc, made.0, made.1).expect(rt, "a service");
+    in_two(rt, alloc, service)
 }
 
 /// The core that the service of the document becomes.
