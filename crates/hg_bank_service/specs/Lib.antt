@@ -1,6 +1,7 @@
 pub mod Has
 pub mod Sums
 pub mod Order
+pub mod Asking
 pub mod Named
 pub mod Listing
 pub mod Choosing

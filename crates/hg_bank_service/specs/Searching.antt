@@ -1,12 +1,24 @@
 -- How a search for a segment ends.
-use Rattle.std.specs.Prelude.{ℕ, List, length, Option, Some, None}
+use Rattle.std.specs.Prelude.{◌≡◌, ℕ, List, length, Option, Some, None}
 use Rattle.hg_machine.specs.declared.Answer.{Answer}
 use Rattle.hg_machine.specs.declared.Answer.TheVariants as answer
+use Rattle.hg_machine.specs.Policy.{Policy}
 use Rattle.hg_hosted.specs.declared.worker.HostedWorker.{HostedWorker}
 use Rattle.hg_bank_service.specs.Choosing.{AreAsked, IsServed}
+use Rattle.hg_bank_service.specs.Has.{AreNumbered}
 use Rattle.hg_bank_service.specs.Refilling.{AnswersRefill, RefillWaits}
+use Rattle.hg_bank_service.specs.Sums.{AreSums}
 use Rattle.hg_bank_service.specs.declared.refilling.Found.{Found}
 use Rattle.hg_bank_service.specs.declared.refilling.Found.TheVariants as found
+
+-- it ends so, and leaves as many workers, of this policy and number, whose sums the row has
+pub record IsSearched (policy : Policy) (number : ℕ)
+    (Ends : List HostedWorker → List HostedWorker → Type 0) (old new : List HostedWorker)
+    (row : List ℕ) : Type 0 where
+  pub ends : Ends old new
+  pub all : length new ≡ length old
+  pub of : AreNumbered policy number new
+  pub counted : AreSums (length policy.tenants) row new
 
 -- the segment that an answer gives
 abbrev pub segment_given : Answer → Option ℕ

@@ -3,6 +3,7 @@
 #![tactic(auto)]
 
 mod allocating;
+mod asking;
 mod calling;
 mod closing;
 pub mod laws;

@@ -5,16 +5,16 @@ ghost use Rattle.hg_machine.specs.Policy.{Policy};
 ghost use Rattle.hg_bank.specs.declared.bank.TheConstants.{MAX_CORES};
 ghost use Rattle.hg_bank_service.specs.Has.{AreNumbered};
 ghost use Rattle.hg_bank_service.specs.Refilling.{RefillsBy};
-ghost use Rattle.hg_bank_service.specs.Searching.{EndsSo, segment_given};
+ghost use Rattle.hg_bank_service.specs.Searching.{EndsSo, IsSearched, segment_given};
 ghost use Rattle.hg_bank_service.specs.Sums.{AreSums};
 
+use crate::asking::serve_there;
 use crate::order::core_at;
-use crate::sums::{deposit, withdraw};
 use crate::worker::BankWorker;
 use hg_bank::BankSegment;
 use hg_core::NoSegment;
 use hg_hosted::HostedWorker;
-use hg_machine::Answer;
+use hg_machine::{Answer, Event};
 use hg_policy::Policy;
 use hg_segment::TENANTS;
 
@@ -42,19 +42,13 @@ fn next_with_segment(
     requires few { length workers.old.items ≤ MAX_CORES }
     requires of { AreNumbered policy.now number workers.old.items }
     requires counted { AreSums (length policy.now.tenants) sums.old workers.old.items }
-    ensures ends { EndsSo arena current result workers.old.items workers.new.items }
-    ensures of { AreNumbered policy.now number workers.new.items }
-    ensures counted { AreSums (length policy.now.tenants) sums.new workers.new.items }
-    ensures all { length workers.new.items ≡ length workers.old.items }
+    ensures { IsSearched policy.now number (EndsSo arena current result) workers.old.items
+        workers.new.items sums.new }
 {
-    let tenants = policy.tenants();
     let count = workers.len() as u16;
     for before in 0..count {
         let core = core_at(current, count, before);
-        let worker = &mut workers[usize::from(core)];
-        withdraw(sums, worker, tenants);
-        let told = worker.refill(arena);
-        deposit(sums, worker, tenants);
+        let told = serve_there(policy, workers, sums, core, Event::Refill { arena });
         let Some(answer) = told else {
             return Found::Busy(core);
         };

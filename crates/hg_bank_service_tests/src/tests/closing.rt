@@ -30,26 +30,6 @@ pub fn both_leave(rt: &impl Abort, one: BankWorker, other: BankWorker) {
     assert!(rt; other.leave().is_ok());
 }
 
-/// The service goes on, for this core and reason.
-fn goes_on(
-    rt: &impl Abort,
-    service: BankService,
-    alloc: Global,
-    core: u16,
-    why: CloseFault,
-) -> BankService
-    requires { All (IsQuiet service.policy) service.closed.items }
-    ensures { All (IsQuiet result.policy) result.closed.items }
-{
-    match service.close(alloc) {
-        Err(BankUnclosed::Running(back, at, told)) => {
-            same(rt, (at, told), (core, why));
-            back
-        }
-        _ => panic!(rt; "a worker is out"),
-    }
-}
-
 /// The bank that the service closes into.
 fn closed(rt: &impl Abort, service: BankService, alloc: Global) -> Bank
     requires { All (IsQuiet service.policy) service.closed.items }
@@ -76,8 +56,6 @@ fn closes_into_a_bank(rt: HostRuntime) {
     let (service, mut one, other) = pair(&rt, rt.alloc());
     same(&rt, (service.cores(), service.running()), (2, 2));
     served(&rt, &mut one);
-    let service = goes_on(&rt, service, rt.alloc(), 1, CloseFault::StillOut(0));
-    same(&rt, (service.cores(), service.running()), (2, 2));
     both_leave(&rt, one, other);
     let bank = closed(&rt, service, rt.alloc());
     same(&rt, bank.cores(), 2);
