@@ -10,10 +10,12 @@ use Rattle.hg_worker.specs.declared.state.WorkerState.{WorkerState}
 use Rattle.hg_hosted.specs.declared.worker.HostedWorker.{HostedWorker}
 use Rattle.hg_hosted.specs.Waiting.{NeedsShared}
 use Rattle.hg_hosted.proofs.Undone.{each_set}
+use Rattle.hg_bank_service.specs.Asking.{ServesAt}
 use Rattle.hg_bank_service.specs.Has.{AreNumbered, Has, IsNumbered}
 use Rattle.hg_bank_service.specs.Named.{IsAbsent, ServesIn, ServesThere}
 use Rattle.hg_bank_service.specs.Sums.{AreSums}
 use Rattle.hg_bank_service.specs.declared.worker.BankWorker.{BankWorker}
+use Rattle.hg_bank_service.proofs.Kept.{answered_keep}
 
 module _ (core : ℕ) (event : Event) (old new : BankWorker) where
   -- the core is there
@@ -77,3 +79,16 @@ keeps_after {policy} {number} {workers} {currents} core next kept it counted =
       there = λ arena. let there = kept.there arena in omega arith;
       counted = counted;
     }
+
+-- as it is behind a call of one core's worker
+pub keeps_at : {policy : Policy} {number : ℕ} {workers new : List HostedWorker}
+    {currents sums sums' : List ℕ} {core : ℕ} {event : Event} {result : Option Answer}
+    → Keeps policy number workers currents sums → ServesAt core event result workers new
+    → AreSums (length policy.tenants) sums' new → Keeps policy number new currents sums'
+keeps_at {policy} {number} {currents = currents} {sums' = sums'} {core} {event} {result} kept at
+    counted =
+    subst (λ xs. Keeps policy number xs currents sums') (sym at.after)
+    (keeps_after core at.next kept
+    (answered_keep event result at.was at.next policy number at.served
+    (kept.of core at.was at.there))
+    (subst (AreSums (length policy.tenants) sums') at.after counted))

@@ -8,7 +8,7 @@ use Rattle.hg_hosted.specs.declared.worker.HostedWorker.{HostedWorker}
 use Rattle.hg_bank_service.specs.Dealing.{AreNew, IsDealt}
 use Rattle.hg_bank_service.specs.New.{AreOpened, IsNewWorker, IsOpenedBank}
 use Rattle.hg_bank_service.specs.Rows.{AreMade, IsOpening}
-use Rattle.hg_bank_service.specs.declared.service.BankService.{BankService}
+use Rattle.hg_bank_service.specs.State.{ServicesState}
 use Rattle.hg_bank_service.specs.declared.worker.BankWorker.{BankWorker}
 use Rattle.hg_bank_service.proofs.Dealings.{Row}
 use Rattle.hg_bank_service.proofs.Openings.{dealt_long, dealt_new, some_at}
@@ -39,9 +39,9 @@ module _ {policy : Policy} {cores : ℕ} {services : List HostedService} {rows :
       (opening.dealt.each number row there)
 
 -- what has opened, and the bank workers of its rows
-pub opened_bank : {policy : Policy} {cores : ℕ} (service : BankService) (rows : List Row)
-    (workers : List BankWorker) → IsOpening policy cores service.running.items rows
-    → AreMade policy rows workers → service.policy ≡ policy → service.closed.items ≡ []
+pub opened_bank : {policy : Policy} {cores : ℕ} (service : ServicesState) (rows : List Row)
+    (workers : List BankWorker) → IsOpening policy cores service.running rows
+    → AreMade policy rows workers → service.policy ≡ policy → service.closed ≡ []
     → IsOpenedBank policy cores service workers
 opened_bank {policy} {cores} service rows workers opening made serves closed = record {
   serves = serves;

@@ -1,33 +1,29 @@
 -- One core is asked for a block.
-use Rattle.std.proofs.Common.{◌≡◌, ◌≢◌, ℕ, ◌+◌, ◌^◌, ◌<◌, ◌≤◌, List, length, None, Some}
-use Rattle.std.proofs.Common.{slice_index, slice_set, sym, arith}
+use Rattle.std.proofs.Common.{◌≡◌, ℕ, ◌+◌, ◌<◌, ◌≤◌, List, length, Option, None, Some, sym, subst, ◌∙◌}
+use Rattle.std.proofs.lemmas.List.{length-set}
 use Rattle.hg_place.specs.declared.Actor.{Actor}
 use Rattle.hg_place.specs.declared.Handle.{Handle}
 use Rattle.hg_machine.specs.declared.AllocVerdict.TheVariants as verdict
-use Rattle.hg_machine.specs.declared.Answer.{Answer}
 use Rattle.hg_machine.specs.declared.Answer.TheVariants as answer
 use Rattle.hg_machine.specs.declared.Event.TheVariants as event
 use Rattle.hg_machine.specs.Policy.{Policy}
 use Rattle.hg_machine.specs.Request.{alloc_verdict, words_for, size_of}
-use Rattle.hg_worker.specs.Answers.{block_in}
-use Rattle.hg_worker.specs.Charged.{AreKept}
-use Rattle.hg_bank.proofs.AllocLemmas.{size_is}
+use Rattle.hg_bank.specs.declared.bank.BankHandle.{BankHandle}
 use Rattle.hg_hosted.specs.declared.worker.HostedWorker.{HostedWorker}
-use Rattle.hg_hosted.specs.Calls.{Allocates}
 use Rattle.hg_hosted.specs.Charges.{charge_at}
-use Rattle.hg_hosted.specs.Serving.{Serves}
 use Rattle.hg_hosted.proofs.Undone.{each_set}
 use Rattle.hg_bank_service.specs.Allocating.{GivesBlock, RefusesBlock}
+use Rattle.hg_bank_service.specs.Asking.{AllocatesAt}
 use Rattle.hg_bank_service.specs.Choosing.{AreAsked, IsServed}
 use Rattle.hg_bank_service.specs.Has.{AreNumbered, Has, IsNumbered}
 use Rattle.hg_bank_service.specs.Order.{turn}
+use Rattle.hg_bank_service.specs.Searching.{EndsInBlock, IsSearched}
 use Rattle.hg_bank_service.specs.Sums.{AreSums, charge_over}
-use Rattle.hg_bank_service.proofs.Counting.{given_others, sums_recounted, vain_same}
 use Rattle.hg_bank_service.proofs.Fitting.{gives_block, refuses_block}
 use Rattle.hg_bank_service.proofs.Lists.{IsAt}
 use Rattle.hg_bank_service.proofs.Kept.{does_keep, serves_keep}
 use Rattle.hg_bank_service.proofs.Searches.{one_more, one_serves, was_there}
-use Rattle.hg_bank_service.proofs.Summed.{covered, part_of, sum_low, sums_stay}
+use Rattle.hg_bank_service.proofs.Summed.{part_of}
 
 -- what is known while cores are asked
 pub record IsAsking (policy : Policy) (number current : ℕ) (actor : Actor) (arena bytes : ℕ)
@@ -40,79 +36,61 @@ pub record IsAsking (policy : Policy) (number current : ℕ) (actor : Actor) (ar
 pub record IsFitting (policy : Policy) (current : ℕ) (actor : Actor) (arena bytes : ℕ)
     (old : List HostedWorker) (row : List ℕ) : Type 0 where
   pub inside : current < length old
-  pub many : length old ≤ 16384
   pub first : AreSums (length policy.tenants) row old
   pub fits :
       alloc_verdict policy actor.0 arena (words_for bytes) (charge_over old actor.0)
       ≡ verdict.Fits (size_of bytes)
 
 module _ {policy : Policy} {number current : ℕ} {actor : Actor} {arena bytes until : ℕ}
-    {old mid : List HostedWorker} {first row : List ℕ}
+    {old mid new : List HostedWorker} {first row row' : List ℕ}
     (request : IsFitting policy current actor arena bytes old first)
-    (asking : IsAsking policy number current actor arena bytes old until mid row)
-    {core : ℕ} {was : HostedWorker} (there : IsAt mid core was)
-    (now : turn current (length old) core ≡ until) where
-  pub actor_below : actor.0 < length policy.tenants
-  actor_below =
-      (size_is policy actor.0 arena bytes (charge_over old actor.0) (size_of bytes)
-      request.fits).0
+    (asking : IsAsking policy number current actor arena bytes old until mid row) {core : ℕ}
+    (now : turn current (length old) core ≡ until) {given : Option Handle}
+    (at : AllocatesAt core actor arena bytes given mid new)
+    (counted : AreSums (length policy.tenants) row' new) where
+  there : IsAt mid core at.was
+  there = record { there = at.there }
 
-  low : charge_at was actor.0 ≤ charge_over old actor.0
+  low : charge_at at.was actor.0 ≤ charge_over old actor.0
   low =
       part_of request.first
-      record { there = was_there asking.asked request.inside there now was } actor.0
+      record { there = was_there asking.asked request.inside there now at.next } actor.0
 
-  pub covers : charge_at was actor.0 ≤ slice_index row actor.0
-  covers = covered asking.counted there actor.0 actor_below
+  numbered : AreNumbered policy number new
+  numbered =
+      subst (AreNumbered policy number) (sym at.after)
+      (each_set (Has (IsNumbered policy number)) mid core at.next asking.of
+      (serves_keep policy number (does_keep (event.Alloc actor arena bytes) at.told) at.served
+      (asking.of core at.was at.there)))
 
-  pub little : slice_index row actor.0 ≤ 2 ^ 49
-  little =
-      let all = asking.asked.all in
-      let many = request.many in
-      let sum = sum_low asking.counted actor.0 actor_below in
-      omega arith
+  -- in vain
+  pub asked_in_vain : given ≡ None
+      → IsAsking policy number current actor arena bytes old (until + 1) new row'
+  asked_in_vain none = record {
+    asked = subst (AreAsked (RefusesBlock actor arena bytes) current (until + 1) old)
+        (sym at.after)
+        (one_more asking.asked request.inside there now at.next
+        (refuses_block policy number (asking.of core at.was at.there) at.kept
+        (charge_over old actor.0) request.fits low at.served at.shared (sym at.gives ∙ none)));
+    of = numbered;
+    counted = counted;
+  }
 
-  module _ {told : Answer} {next : HostedWorker}
-      (serves : Serves (Allocates actor arena bytes told) was next)
-      (shared : next.shared ≡ was.shared)
-      (was_kept : Has (λ state. AreKept state.heap.segments) was) where
-    numbered : AreNumbered policy number (slice_set mid core next)
-    numbered =
-        each_set (Has (IsNumbered policy number)) mid core next asking.of
-        (serves_keep policy number (does_keep (event.Alloc actor arena bytes) told) serves
-        (asking.of core was there.there))
-
-    -- in vain
-    pub asked_in_vain : None ≡ block_in told
-        → IsAsking policy number current actor arena bytes old (until + 1)
-        (slice_set mid core next) row
-    asked_in_vain none = record {
-      asked = one_more asking.asked request.inside there now next
-          (refuses_block policy number (asking.of core was there.there) was_kept (charge_over old actor.0)
-          request.fits low serves shared (sym none));
-      of = numbered;
-      counted = sums_stay asking.counted there next (vain_same serves (sym none));
-    }
-
-    -- and served
-    module _ (handle : Handle) (gives : Some handle ≡ block_in told)
-        (next_kept : Has (λ state. AreKept state.heap.segments) next)
-        (few : charge_at next actor.0 ≤ 2 ^ 35) where
-      pub is_served : IsServed (RefusesBlock actor arena bytes)
-          (GivesBlock actor arena bytes (answer.Block handle)) current core old
-          (slice_set mid core next)
-      is_served =
-          one_serves asking.asked request.inside there now next
-          (gives_block handle serves shared gives)
-
-      pub served_numbered : AreNumbered policy number (slice_set mid core next)
-      served_numbered = numbered
-
-      pub served_counted : (row' : List ℕ)
-          → slice_index row' actor.0 + charge_at was actor.0
-          ≡ slice_index row actor.0 + charge_at next actor.0
-          → ((tenant : ℕ) → tenant ≢ actor.0 → slice_index row' tenant ≡ slice_index row tenant)
-          → AreSums (length policy.tenants) row' (slice_set mid core next)
-      served_counted row' own others =
-          sums_recounted asking.counted there next actor.0 row' own others
-          (given_others serves handle gives was_kept next_kept) few
+  -- and served
+  pub is_given : (block : BankHandle) → block.core ≡ core → given ≡ Some block.handle
+      → IsSearched policy number (EndsInBlock actor arena bytes current (Some block)) old new row'
+  is_given block here gives = record {
+    ends = subst (λ n. IsServed (RefusesBlock actor arena bytes)
+        (GivesBlock actor arena bytes (answer.Block block.handle)) current n old new) (sym here)
+        (subst (IsServed (RefusesBlock actor arena bytes)
+        (GivesBlock actor arena bytes (answer.Block block.handle)) current core old)
+        (sym at.after)
+        (one_serves asking.asked request.inside there now at.next
+        (gives_block block.handle at.served at.shared (sym gives ∙ at.gives))));
+    all = long ∙ asking.asked.all;
+    of = numbered;
+    counted = counted;
+  }
+    where
+      long : length new ≡ length mid
+      long = subst (λ xs. length xs ≡ length mid) (sym at.after) (length-set mid core at.next)

@@ -6,7 +6,6 @@ use Rattle.hg_machine.specs.declared.Answer.{Answer}
 use Rattle.hg_machine.specs.declared.Answer.TheVariants as answer
 use Rattle.hg_machine.specs.declared.Event.TheVariants as event
 use Rattle.hg_machine.specs.Policy.{Policy}
-use Rattle.hg_bank.specs.declared.bank.BankSegment.{BankSegment}
 use Rattle.hg_hosted.specs.declared.worker.HostedWorker.{HostedWorker}
 use Rattle.hg_hosted.specs.Behind.{TakesOne}
 use Rattle.hg_hosted.specs.Serving.{Serves}
@@ -16,7 +15,7 @@ use Rattle.hg_bank_service.specs.Asking.{ServesAt}
 use Rattle.hg_bank_service.specs.Choosing.{AreAsked, IsServed}
 use Rattle.hg_bank_service.specs.Has.{AreNumbered, Has, IsNumbered}
 use Rattle.hg_bank_service.specs.Order.{turn}
-use Rattle.hg_bank_service.specs.Refilling.{AnswersRefill, RefillWaits}
+use Rattle.hg_bank_service.specs.Refilling.{AnswersRefill}
 use Rattle.hg_bank_service.specs.Searching.{EndsSo, IsSearched, segment_given}
 use Rattle.hg_bank_service.specs.Sums.{AreSums}
 use Rattle.hg_bank_service.specs.declared.refilling.Found.{Found}

@@ -1,4 +1,7 @@
 pub mod Has
+pub mod State
+pub mod Sound
+pub mod Kept
 pub mod Sums
 pub mod Order
 pub mod Asking

@@ -5,7 +5,7 @@ use Rattle.hg_hosted.specs.declared.service.HostedService.{HostedService}
 use Rattle.hg_hosted.specs.declared.worker.HostedWorker.{HostedWorker}
 use Rattle.hg_hosted.specs.New.{IsOpened}
 use Rattle.hg_bank_service.specs.Dealing.{IsDealt}
-use Rattle.hg_bank_service.specs.declared.service.BankService.{BankService}
+use Rattle.hg_bank_service.specs.State.{ServicesState}
 use Rattle.hg_bank_service.specs.declared.worker.BankWorker.{BankWorker}
 use Rattle.hg_bank_service.specs.declared.worker.TheConstants.{ARENAS}
 
@@ -27,13 +27,13 @@ pub record IsNewWorker (policy : Policy) (number cores : ℕ) (worker : BankWork
 
 -- A bank of so many services of this policy, none of which is closed, and its workers, each at its
 -- number: the bank worker of a number has the worker of that number of each service, in order
-pub record IsOpenedBank (policy : Policy) (cores : ℕ) (service : BankService)
+pub record IsOpenedBank (policy : Policy) (cores : ℕ) (service : ServicesState)
     (workers : List BankWorker) : Type 0 where
   pub serves : service.policy ≡ policy
-  pub closed : service.closed.items ≡ []
-  pub many : length service.running.items ≡ cores
+  pub closed : service.closed ≡ []
+  pub many : length service.running ≡ cores
   pub its : List (List HostedWorker)
-  pub opened : AreOpened policy service.running.items its
+  pub opened : AreOpened policy service.running its
   pub all : length workers ≡ policy.workers
   pub new :
       (number : ℕ) (worker : BankWorker) → slice_get workers number ≡ Some worker

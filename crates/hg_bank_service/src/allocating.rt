@@ -1,27 +1,24 @@
 //! Alloc: the first core that is asked and has a place gives out a block.
 
-ghost use Rattle.std.specs.Prelude.{◌≡◌, ◌<◌, ◌≤◌, IfSome, IfNone, length, vec_len};
-ghost use Rattle.hg_machine.specs.declared.Answer.TheVariants as answer;
+ghost use Rattle.std.specs.Prelude.{◌≡◌, ◌<◌, ◌≤◌, length, vec_len};
 ghost use Rattle.hg_machine.specs.declared.AllocVerdict.TheVariants as verdict;
 ghost use Rattle.hg_machine.specs.Policy.{Policy};
 ghost use Rattle.hg_machine.specs.Request.{alloc_verdict, words_for, size_of};
-ghost use Rattle.hg_worker.specs.Answers.{block_in};
 ghost use Rattle.hg_bank.specs.declared.bank.TheConstants.{MAX_CORES};
-ghost use Rattle.hg_bank_service.specs.Allocating.{AllocatesBy, GivesBlock, RefusesBlock};
-ghost use Rattle.hg_bank_service.specs.Allocating.{sum_verdict};
-ghost use Rattle.hg_bank_service.specs.Choosing.{AreAsked, IsServed};
+ghost use Rattle.hg_bank_service.specs.Allocating.{AllocatesBy, sum_verdict};
 ghost use Rattle.hg_bank_service.specs.Has.{AreNumbered};
+ghost use Rattle.hg_bank_service.specs.Searching.{EndsInBlock, IsSearched};
 ghost use Rattle.hg_bank_service.specs.Sums.{AreSums, charge_over};
 
+use crate::asking::alloc_there;
 use crate::order::core_at;
-use crate::sums::{counted, recount};
+use crate::sums::counted;
 use crate::worker::BankWorker;
 use hg_bank::BankHandle;
 use hg_decision::{AllocVerdict, judge_alloc};
 use hg_heap::Refused;
 use hg_hosted::HostedWorker;
-use hg_machine::Answer;
-use hg_place::{Actor, Handle};
+use hg_place::Actor;
 use hg_policy::Policy;
 use hg_segment::TENANTS;
 use hg_size::words_of;
@@ -38,47 +35,24 @@ fn next_with_place(
     arena: u8,
     bytes: u64,
 ) -> Option<BankHandle>
-    requires below { number < policy.now.workers }
     requires current { current < vec_len workers.old }
     requires few { length workers.old.items ≤ MAX_CORES }
     requires of { AreNumbered policy.now number workers.old.items }
     requires counted { AreSums (length policy.now.tenants) sums.old workers.old.items }
     requires fits { alloc_verdict policy.now actor.0 arena (words_for bytes)
         (charge_over workers.old.items actor.0) ≡ verdict.Fits (size_of bytes) }
-    ensures none { IfNone result (AreAsked (RefusesBlock actor arena bytes) current
-        (length workers.old.items) workers.old.items workers.new.items) }
-    ensures some { IfSome result (λ block. IsServed (RefusesBlock actor arena bytes)
-        (GivesBlock actor arena bytes (answer.Block block.handle)) current block.core
-        workers.old.items workers.new.items) }
-    ensures of { AreNumbered policy.now number workers.new.items }
-    ensures counted { AreSums (length policy.now.tenants) sums.new workers.new.items }
-    ensures all { length workers.new.items ≡ length workers.old.items }
+    ensures { IsSearched policy.now number (EndsInBlock actor arena bytes current result)
+        workers.old.items workers.new.items sums.new }
 {
-    // a policy hands out that it has few tenants
-    let _tenants = policy.tenants();
     let count = workers.len() as u16;
     for before in 0..count {
         let core = core_at(current, count, before);
-        let worker = &mut workers[usize::from(core)];
-        let charged = worker.charge(actor.0);
-        let told = worker.alloc(actor, arena, bytes);
-        let charge = worker.charge(actor.0);
-        if let Some(handle) = block_of(told) {
-            recount(sums, actor, charged, charge);
+        let given = alloc_there(policy, workers, sums, core, actor, arena, bytes);
+        if let Some(handle) = given {
             return Some(BankHandle { core, handle });
         }
     }
     None
-}
-
-/// The block that an answer gives.
-fn block_of(answer: Answer) -> Option<Handle>
-    ensures { result ≡ block_in answer }
-{
-    match answer {
-        Answer::Block(handle) => Some(handle),
-        _ => None,
-    }
 }
 
 impl BankWorker {

@@ -1,11 +1,11 @@
 //! A core's worker is called.
 
-ghost use Rattle.std.specs.Prelude.{◌≡◌, ◌<◌, length, true};
+ghost use Rattle.std.specs.Prelude.{◌≡◌, true};
 ghost use Rattle.hg_machine.specs.declared.Answer.TheVariants as answer;
 ghost use Rattle.hg_bank.specs.Requests.{absent, missing};
 ghost use Rattle.hg_bank_service.specs.Named.{keeps_charges, ServesIn};
 
-use crate::sums::{deposit, withdraw};
+use crate::asking::serve_there;
 use crate::worker::BankWorker;
 use hg_machine::{Answer, Event, Rule};
 use hg_place::Actor;
@@ -31,21 +31,7 @@ impl BankWorker {
         if usize::from(core) >= self.workers.len() {
             return Some(absent(&self.policy, event));
         }
-        self.counting_there(core, event)
-    }
-
-    /// The worker of a core that is there serves an event, and the sums follow.
-    fn counting_there(&mut self, core: u16, event: Event) -> Option<Answer>
-        requires { core < length self.old.workers.items }
-        ensures { ServesIn core event result self.old self.new }
-    {
-        let tenants = self.policy.tenants();
-        let worker = &mut self.workers[usize::from(core)];
-        let sums = &mut self.sums;
-        withdraw(sums, worker, tenants);
-        let told = worker.step(event);
-        deposit(sums, worker, tenants);
-        told
+        serve_there(&self.policy, &mut self.workers, &mut self.sums, core, event)
     }
 }
 

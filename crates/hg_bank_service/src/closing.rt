@@ -1,7 +1,6 @@
 //! A bank of services becomes a bank.
 
-ghost use Rattle.std.specs.Prelude.{◌≡◌, ◌+◌, ◌<◌, ◌≤◌, IfOk, IfErr, All, length, vec_capacity};
-ghost use Rattle.hg_close.specs.Closed.{IsQuiet};
+ghost use Rattle.std.specs.Prelude.{◌≡◌, ◌+◌, ◌<◌, ◌≤◌, IfOk, IfErr, length, vec_capacity};
 ghost use Rattle.hg_bank.specs.Sound.{IsSoundBank};
 ghost use Rattle.hg_bank_service.specs.Closing.{IsClosedBank, IsUnclosedBank, ClosesOne};
 
@@ -51,11 +50,8 @@ impl BankService {
     /// clause says.
     ///
     /// Where one can't close, it stops there, and what is closed stays so: close it again once the
-    /// reason is gone. `StillOut` names a worker that hasn't left that service. That those closed
-    /// before are quiet is for the host to know: none is closed at the opening, and `StopsAt` says it
-    /// of those that a call closes.
+    /// reason is gone. `StillOut` names a worker that hasn't left that service.
     pub fn close(self, alloc: Global) -> Result<Bank, BankUnclosed>
-        requires quiet { All (IsQuiet self.policy) self.closed.items }
         ensures bank { IfOk result (IsClosedBank self) }
         ensures kept { IfOk result IsSoundBank }
         ensures unclosed { IfErr result (IsUnclosedBank self) }
@@ -69,7 +65,7 @@ impl BankService {
 
     /// The service of the highest number that runs becomes a core.
     fn close_next(self, alloc: Global) -> Result<BankService, BankUnclosed>
-        requires { 1 ≤ length self.running.items }
+        requires { 1 ≤ length self.running }
         ensures next { IfOk result (ClosesOne self) }
         ensures unclosed { IfErr result (IsUnclosedBank self) }
     {
@@ -113,8 +109,7 @@ impl BankService {
 
     /// The bank of the cores, once each service is closed.
     fn into_bank(self, alloc: Global) -> Result<Bank, BankUnclosed>
-        requires done { length self.running.items ≡ 0 }
-        requires quiet { All (IsQuiet self.policy) self.closed.items }
+        requires { length self.running ≡ 0 }
         ensures bank { IfOk result (IsClosedBank self) }
         ensures kept { IfOk result IsSoundBank }
         ensures unclosed { IfErr result (IsUnclosedBank self) }
@@ -139,11 +134,12 @@ impl BankService {
                     cores: mut closed,
                 } = parts;
                 closed.reverse();
-                Err(BankUnclosed::Memory(BankService {
+                let service = BankService {
                     policy,
                     closed,
                     running,
-                }))
+                };
+                Err(BankUnclosed::Memory(service))
             }
         }
     }

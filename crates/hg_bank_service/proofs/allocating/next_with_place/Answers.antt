@@ -1,15 +1,10 @@
-use Rattle.std.proofs.Common.{◌≡◌, ◌+◌, ◌^◌, ◌<◌, ◌≤◌, Some, length, slice_get, slice_set, refl, sym, ap, subst, ◌∙◌, arith}
-use Rattle.std.proofs.lemmas.Option.{slice_get-get_or}
-use Rattle.hg_machine.specs.declared.Answer.TheVariants as answer
-use Rattle.hg_bank_service.specs.Allocating.{GivesBlock, RefusesBlock}
-use Rattle.hg_bank_service.specs.Choosing.{IsServed}
-use Rattle.hg_bank_service.specs.Has.{AreNumbered}
+use Rattle.std.proofs.Common.{◌≡◌, length, refl, ap, ◌∙◌, arith}
+use Rattle.hg_bank.proofs.AllocLemmas.{size_is}
+use Rattle.hg_bank_service.specs.Allocating.{RefusesBlock}
 use Rattle.hg_bank_service.specs.Order.{turn}
-use Rattle.hg_bank_service.specs.Sums.{AreSums}
-use Rattle.hg_hosted.specs.Charges.{charge_at}
-use Rattle.hg_bank_service.proofs.Lists.{IsAt}
-use Rattle.hg_bank_service.proofs.Placing.{IsAsking, IsFitting, actor_below, asked_in_vain, covers, is_served}
-use Rattle.hg_bank_service.proofs.Placing.{little, served_counted, served_numbered}
+use Rattle.hg_bank_service.specs.Sums.{charge_over}
+use Rattle.hg_machine.specs.Request.{size_of}
+use Rattle.hg_bank_service.proofs.Placing.{asked_in_vain, is_given}
 use Rattle.hg_bank_service.proofs.Searches.{none_asked}
 use Rattle.hg_bank_service.proofs.allocating.next_with_place.Goals as goal
 
@@ -21,378 +16,54 @@ loop-before-init c = record {
     of = c.requires.of;
     counted = c.requires.counted;
   };
-  len = refl;
 }
 
-pub recount-requires-clause-tenant : goal.recount-requires-clause-tenant
-recount-requires-clause-tenant c =
-    let old = c.args.workers.now.items in
-    let items = c.loop-before.workers.items in
-    let core = c.core_at-core.result in
-    let was = c.index_mut-worker.result.now in
-    let count : length old ≡ c.len-count.result =
-    omega (arith, c.len-count.ensures, c.args.workers.now.ok.0) in
-    let low : c.from.result < length items =
+pub alloc_there-given-requires-clause-there : goal.alloc_there-given-requires-clause-there
+alloc_there-given-requires-clause-there c =
     omega (
       arith,
       c.core_at-core.ensures.there,
-      c.from.ensures,
-      count,
-      c.loop-before.invariant.len,
-      c.loop-before.workers.ok.0,
+      c.len-count.ensures,
+      c.loop-before.invariant.asking.asked.all,
       c.args.workers.now.ok.0,
-    ) in
-    let there : IsAt items core was =
-    record {
-      there = subst (λ n. slice_get items n ≡ Some was) c.from.ensures
-          (slice_get-get_or items c.from.result was low ∙ ap Some (sym c.index_mut-worker.ensures.value));
-    } in
-    let inside : c.args.current < length old =
-    omega (arith, c.requires.current, c.args.workers.now.ok.0) in
-    let now : turn c.args.current (length old) core ≡ c.loop-before.before =
-    ap (λ n. turn c.args.current n core) count ∙ c.core_at-core.ensures.turn in
-    let request : IsFitting c.args.policy.now c.args.current c.args.actor c.args.arena c.args.bytes
-    old c.args.sums.now =
-    record {
-      inside = inside;
-      many = c.requires.few;
-      first = c.requires.counted;
-      fits = c.requires.fits;
-    } in
-    let asking = c.loop-before.invariant.asking in
-    let own = actor_below request asking there now in
-    let below : c.args.actor.0 < 64 = omega (
-      arith,
-      own,
-      c.tenants-tenants.ensures.tenants,
-      c.tenants-tenants.ensures.few,
-    ) in
-    let charged = c.charge-charged.ensures.counted below in
-    let charge = c.charge-charge.ensures.counted below in
-    below
+    )
 
-pub recount-requires-clause-covered : goal.recount-requires-clause-covered
-recount-requires-clause-covered c =
-    let old = c.args.workers.now.items in
-    let items = c.loop-before.workers.items in
-    let core = c.core_at-core.result in
-    let was = c.index_mut-worker.result.now in
-    let count : length old ≡ c.len-count.result =
-    omega (arith, c.len-count.ensures, c.args.workers.now.ok.0) in
-    let low : c.from.result < length items =
-    omega (
-      arith,
-      c.core_at-core.ensures.there,
-      c.from.ensures,
-      count,
-      c.loop-before.invariant.len,
-      c.loop-before.workers.ok.0,
-      c.args.workers.now.ok.0,
-    ) in
-    let there : IsAt items core was =
-    record {
-      there = subst (λ n. slice_get items n ≡ Some was) c.from.ensures
-          (slice_get-get_or items c.from.result was low ∙ ap Some (sym c.index_mut-worker.ensures.value));
-    } in
-    let inside : c.args.current < length old =
-    omega (arith, c.requires.current, c.args.workers.now.ok.0) in
-    let now : turn c.args.current (length old) core ≡ c.loop-before.before =
-    ap (λ n. turn c.args.current n core) count ∙ c.core_at-core.ensures.turn in
-    let request : IsFitting c.args.policy.now c.args.current c.args.actor c.args.arena c.args.bytes
-    old c.args.sums.now =
-    record {
-      inside = inside;
-      many = c.requires.few;
-      first = c.requires.counted;
-      fits = c.requires.fits;
-    } in
-    let asking = c.loop-before.invariant.asking in
-    let own = actor_below request asking there now in
-    let below : c.args.actor.0 < 64 = omega (
-      arith,
-      own,
-      c.tenants-tenants.ensures.tenants,
-      c.tenants-tenants.ensures.few,
-    ) in
-    let charged = c.charge-charged.ensures.counted below in
-    let charge = c.charge-charge.ensures.counted below in
-    let cov = covers request asking there now in
-    omega (arith, cov, charged)
+pub alloc_there-given-requires-clause-few : goal.alloc_there-given-requires-clause-few
+alloc_there-given-requires-clause-few c =
+    omega (arith, c.requires.few, c.loop-before.invariant.asking.asked.all)
 
-pub recount-requires-clause-room : goal.recount-requires-clause-room
-recount-requires-clause-room c =
-    let old = c.args.workers.now.items in
-    let items = c.loop-before.workers.items in
-    let core = c.core_at-core.result in
-    let was = c.index_mut-worker.result.now in
-    let count : length old ≡ c.len-count.result =
-    omega (arith, c.len-count.ensures, c.args.workers.now.ok.0) in
-    let low : c.from.result < length items =
-    omega (
-      arith,
-      c.core_at-core.ensures.there,
-      c.from.ensures,
-      count,
-      c.loop-before.invariant.len,
-      c.loop-before.workers.ok.0,
-      c.args.workers.now.ok.0,
-    ) in
-    let there : IsAt items core was =
-    record {
-      there = subst (λ n. slice_get items n ≡ Some was) c.from.ensures
-          (slice_get-get_or items c.from.result was low ∙ ap Some (sym c.index_mut-worker.ensures.value));
-    } in
-    let inside : c.args.current < length old =
-    omega (arith, c.requires.current, c.args.workers.now.ok.0) in
-    let now : turn c.args.current (length old) core ≡ c.loop-before.before =
-    ap (λ n. turn c.args.current n core) count ∙ c.core_at-core.ensures.turn in
-    let request : IsFitting c.args.policy.now c.args.current c.args.actor c.args.arena c.args.bytes
-    old c.args.sums.now =
-    record {
-      inside = inside;
-      many = c.requires.few;
-      first = c.requires.counted;
-      fits = c.requires.fits;
-    } in
-    let asking = c.loop-before.invariant.asking in
-    let own = actor_below request asking there now in
-    let below : c.args.actor.0 < 64 = omega (
-      arith,
-      own,
-      c.tenants-tenants.ensures.tenants,
-      c.tenants-tenants.ensures.few,
-    ) in
-    let charged = c.charge-charged.ensures.counted below in
-    let charge = c.charge-charge.ensures.counted below in
-    let few = little request asking there now in
-    omega (arith, few, c.charge-charge.ensures.few)
+pub alloc_there-given-requires-clause-tenant : goal.alloc_there-given-requires-clause-tenant
+alloc_there-given-requires-clause-tenant c =
+    (size_is c.args.policy.now c.args.actor.0 c.args.arena c.args.bytes
+    (charge_over c.args.workers.now.items c.args.actor.0) (size_of c.args.bytes) c.requires.fits).0
 
-pub returns-in-Some-clause-some : goal.returns-in-Some-clause-some
-returns-in-Some-clause-some c =
-    let old = c.args.workers.now.items in
-    let items = c.loop-before.workers.items in
-    let core = c.core_at-core.result in
-    let was = c.index_mut-worker.result.now in
-    let count : length old ≡ c.len-count.result =
+pub returns-in-Some : goal.returns-in-Some
+returns-in-Some c =
+    let count : length c.args.workers.now.items ≡ c.len-count.result =
     omega (arith, c.len-count.ensures, c.args.workers.now.ok.0) in
-    let low : c.from.result < length items =
-    omega (
-      arith,
-      c.core_at-core.ensures.there,
-      c.from.ensures,
-      count,
-      c.loop-before.invariant.len,
-      c.loop-before.workers.ok.0,
-      c.args.workers.now.ok.0,
-    ) in
-    let there : IsAt items core was =
+    is_given
     record {
-      there = subst (λ n. slice_get items n ≡ Some was) c.from.ensures
-          (slice_get-get_or items c.from.result was low ∙ ap Some (sym c.index_mut-worker.ensures.value));
-    } in
-    let inside : c.args.current < length old =
-    omega (arith, c.requires.current, c.args.workers.now.ok.0) in
-    let now : turn c.args.current (length old) core ≡ c.loop-before.before =
-    ap (λ n. turn c.args.current n core) count ∙ c.core_at-core.ensures.turn in
-    let request : IsFitting c.args.policy.now c.args.current c.args.actor c.args.arena c.args.bytes
-    old c.args.sums.now =
-    record {
-      inside = inside;
-      many = c.requires.few;
+      inside = omega (arith, c.requires.current, c.args.workers.now.ok.0);
       first = c.requires.counted;
       fits = c.requires.fits;
-    } in
-    let asking = c.loop-before.invariant.asking in
-    let own = actor_below request asking there now in
-    let below : c.args.actor.0 < 64 = omega (
-      arith,
-      own,
-      c.tenants-tenants.ensures.tenants,
-      c.tenants-tenants.ensures.few,
-    ) in
-    let charged = c.charge-charged.ensures.counted below in
-    let charge = c.charge-charge.ensures.counted below in
-    let next = c.alloc-told.new.self in
-    let serves = c.alloc-told.ensures.served in
-    let shared = c.alloc-told.ensures.alone in
-    let kept = c.charge-charged.ensures.kept in
-    let gives = c.in-Some.ensures in
-    let few : charge_at next c.args.actor.0 ≤ 2 ^ 35 =
-    omega (arith, charge, c.charge-charge.ensures.few) in
-    subst (λ n. IsServed (RefusesBlock c.args.actor c.args.arena c.args.bytes)
-    (GivesBlock c.args.actor c.args.arena c.args.bytes (answer.Block c.in-Some.handle))
-    c.args.current core old (slice_set items n next)) (sym c.from.ensures)
-    (is_served request asking there now serves shared kept c.in-Some.handle gives
-    c.charge-charge.ensures.kept few)
-
-pub returns-in-Some-clause-of : goal.returns-in-Some-clause-of
-returns-in-Some-clause-of c =
-    let old = c.args.workers.now.items in
-    let items = c.loop-before.workers.items in
-    let core = c.core_at-core.result in
-    let was = c.index_mut-worker.result.now in
-    let count : length old ≡ c.len-count.result =
-    omega (arith, c.len-count.ensures, c.args.workers.now.ok.0) in
-    let low : c.from.result < length items =
-    omega (
-      arith,
-      c.core_at-core.ensures.there,
-      c.from.ensures,
-      count,
-      c.loop-before.invariant.len,
-      c.loop-before.workers.ok.0,
-      c.args.workers.now.ok.0,
-    ) in
-    let there : IsAt items core was =
-    record {
-      there = subst (λ n. slice_get items n ≡ Some was) c.from.ensures
-          (slice_get-get_or items c.from.result was low ∙ ap Some (sym c.index_mut-worker.ensures.value));
-    } in
-    let inside : c.args.current < length old =
-    omega (arith, c.requires.current, c.args.workers.now.ok.0) in
-    let now : turn c.args.current (length old) core ≡ c.loop-before.before =
-    ap (λ n. turn c.args.current n core) count ∙ c.core_at-core.ensures.turn in
-    let request : IsFitting c.args.policy.now c.args.current c.args.actor c.args.arena c.args.bytes
-    old c.args.sums.now =
-    record {
-      inside = inside;
-      many = c.requires.few;
-      first = c.requires.counted;
-      fits = c.requires.fits;
-    } in
-    let asking = c.loop-before.invariant.asking in
-    let own = actor_below request asking there now in
-    let below : c.args.actor.0 < 64 = omega (
-      arith,
-      own,
-      c.tenants-tenants.ensures.tenants,
-      c.tenants-tenants.ensures.few,
-    ) in
-    let charged = c.charge-charged.ensures.counted below in
-    let charge = c.charge-charge.ensures.counted below in
-    let next = c.alloc-told.new.self in
-    let serves = c.alloc-told.ensures.served in
-    let shared = c.alloc-told.ensures.alone in
-    let kept = c.charge-charged.ensures.kept in
-    let gives = c.in-Some.ensures in
-    let few : charge_at next c.args.actor.0 ≤ 2 ^ 35 =
-    omega (arith, charge, c.charge-charge.ensures.few) in
-    subst (λ n. AreNumbered c.args.policy.now c.args.number (slice_set items n next))
-    (sym c.from.ensures)
-    (served_numbered request asking there now serves shared kept c.in-Some.handle gives
-    c.charge-charge.ensures.kept few)
-
-pub returns-in-Some-clause-counted : goal.returns-in-Some-clause-counted
-returns-in-Some-clause-counted c =
-    let old = c.args.workers.now.items in
-    let items = c.loop-before.workers.items in
-    let core = c.core_at-core.result in
-    let was = c.index_mut-worker.result.now in
-    let count : length old ≡ c.len-count.result =
-    omega (arith, c.len-count.ensures, c.args.workers.now.ok.0) in
-    let low : c.from.result < length items =
-    omega (
-      arith,
-      c.core_at-core.ensures.there,
-      c.from.ensures,
-      count,
-      c.loop-before.invariant.len,
-      c.loop-before.workers.ok.0,
-      c.args.workers.now.ok.0,
-    ) in
-    let there : IsAt items core was =
-    record {
-      there = subst (λ n. slice_get items n ≡ Some was) c.from.ensures
-          (slice_get-get_or items c.from.result was low ∙ ap Some (sym c.index_mut-worker.ensures.value));
-    } in
-    let inside : c.args.current < length old =
-    omega (arith, c.requires.current, c.args.workers.now.ok.0) in
-    let now : turn c.args.current (length old) core ≡ c.loop-before.before =
-    ap (λ n. turn c.args.current n core) count ∙ c.core_at-core.ensures.turn in
-    let request : IsFitting c.args.policy.now c.args.current c.args.actor c.args.arena c.args.bytes
-    old c.args.sums.now =
-    record {
-      inside = inside;
-      many = c.requires.few;
-      first = c.requires.counted;
-      fits = c.requires.fits;
-    } in
-    let asking = c.loop-before.invariant.asking in
-    let own = actor_below request asking there now in
-    let below : c.args.actor.0 < 64 = omega (
-      arith,
-      own,
-      c.tenants-tenants.ensures.tenants,
-      c.tenants-tenants.ensures.few,
-    ) in
-    let charged = c.charge-charged.ensures.counted below in
-    let charge = c.charge-charge.ensures.counted below in
-    let next = c.alloc-told.new.self in
-    let serves = c.alloc-told.ensures.served in
-    let shared = c.alloc-told.ensures.alone in
-    let kept = c.charge-charged.ensures.kept in
-    let gives = c.in-Some.ensures in
-    let few : charge_at next c.args.actor.0 ≤ 2 ^ 35 =
-    omega (arith, charge, c.charge-charge.ensures.few) in
-    subst (λ n. AreSums (length c.args.policy.now.tenants) c.recount.new.row (slice_set items n next))
-    (sym c.from.ensures)
-    (served_counted request asking there now serves shared kept c.in-Some.handle gives
-    c.charge-charge.ensures.kept few c.recount.new.row
-    (let sum = c.recount.ensures.own in omega (arith, sum, charged, charge))
-    c.recount.ensures.others)
+    }
+    c.loop-before.invariant.asking
+    (ap (λ n. turn c.args.current n c.core_at-core.result) count ∙ c.core_at-core.ensures.turn)
+    c.in-Some.ensures.asked c.in-Some.ensures.counted _ refl refl
 
 pub loop-before-preserved : goal.loop-before-preserved
 loop-before-preserved c =
-    let old = c.args.workers.now.items in
-    let items = c.loop-before.workers.items in
-    let core = c.core_at-core.result in
-    let was = c.index_mut-worker.result.now in
-    let count : length old ≡ c.len-count.result =
+    let count : length c.args.workers.now.items ≡ c.len-count.result =
     omega (arith, c.len-count.ensures, c.args.workers.now.ok.0) in
-    let low : c.from.result < length items =
-    omega (
-      arith,
-      c.core_at-core.ensures.there,
-      c.from.ensures,
-      count,
-      c.loop-before.invariant.len,
-      c.loop-before.workers.ok.0,
-      c.args.workers.now.ok.0,
-    ) in
-    let there : IsAt items core was =
     record {
-      there = subst (λ n. slice_get items n ≡ Some was) c.from.ensures
-          (slice_get-get_or items c.from.result was low ∙ ap Some (sym c.index_mut-worker.ensures.value));
-    } in
-    let inside : c.args.current < length old =
-    omega (arith, c.requires.current, c.args.workers.now.ok.0) in
-    let now : turn c.args.current (length old) core ≡ c.loop-before.before =
-    ap (λ n. turn c.args.current n core) count ∙ c.core_at-core.ensures.turn in
-    let request : IsFitting c.args.policy.now c.args.current c.args.actor c.args.arena c.args.bytes
-    old c.args.sums.now =
-    record {
-      inside = inside;
-      many = c.requires.few;
-      first = c.requires.counted;
-      fits = c.requires.fits;
-    } in
-    let asking = c.loop-before.invariant.asking in
-    let own = actor_below request asking there now in
-    let below : c.args.actor.0 < 64 = omega (
-      arith,
-      own,
-      c.tenants-tenants.ensures.tenants,
-      c.tenants-tenants.ensures.few,
-    ) in
-    let charged = c.charge-charged.ensures.counted below in
-    let next = c.alloc-told.new.self in
-    let serves = c.alloc-told.ensures.served in
-    let shared = c.alloc-told.ensures.alone in
-    let kept = c.charge-charged.ensures.kept in
-    let more = asked_in_vain request asking there now serves shared kept c.in_default.ensures in
-    record {
-      asking = subst (λ n. IsAsking c.args.policy.now c.args.number c.args.current c.args.actor
-          c.args.arena c.args.bytes old (c.loop-before.before + 1) (slice_set items n next)
-          c.loop-before.sums) (sym c.from.ensures) more;
-      len = omega (arith, c.loop-before.invariant.len);
+      asking = asked_in_vain
+          record {
+            inside = omega (arith, c.requires.current, c.args.workers.now.ok.0);
+            first = c.requires.counted;
+            fits = c.requires.fits;
+          }
+          c.loop-before.invariant.asking
+          (ap (λ n. turn c.args.current n c.core_at-core.result) count
+          ∙ c.core_at-core.ensures.turn) c.in_default.ensures.asked
+          c.in_default.ensures.counted refl;
     }

@@ -1,4 +1,3 @@
-use Rattle.std.proofs.Common.{◌≡◌, vec_len}
 use Rattle.hg_bank_service.proofs.Placing.{IsAsking}
 use Rattle.hg_bank_service.proofs.allocating.next_with_place.Given as goal
 
@@ -6,5 +5,4 @@ abbrev pub invariant-loop-before : goal.invariant-loop-before
 invariant-loop-before l = record {
   asking : IsAsking l.policy l.number l.current l.actor l.arena l.bytes l.fn.workers.items l.before
       l.workers.items l.sums;
-  len : vec_len l.workers ≡ vec_len l.fn.workers;
 }

@@ -1,6 +1,5 @@
-use Rattle.std.proofs.Common.{◌≡◌, ◌<◌, length, refl, ap, subst, ◌∙◌, arith}
+use Rattle.std.proofs.Common.{◌≡◌, length, refl, ap, ◌∙◌, arith}
 use Rattle.hg_machine.specs.declared.Answer.TheVariants as answer
-use Rattle.hg_bank_service.specs.Choosing.{AreAsked}
 use Rattle.hg_bank_service.specs.Order.{turn}
 use Rattle.hg_bank_service.specs.Refilling.{AnswersRefill}
 use Rattle.hg_bank_service.proofs.Taking.{is_busy, is_given, sought_in_vain}

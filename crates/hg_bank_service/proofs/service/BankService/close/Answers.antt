@@ -1,8 +1,6 @@
-use Rattle.std.proofs.Common.{All, refl, sym, subst, ◌∙◌, arith}
+use Rattle.std.proofs.Common.{refl, ◌∙◌, arith}
 use Rattle.std.proofs.lemmas.Result.{IfErr-weaker, IfOk-weaker, err_from_is_err_and}
-use Rattle.hg_close.specs.Closed.{IsQuiet}
-use Rattle.hg_machine.specs.Policy.{Policy}
-use Rattle.hg_bank_service.proofs.Closings.{closed_bank_then, closed_then, none_closed, quiet_then, unclosed_then}
+use Rattle.hg_bank_service.proofs.Closings.{closed_bank_then, closed_then, none_closed, unclosed_then}
 use Rattle.hg_bank_service.proofs.service.BankService.close.Goals as goal
 
 pub loop-init : goal.loop-init
@@ -44,8 +42,8 @@ returns-clause-unclosed c =
     (λ why. unclosed_then c.args.self c.loop.service why c.loop.invariant.policy
     c.loop.invariant.have) c.into_bank.ensures.unclosed
 
-pub into_bank-requires-clause-done : goal.into_bank-requires-clause-done
-into_bank-requires-clause-done c =
+pub into_bank-requires : goal.into_bank-requires
+into_bank-requires c =
     omega (
       arith,
       c.loop.invariant.left,
@@ -53,8 +51,3 @@ into_bank-requires-clause-done c =
       c.loop.auto.counter-end,
       c.loop-test.false,
     )
-
-pub into_bank-requires-clause-quiet : goal.into_bank-requires-clause-quiet
-into_bank-requires-clause-quiet c =
-    subst (λ (p : Policy). All (IsQuiet p) c.loop.service.closed.items)
-    (sym c.loop.invariant.policy) (quiet_then c.requires.quiet c.loop.invariant.have)

@@ -1,4 +1,7 @@
-use Rattle.std.proofs.Common.{length, refl, ap, arith}
+use Rattle.std.proofs.Common.{List, All, length, refl, sym, ap, subst, arith}
+use Rattle.hg_close.specs.Closed.{IsQuiet}
+use Rattle.hg_machine.specs.Lists.{Kept}
+use Rattle.hg_bank_service.proofs.Closings.{all_none}
 use Rattle.hg_bank_service.proofs.Made.{all_serve, opened_bank, opening_long, opening_new}
 use Rattle.hg_bank_service.proofs.service.BankService.open.Goals as goal
 
@@ -21,10 +24,14 @@ invariant_of-service c =
     let many = opening.many in
     let none = ap length c.in_ok-closed.ensures.items in
     record {
-      some = omega (arith, many, none, c.requires.some);
-      most = omega (arith, many, none, c.requires.most);
+      sound = record {
+        some = omega (arith, many, none, c.requires.some);
+        most = omega (arith, many, none, c.requires.most);
+        serve = all_serve opening.opened;
+        quiet = subst (λ (xs : List Kept). All (IsQuiet c.args.policy) xs)
+            (sym c.in_ok-closed.ensures.items) (all_none (IsQuiet c.args.policy));
+      };
       room = omega (arith, many, none, c.in_ok-closed.ensures.exact, c.from.ensures);
-      serve = all_serve opening.opened;
     }
 
 pub returns : goal.returns

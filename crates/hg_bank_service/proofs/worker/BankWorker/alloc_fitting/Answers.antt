@@ -14,7 +14,7 @@ invariant_of-self-2 c =
       some = omega (arith, long, old.some);
       most = omega (arith, long, old.most);
       of = c.next_with_place.ensures.of;
-      there = served_there old.currents _ old.there c.in-Some.ensures.some;
+      there = served_there old.currents _ old.there c.in-Some.ensures.ends;
       counted = c.next_with_place.ensures.counted;
     }
 
@@ -26,7 +26,7 @@ returns c =
       served = subst (λ n. IsServed (RefusesBlock c.args.actor c.args.arena c.args.bytes)
           (GivesBlock c.args.actor c.args.arena c.args.bytes (answer.Block block.handle))
           (slice_index old.currents n) block.core old.workers.items
-          c.next_with_place.new.workers.items) c.from.ensures c.in-Some.ensures.some;
+          c.next_with_place.new.workers.items) c.from.ensures c.in-Some.ensures.ends;
       currents = ap (λ n. slice_set old.currents n block.core) c.from-2.ensures;
       policy = refl;
       number = refl;
