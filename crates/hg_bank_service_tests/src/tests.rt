@@ -1,6 +1,7 @@
-mod closing;
+mod asked;
 mod opened;
 mod refused;
 mod same;
+mod steps;
 mod threads;
 mod worked;

@@ -1,6 +1,6 @@
 //! Bank workers in threads of their own.
 
-use crate::tests::opened::{ALICE, MAIN, counts, pair};
+use crate::tests::opened::{ALICE, MAIN, opened};
 use crate::tests::same::same;
 use hg_bank::BankSegment;
 use hg_bank_service::BankWorker;
@@ -64,12 +64,16 @@ fn turns(worker: &mut BankWorker) -> u32 {
 // Two threads take segments from the cores of one bank and give them back, and none is ever missing.
 #[test]
 fn segments_from_two_threads(rt: HostRuntime) {
-    let (service, mut one, mut other) = pair(&rt, rt.alloc());
+    let (service, mut workers) = opened(rt.alloc(), 2).expect(&rt, "a bank of services");
+    let mut other = workers.pop().expect(&rt, "worker 1");
+    let mut one = workers.pop().expect(&rt, "worker 0");
     let done = join(&rt, || turns(&mut one), || turns(&mut other));
     same(&rt, done, (BLOCKS, BLOCKS));
-    counts(&rt, &one, 0, 0);
-    counts(&rt, &other, 0, 0);
+    same(&rt, (one.charge(0), other.charge(0)), (Some(0), Some(0)));
     assert!(&rt; one.leave().is_ok());
     assert!(&rt; other.leave().is_ok());
-    drop(service);
+    let Ok(bank) = service.close(rt.alloc()) else {
+        panic!(&rt; "all have left");
+    };
+    same(&rt, bank.cores(), 2);
 }

@@ -1,217 +1,303 @@
-//! Worked calls, of workers that one thread calls in turn.
+//! Worked runs on banks of services, of workers that one thread calls in turn.
 
-use crate::tests::opened::{
-    ALICE, BOB, FIRST, MAIN, STRANGER, VAULT, WHOLE, block, block_on, counts, first_segment, frees,
-    gives, pair, refills, vault_segment,
-};
-use crate::tests::same::same;
-use hg_bank_service::BankWorker;
-use hg_core::NoSegment;
+use crate::tests::asked::{Asked, Block, Segment, Told};
+use crate::tests::opened::{ABOVE, ALICE, BOB, BOTH, MAIN, NOWHERE, STRANGER, VAULT, WHOLE};
+use crate::tests::steps::{Run, Step, meets};
+use hg_close::CloseFault;
 use hg_heap::Refused;
-use hg_machine::{Answer, Rule};
+use hg_machine::Rule;
 use hg_place::Actor;
-use std::alloc::Global;
-use std::process::Abort;
 
-/// Alice fills the segment of each core.
-fn fills(rt: &impl Abort, one: &mut BankWorker) {
-    let whole = (ALICE, MAIN, WHOLE);
-    gives(rt, one, whole, Err(Refused::NoRoom));
-    refills(rt, one, MAIN, Ok(first_segment(0)));
-    gives(rt, one, whole, Ok(block(0, 1)));
-    gives(rt, one, whole, Err(Refused::NoRoom));
-    refills(rt, one, MAIN, Ok(first_segment(1)));
-    gives(rt, one, whole, Ok(block(1, 1)));
-    refills(rt, one, MAIN, Err(NoSegment));
-}
+/// What is told of a place that was never given out.
+const STALE: Told = Told::Denied(Rule::Stale(0));
 
-// Cores are asked from the current one on, round and round; a limit counts over all of them.
+static RUNS: [Run; 14] = [
+    // Cores are asked from the current one on, round and round; a limit counts over all of them.
+    Run {
+        name: "limit_counts_over_cores",
+        cores: 2,
+        steps: &[
+            Step::Refuses(0, (ALICE, MAIN, WHOLE), Refused::NoRoom),
+            Step::Refills(0, MAIN, Segment(0, 0)),
+            Step::Gives(0, (ALICE, MAIN, WHOLE), Block(0, 0, 1)),
+            Step::Refuses(0, (ALICE, MAIN, WHOLE), Refused::NoRoom),
+            Step::Refills(0, MAIN, Segment(1, 0)),
+            Step::Gives(0, (ALICE, MAIN, WHOLE), Block(1, 0, 1)),
+            Step::FindsNone(0, MAIN),
+            Step::Counts(0, BOTH, 0),
+            Step::Counts(1, 0, 0),
+            Step::Refuses(0, (ALICE, MAIN, 8), Refused::NoRoom),
+            Step::Refuses(0, (ALICE, MAIN, 9), Refused::Denied(Rule::OverLimit)),
+            Step::Counts(0, BOTH, 0),
+        ],
+    },
+    // A core that has room again serves, whichever is current, and is current from then on.
+    Run {
+        name: "current_moves",
+        cores: 2,
+        steps: &[
+            Step::Refuses(0, (ALICE, MAIN, WHOLE), Refused::NoRoom),
+            Step::Refills(0, MAIN, Segment(0, 0)),
+            Step::Gives(0, (ALICE, MAIN, WHOLE), Block(0, 0, 1)),
+            Step::Refuses(0, (ALICE, MAIN, WHOLE), Refused::NoRoom),
+            Step::Refills(0, MAIN, Segment(1, 0)),
+            Step::Gives(0, (ALICE, MAIN, WHOLE), Block(1, 0, 1)),
+            Step::FindsNone(0, MAIN),
+            Step::Asks(0, Asked::Free(ALICE, Block(0, 0, 1)), Told::Done),
+            Step::Counts(0, WHOLE, 0),
+            Step::Refuses(0, (BOB, MAIN, 64), Refused::NoRoom),
+            Step::Asks(0, Asked::Collect(0), Told::Pages(1)),
+            Step::Gives(0, (BOB, MAIN, 64), Block(0, 0, 2)),
+            Step::Asks(0, Asked::Free(ALICE, Block(1, 0, 1)), Told::Done),
+            Step::Asks(0, Asked::Collect(1), Told::Pages(1)),
+            Step::Gives(0, (ALICE, MAIN, 4096), Block(0, 1, 1)),
+            Step::Counts(0, 4096, 64),
+        ],
+    },
+    // Each arena has a current core of its own, and so has each worker.
+    Run {
+        name: "currents_of_arenas_and_workers",
+        cores: 2,
+        steps: &[
+            Step::Refills(0, MAIN, Segment(0, 0)),
+            Step::Refills(0, VAULT, Segment(0, 1)),
+            Step::Refills(0, MAIN, Segment(1, 0)),
+            Step::Gives(0, (ALICE, MAIN, 8), Block(1, 0, 1)),
+            Step::Refills(1, VAULT, Segment(1, 1)),
+            Step::FindsNone(1, MAIN),
+            Step::Counts(0, 8, 0),
+            Step::Counts(1, 0, 0),
+        ],
+    },
+    // Each refusal of an allocation comes in its order, and changes nothing.
+    Run {
+        name: "refusals_come_in_order",
+        cores: 2,
+        steps: &[
+            Step::Refuses(0, (STRANGER, VAULT, ABOVE), Refused::Denied(Rule::Stranger)),
+            Step::Refuses(0, (BOB, VAULT, ABOVE), Refused::Denied(Rule::ForeignArena)),
+            Step::Refuses(0, (BOB, MAIN, ABOVE), Refused::TooLarge),
+            Step::Refuses(0, (BOB, MAIN, 65), Refused::Denied(Rule::OverLimit)),
+            Step::Refuses(0, (BOB, MAIN, 64), Refused::NoRoom),
+            Step::Counts(0, 0, 0),
+        ],
+    },
+    // What was freed elsewhere goes around by the core that is named.
+    Run {
+        name: "block_goes_around",
+        cores: 2,
+        steps: &[
+            Step::Refuses(0, (ALICE, MAIN, WHOLE), Refused::NoRoom),
+            Step::Refills(0, MAIN, Segment(0, 0)),
+            Step::Gives(0, (ALICE, MAIN, WHOLE), Block(0, 0, 1)),
+            Step::Refuses(0, (ALICE, MAIN, WHOLE), Refused::NoRoom),
+            Step::Refills(0, MAIN, Segment(1, 0)),
+            Step::Gives(0, (ALICE, MAIN, WHOLE), Block(1, 0, 1)),
+            Step::FindsNone(0, MAIN),
+            Step::Asks(1, Asked::Free(ALICE, Block(1, 0, 1)), Told::Parted),
+            Step::HasInHand(1, 0, false),
+            Step::HasInHand(1, 1, true),
+            Step::Asks(1, Asked::Deliver(0), Told::NothingInHand),
+            Step::Asks(1, Asked::Deliver(1), Told::Done),
+            Step::HasInHand(1, 1, false),
+            Step::Counts(0, BOTH, 0),
+            Step::Asks(0, Asked::Take(Segment(0, 0)), Told::Taken(0)),
+            Step::Asks(0, Asked::Take(Segment(1, 0)), Told::Taken(1)),
+            Step::Counts(0, WHOLE, 0),
+            Step::Asks(0, Asked::Collect(1), Told::Pages(1)),
+        ],
+    },
+    // The blocks of the core that is named are listed.
+    Run {
+        name: "blocks_of_the_named_core",
+        cores: 2,
+        steps: &[
+            Step::Refills(0, MAIN, Segment(0, 0)),
+            Step::Refills(0, MAIN, Segment(1, 0)),
+            Step::Gives(0, (ALICE, MAIN, 24), Block(1, 0, 1)),
+            Step::Lists(0, 0, ALICE, 0),
+            Step::Lists(0, 1, ALICE, 1),
+            Step::Lists(0, 1, BOB, 0),
+            Step::Lists(1, 1, ALICE, 0),
+        ],
+    },
+    // Words are read, written and shown in the core that is named.
+    Run {
+        name: "words_of_the_named_core",
+        cores: 2,
+        steps: &[
+            Step::Refuses(0, (ALICE, MAIN, WHOLE), Refused::NoRoom),
+            Step::Refills(0, MAIN, Segment(0, 0)),
+            Step::Gives(0, (ALICE, MAIN, WHOLE), Block(0, 0, 1)),
+            Step::Refuses(0, (ALICE, MAIN, WHOLE), Refused::NoRoom),
+            Step::Refills(0, MAIN, Segment(1, 0)),
+            Step::Gives(0, (ALICE, MAIN, WHOLE), Block(1, 0, 1)),
+            Step::FindsNone(0, MAIN),
+            Step::Asks(0, Asked::Write(ALICE, Block(1, 0, 1), 8191, 7), Told::Done),
+            Step::Asks(0, Asked::Read(BOB, Block(1, 0, 1), 8191), Told::Value(7)),
+            Step::Asks(0, Asked::Read(BOB, Block(0, 0, 1), 8191), Told::Value(0)),
+            Step::Asks(1, Asked::Read(ALICE, Block(1, 0, 1), 0), Told::Elsewhere),
+            Step::Asks(
+                0,
+                Asked::Look(BOB, Segment(1, 0)),
+                Told::Denied(Rule::NotGranted),
+            ),
+        ],
+    },
+    // A worker that adopts is charged for what came with the segment.
+    Run {
+        name: "adoption_is_counted",
+        cores: 2,
+        steps: &[
+            Step::Refuses(0, (ALICE, MAIN, WHOLE), Refused::NoRoom),
+            Step::Refills(0, MAIN, Segment(0, 0)),
+            Step::Gives(0, (ALICE, MAIN, WHOLE), Block(0, 0, 1)),
+            Step::Refuses(0, (ALICE, MAIN, WHOLE), Refused::NoRoom),
+            Step::Refills(0, MAIN, Segment(1, 0)),
+            Step::Gives(0, (ALICE, MAIN, WHOLE), Block(1, 0, 1)),
+            Step::FindsNone(0, MAIN),
+            Step::Asks(0, Asked::Abandon(Segment(1, 0)), Told::Done),
+            Step::Asks(0, Asked::Abandon(Segment(1, 0)), Told::NotHeld),
+            Step::Counts(0, WHOLE, 0),
+            Step::Refills(1, MAIN, Segment(1, 0)),
+            Step::Counts(1, WHOLE, 0),
+            Step::Holds(1, Segment(0, 0), false),
+            Step::Holds(1, Segment(1, 0), true),
+            Step::Refills(1, VAULT, Segment(0, 1)),
+        ],
+    },
+    // A call that names a core that isn't there is answered as one of a place that isn't.
+    Run {
+        name: "absent_core_is_answered",
+        cores: 2,
+        steps: &[
+            Step::Refills(0, MAIN, Segment(0, 0)),
+            Step::Asks(0, Asked::Free(ALICE, Block(2, 0, 1)), STALE),
+            Step::Asks(0, Asked::Read(ALICE, Block(2, 0, 1), 0), STALE),
+            Step::Asks(0, Asked::Write(ALICE, Block(2, 0, 1), 0, 1), STALE),
+            Step::Asks(0, Asked::Look(ALICE, Segment(2, 0)), STALE),
+            Step::Asks(
+                0,
+                Asked::Free(STRANGER, Block(2, 0, 1)),
+                Told::Denied(Rule::Stranger),
+            ),
+            Step::Asks(0, Asked::Collect(2), Told::Pages(0)),
+            Step::Asks(0, Asked::Deliver(2), Told::NothingInHand),
+            Step::Asks(0, Asked::Take(Segment(2, 0)), Told::NotHeld),
+            Step::Asks(0, Asked::Abandon(Segment(2, 0)), Told::NotHeld),
+            Step::HasInHand(0, 2, false),
+            Step::Holds(0, Segment(2, 0), false),
+            Step::Lists(0, 2, ALICE, 0),
+            Step::Asks(0, Asked::Free(ALICE, Block(65535, 0, 1)), STALE),
+            Step::Asks(0, Asked::Read(ALICE, Block(65535, 0, 1), 0), STALE),
+            Step::Asks(0, Asked::Write(ALICE, Block(65535, 0, 1), 0, 1), STALE),
+            Step::Asks(0, Asked::Look(ALICE, Segment(65535, 0)), STALE),
+            Step::Asks(
+                0,
+                Asked::Free(STRANGER, Block(65535, 0, 1)),
+                Told::Denied(Rule::Stranger),
+            ),
+            Step::Asks(0, Asked::Collect(65535), Told::Pages(0)),
+            Step::Asks(0, Asked::Deliver(65535), Told::NothingInHand),
+            Step::Asks(0, Asked::Take(Segment(65535, 0)), Told::NotHeld),
+            Step::Asks(0, Asked::Abandon(Segment(65535, 0)), Told::NotHeld),
+            Step::HasInHand(0, 65535, false),
+            Step::Holds(0, Segment(65535, 0), false),
+            Step::Lists(0, 65535, ALICE, 0),
+        ],
+    },
+    // Arenas and segments that aren't there have nothing.
+    Run {
+        name: "absent_numbers_are_answered",
+        cores: 1,
+        steps: &[
+            Step::FindsNone(0, NOWHERE),
+            Step::Refuses(0, (ALICE, NOWHERE, 8), Refused::Denied(Rule::ForeignArena)),
+            Step::Refuses(0, (ALICE, MAIN, u64::MAX), Refused::TooLarge),
+            Step::Refuses(0, (Actor(255), MAIN, 8), Refused::Denied(Rule::Stranger)),
+            Step::Refills(0, MAIN, Segment(0, 0)),
+            Step::Asks(0, Asked::Take(Segment(0, 255)), Told::NotHeld),
+            Step::Asks(0, Asked::Abandon(Segment(0, 255)), Told::NotHeld),
+            Step::Asks(0, Asked::Look(ALICE, Segment(0, 63)), STALE),
+            Step::Holds(0, Segment(0, 255), false),
+            Step::Counts(0, 0, 0),
+        ],
+    },
+    // Once all bank workers have left, the services close into a bank, each into the core of its
+    // number.
+    Run {
+        name: "closes_into_a_bank",
+        cores: 2,
+        steps: &[
+            Step::Refills(0, MAIN, Segment(0, 0)),
+            Step::Refills(0, MAIN, Segment(1, 0)),
+            Step::Gives(0, (ALICE, MAIN, WHOLE), Block(1, 0, 1)),
+            Step::Asks(0, Asked::Write(ALICE, Block(1, 0, 1), 5, 7), Told::Done),
+            Step::Asks(0, Asked::Abandon(Segment(0, 0)), Told::Done),
+            Step::Asks(0, Asked::Abandon(Segment(1, 0)), Told::Done),
+            Step::GoesOn(1, CloseFault::StillOut(0), 2),
+            Step::Leaves(0),
+            Step::GoesOn(1, CloseFault::StillOut(1), 2),
+            Step::Leaves(1),
+            Step::Closes(2),
+            Step::BankRefills(MAIN, Segment(0, 0)),
+            Step::BankRefills(MAIN, Segment(1, 0)),
+            Step::BankReads(Block(1, 0, 1), 5, 7),
+        ],
+    },
+    // A worker that holds a segment, or has a block in hand, stays, and is told in which core.
+    Run {
+        name: "busy_worker_stays",
+        cores: 2,
+        steps: &[
+            Step::Refills(0, MAIN, Segment(0, 0)),
+            Step::Gives(0, (ALICE, MAIN, WHOLE), Block(0, 0, 1)),
+            Step::Refills(1, MAIN, Segment(1, 0)),
+            Step::Asks(1, Asked::Free(ALICE, Block(0, 0, 1)), Told::Parted),
+            Step::Stays(0, 0),
+            Step::Stays(1, 0),
+            Step::Asks(1, Asked::Deliver(0), Told::Done),
+            Step::Stays(1, 1),
+            Step::Asks(1, Asked::Abandon(Segment(1, 0)), Told::Done),
+            Step::Asks(0, Asked::Abandon(Segment(0, 0)), Told::Done),
+            Step::Leaves(0),
+            Step::Leaves(1),
+            Step::Closes(2),
+        ],
+    },
+    // A bank worker that is dropped keeps its services from closing.
+    Run {
+        name: "dropped_worker_is_out",
+        cores: 1,
+        steps: &[
+            Step::Drops(1),
+            Step::Leaves(0),
+            Step::GoesOn(0, CloseFault::StillOut(1), 1),
+            Step::GoesOn(0, CloseFault::StillOut(1), 1),
+        ],
+    },
+    // One service alone is a bank of one core.
+    Run {
+        name: "one_core",
+        cores: 1,
+        steps: &[
+            Step::Refills(0, MAIN, Segment(0, 0)),
+            Step::FindsNone(1, MAIN),
+            Step::Gives(0, (ALICE, MAIN, WHOLE), Block(0, 0, 1)),
+            Step::Refuses(0, (ALICE, MAIN, 8), Refused::NoRoom),
+            Step::Asks(0, Asked::Free(ALICE, Block(0, 0, 1)), Told::Done),
+            Step::Asks(0, Asked::Collect(0), Told::Pages(1)),
+            Step::Asks(0, Asked::Abandon(Segment(0, 0)), Told::Done),
+            Step::Refills(1, MAIN, Segment(0, 0)),
+            Step::Asks(1, Asked::Abandon(Segment(0, 0)), Told::Done),
+            Step::Leaves(1),
+            Step::Leaves(0),
+            Step::Closes(1),
+        ],
+    },
+];
+
 #[test]
-fn limit_counts_over_cores(rt: HostRuntime) {
-    let (service, mut one, other) = pair(&rt, rt.alloc());
-    fills(&rt, &mut one);
-    counts(&rt, &one, 2 * WHOLE, 0);
-    counts(&rt, &other, 0, 0);
-    gives(&rt, &mut one, (ALICE, MAIN, 8), Err(Refused::NoRoom));
-    gives(
-        &rt,
-        &mut one,
-        (ALICE, MAIN, 9),
-        Err(Refused::Denied(Rule::OverLimit)),
-    );
-    drop(one);
-    drop(other);
-    drop(service);
-}
-
-// A core that has room again serves, whichever is current, and is current from then on.
-#[test]
-fn current_moves(rt: HostRuntime) {
-    let (service, mut one, other) = pair(&rt, rt.alloc());
-    fills(&rt, &mut one);
-    frees(&rt, &mut one, ALICE, block(0, 1), Answer::Done);
-    counts(&rt, &one, WHOLE, 0);
-    gives(&rt, &mut one, (BOB, MAIN, 64), Err(Refused::NoRoom));
-    same(&rt, one.collect(0), Answer::Pages(1));
-    gives(&rt, &mut one, (BOB, MAIN, 64), Ok(block(0, 2)));
-    frees(&rt, &mut one, ALICE, block(1, 1), Answer::Done);
-    same(&rt, one.collect(1), Answer::Pages(1));
-    gives(&rt, &mut one, (ALICE, MAIN, 4096), Ok(block_on(0, 1)));
-    counts(&rt, &one, 4096, 64);
-    drop(one);
-    drop(other);
-    drop(service);
-}
-
-// Each refusal of an allocation comes in its order, and changes nothing.
-#[test]
-fn refusals_come_in_order(rt: HostRuntime) {
-    let (service, mut one, other) = pair(&rt, rt.alloc());
-    let worker = &mut one;
-    gives(
-        &rt,
-        worker,
-        (STRANGER, VAULT, WHOLE + 1),
-        Err(Refused::Denied(Rule::Stranger)),
-    );
-    gives(
-        &rt,
-        worker,
-        (BOB, VAULT, WHOLE + 1),
-        Err(Refused::Denied(Rule::ForeignArena)),
-    );
-    gives(&rt, worker, (BOB, MAIN, WHOLE + 1), Err(Refused::TooLarge));
-    gives(
-        &rt,
-        worker,
-        (BOB, MAIN, 65),
-        Err(Refused::Denied(Rule::OverLimit)),
-    );
-    gives(&rt, worker, (BOB, MAIN, 64), Err(Refused::NoRoom));
-    counts(&rt, worker, 0, 0);
-    drop(one);
-    drop(other);
-    drop(service);
-}
-
-// What was freed elsewhere goes around by the core that is named.
-#[test]
-fn block_goes_around(rt: HostRuntime) {
-    let (service, mut one, mut other) = pair(&rt, rt.alloc());
-    fills(&rt, &mut one);
-    frees(&rt, &mut other, ALICE, block(1, 1), Answer::Parted);
-    same(&rt, (other.hand(0), other.hand(1)), (None, Some(FIRST)));
-    same(&rt, other.deliver(0), Some(Answer::NothingInHand));
-    same(&rt, other.deliver(1), Some(Answer::Done));
-    counts(&rt, &one, 2 * WHOLE, 0);
-    same(&rt, one.take(first_segment(0)), Some(Answer::Taken(0)));
-    same(&rt, one.take(first_segment(1)), Some(Answer::Taken(1)));
-    counts(&rt, &one, WHOLE, 0);
-    same(&rt, one.collect(1), Answer::Pages(1));
-    drop(one);
-    drop(other);
-    drop(service);
-}
-
-/// How many blocks of a core are shown to an actor.
-fn shown(
-    rt: &impl Abort,
-    worker: &mut BankWorker,
-    alloc: Global,
-    core: u16,
-    actor: Actor,
-) -> usize {
-    worker.list(alloc, core, actor).expect(rt, "memory").len()
-}
-
-// The blocks of the core that is named are listed.
-#[test]
-fn blocks_of_the_named_core(rt: HostRuntime) {
-    let (service, mut one, other) = pair(&rt, rt.alloc());
-    refills(&rt, &mut one, MAIN, Ok(first_segment(0)));
-    refills(&rt, &mut one, MAIN, Ok(first_segment(1)));
-    gives(&rt, &mut one, (ALICE, MAIN, 24), Ok(block(1, 1)));
-    same(&rt, shown(&rt, &mut one, rt.alloc(), 0, ALICE), 0);
-    same(&rt, shown(&rt, &mut one, rt.alloc(), 1, ALICE), 1);
-    same(&rt, shown(&rt, &mut one, rt.alloc(), 1, BOB), 0);
-    same(&rt, shown(&rt, &mut one, rt.alloc(), 2, ALICE), 0);
-    drop(one);
-    drop(other);
-    drop(service);
-}
-
-// Words are read, written and shown in the core that is named.
-#[test]
-fn words_of_the_named_core(rt: HostRuntime) {
-    let (service, mut one, mut other) = pair(&rt, rt.alloc());
-    fills(&rt, &mut one);
-    same(&rt, one.write(ALICE, block(1, 1), 8191, 7), Answer::Done);
-    same(&rt, one.read(BOB, block(1, 1), 8191), Answer::Value(7));
-    same(&rt, one.read(BOB, block(0, 1), 8191), Answer::Value(0));
-    same(&rt, other.read(ALICE, block(1, 1), 0), Answer::Elsewhere);
-    same(
-        &rt,
-        one.look(BOB, 1, FIRST),
-        Answer::Denied(Rule::NotGranted),
-    );
-    drop(one);
-    drop(other);
-    drop(service);
-}
-
-// A worker that adopts is charged for what came with the segment.
-#[test]
-fn adoption_is_counted(rt: HostRuntime) {
-    let (service, mut one, mut other) = pair(&rt, rt.alloc());
-    fills(&rt, &mut one);
-    same(&rt, one.abandon(first_segment(1)), Some(Answer::Done));
-    same(&rt, one.abandon(first_segment(1)), Some(Answer::NotHeld));
-    counts(&rt, &one, WHOLE, 0);
-    refills(&rt, &mut other, MAIN, Ok(first_segment(1)));
-    counts(&rt, &other, WHOLE, 0);
-    same(
-        &rt,
-        (other.holds(first_segment(0)), other.holds(first_segment(1))),
-        (false, true),
-    );
-    refills(&rt, &mut other, VAULT, Ok(vault_segment(0)));
-    drop(one);
-    drop(other);
-    drop(service);
-}
-
-// What a core that isn't there is asked is answered as of a place that isn't.
-#[test]
-fn absent_core_is_answered(rt: HostRuntime) {
-    let (service, mut one, other) = pair(&rt, rt.alloc());
-    let stale = Answer::Denied(Rule::Stale(0));
-    same(&rt, (one.cores(), one.number(), other.number()), (2, 0, 1));
-    frees(&rt, &mut one, ALICE, block(2, 1), stale);
-    same(&rt, one.read(ALICE, block(2, 1), 0), stale);
-    same(&rt, one.write(ALICE, block(2, 1), 0, 1), stale);
-    same(&rt, one.look(ALICE, 2, FIRST), stale);
-    frees(
-        &rt,
-        &mut one,
-        STRANGER,
-        block(2, 1),
-        Answer::Denied(Rule::Stranger),
-    );
-    same(&rt, one.collect(2), Answer::Pages(0));
-    nothing_is_there(&rt, &mut one);
-    drop(one);
-    drop(other);
-    drop(service);
-}
-
-/// In core 2 nothing is held, and nothing is in hand.
-fn nothing_is_there(rt: &impl Abort, one: &mut BankWorker) {
-    same(rt, one.deliver(2), Some(Answer::NothingInHand));
-    same(rt, one.take(first_segment(2)), Some(Answer::NotHeld));
-    same(rt, one.abandon(first_segment(2)), Some(Answer::NotHeld));
-    same(
-        rt,
-        (one.hand(2), one.holds(first_segment(2))),
-        (None, false),
-    );
+fn worked_runs(rt: HostRuntime) {
+    meets(&rt, rt.alloc(), &RUNS);
 }
