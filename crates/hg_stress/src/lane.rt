@@ -152,9 +152,8 @@ impl<N: ServiceName> Lane<N> {
         } = self;
         worker.leave(rt);
         drop(draw);
-        Done {
-            calls,
-            counts: tally.counts,
-        }
+        let counts = tally.counts;
+        drop(tally);
+        Done { calls, counts }
     }
 }
