@@ -28,6 +28,7 @@ impl Desk {
         if worker < core.policy().workers() {
             Some(Desk { core, worker })
         } else {
+            drop(core);
             None
         }
     }

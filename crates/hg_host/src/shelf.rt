@@ -29,6 +29,7 @@ impl Shelf {
         if worker < bank.policy().workers() {
             Some(Shelf { bank, worker })
         } else {
+            drop(bank);
             None
         }
     }
