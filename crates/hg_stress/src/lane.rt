@@ -152,8 +152,9 @@ impl<N: ServiceName> Lane<N> {
         } = self;
         worker.leave(rt);
         drop(draw);
-        let counts = tally.counts;
-        drop(tally);
-        Done { calls, counts }
+        Done {
+            calls,
+            counts: tally.counts,
+        }
     }
 }

@@ -20,23 +20,25 @@ fn tell_calls<W: Write>(out: &mut W, names: &Names, calls: &[Call]) -> io::Resul
 /// Prints counts, each as a comment of a trace.
 fn tell_counts<W: Write>(out: &mut W, all: Counts) -> io::Result<()> {
     let Counts {
+        events,
+        allocated,
+        freed,
+        parted,
+        taken,
+        busy,
         seen,
         newer,
         lost,
         refilled,
         orphans,
-        ..
+        broken: _,
     } = all;
-    for (what, count) in [
-        ("events", all.events),
-        ("allocated", all.allocated),
-        ("freed", all.freed),
-        ("parted", all.parted),
-        ("taken", all.taken),
-        ("busy", all.busy),
-    ] {
-        writeln!(out, "# {what} {count}")?;
-    }
+    writeln!(out, "# events {events}")?;
+    writeln!(out, "# allocated {allocated}")?;
+    writeln!(out, "# freed {freed}")?;
+    writeln!(out, "# parted {parted}")?;
+    writeln!(out, "# taken {taken}")?;
+    writeln!(out, "# busy {busy}")?;
     writeln!(out, "# seen {seen} newer {newer} lost {lost}")?;
     writeln!(out, "# refilled {refilled} orphans {orphans}")
 }
