@@ -66,8 +66,8 @@ pub fn handle(rt: &impl Abort, block: Block) -> BankHandle {
     BankHandle { core, handle }
 }
 
-/// The segment.
-pub fn segment(named: Segment) -> BankSegment {
+/// The segment that is named.
+pub fn segment_of(named: Segment) -> BankSegment {
     let Segment(core, segment) = named;
     BankSegment { core, segment }
 }
@@ -83,13 +83,13 @@ pub fn answer(rt: &impl Abort, worker: &mut BankWorker, asked: Asked) -> Option<
         Asked::Look(actor, at) => Some(worker.look(actor, at.0, place(rt, at.1, 0))),
         Asked::Collect(core) => Some(worker.collect(core)),
         Asked::Deliver(core) => worker.deliver(core),
-        Asked::Take(taken) => worker.take(segment(taken)),
-        Asked::Abandon(given_up) => worker.abandon(segment(given_up)),
+        Asked::Take(taken) => worker.take(segment_of(taken)),
+        Asked::Abandon(given_up) => worker.abandon(segment_of(given_up)),
     }
 }
 
 /// The answer that is told.
-pub fn told(told: Told) -> Answer {
+pub fn answer_of(told: Told) -> Answer {
     match told {
         Told::Done => Answer::Done,
         Told::Parted => Answer::Parted,

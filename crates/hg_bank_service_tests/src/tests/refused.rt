@@ -1,6 +1,6 @@
 //! A bank of services that is refused memory, each request in turn.
 
-use crate::tests::asked::{Asked, Block, Segment, Told, answer, handle, segment, told};
+use crate::tests::asked::{Asked, Block, Segment, Told, answer, answer_of, handle, segment_of};
 use crate::tests::opened::{ALICE, MAIN, opened};
 use crate::tests::same::same;
 use hg_bank_service::{BankService, BankUnclosed, BankWorker};
@@ -11,13 +11,13 @@ use std::process::Abort;
 /// The worker serves, shows what it has, and gives it up.
 fn serves(rt: &impl Abort, alloc: Global, worker: &mut BankWorker) {
     let first = Segment(0, 0);
-    same(rt, worker.refill(MAIN), Some(Ok(segment(first))));
+    same(rt, worker.refill(MAIN), Some(Ok(segment_of(first))));
     let block = Block(0, 0, 1);
     same(rt, worker.alloc(ALICE, MAIN, 24), Ok(handle(rt, block)));
     shows_one(rt, alloc, worker);
     same(rt, worker.charge(0), Some(24));
     let given_up = answer(rt, worker, Asked::Abandon(first));
-    same(rt, given_up, Some(told(Told::Done)));
+    same(rt, given_up, Some(answer_of(Told::Done)));
 }
 
 /// One block is listed; where memory is refused, at the next try.

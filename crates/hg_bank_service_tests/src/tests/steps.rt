@@ -1,6 +1,6 @@
 //! Worked runs on a bank of services as data, and one function that goes over them.
 
-use crate::tests::asked::{Asked, Block, Segment, Told, answer, handle, segment, told};
+use crate::tests::asked::{Asked, Block, Segment, Told, answer, answer_of, handle, segment_of};
 use crate::tests::opened::{ALICE, opened};
 use hg_bank::Bank;
 use hg_bank_service::{BankService, BankUnclosed, BankWorker, Unleft};
@@ -140,7 +140,7 @@ impl Tried {
         };
         assert!(rt; 0 < bank.policy().workers());
         match step {
-            Step::BankRefills(arena, wanted) => bank.refill(0, *arena) == Ok(segment(*wanted)),
+            Step::BankRefills(arena, wanted) => bank.refill(0, *arena) == Ok(segment_of(*wanted)),
             Step::BankReads(block, index, wanted) => {
                 bank.read(0, ALICE, handle(rt, *block), *index) == Ok(*wanted)
             }
@@ -208,9 +208,9 @@ fn gives(rt: &impl Abort, worker: &mut BankWorker, step: &Step) -> bool {
             worker.alloc(asked.0, asked.1, asked.2) == Ok(handle(rt, *wanted))
         }
         Step::Refuses(_, asked, why) => worker.alloc(asked.0, asked.1, asked.2) == Err(*why),
-        Step::Refills(_, arena, wanted) => worker.refill(*arena) == Some(Ok(segment(*wanted))),
+        Step::Refills(_, arena, wanted) => worker.refill(*arena) == Some(Ok(segment_of(*wanted))),
         Step::FindsNone(_, arena) => worker.refill(*arena) == Some(Err(NoSegment)),
-        Step::Asks(_, asked, wanted) => answer(rt, worker, *asked) == Some(told(*wanted)),
+        Step::Asks(_, asked, wanted) => answer(rt, worker, *asked) == Some(answer_of(*wanted)),
         _ => false,
     }
 }
@@ -222,7 +222,7 @@ fn shows(alloc: Global, worker: &mut BankWorker, step: &Step) -> bool {
             Ok(rows) => rows.len() == *wanted,
             Err(_) => false,
         },
-        Step::Holds(_, held, wanted) => worker.holds(segment(*held)) == *wanted,
+        Step::Holds(_, held, wanted) => worker.holds(segment_of(*held)) == *wanted,
         Step::HasInHand(_, core, wanted) => worker.hand(*core).is_some() == *wanted,
         Step::Counts(_, alice, bob) => {
             (worker.charge(0), worker.charge(1), worker.charge(2))
