@@ -1,0 +1,286 @@
+-- What a table asks of each step at a word.
+use Rattle.std.proofs.Common.{◌≡◌, ℕ, ◌+◌, ◌-◌, ◌<◌, eqb, List, get_or, set, map, refl, sym, ap}
+use Rattle.std.proofs.Common.{subst, eq-eqb, ne_eqb}
+use Rattle.std.proofs.lemmas.List.{set-get_or}
+use mathlib.Core.Option.{none, some}
+use lib.ListN.{get_elem?}
+use prog.Atomic.{either}
+use Rattle.atomic_table.specs.Table.{step, keeps, stepped, Allows}
+use Rattle.atomic_table.proofs.Lists.{set_again, exchanged}
+use Rattle.hg_machine.specs.Policy.{Policy}
+use Rattle.hg_history.specs.OneRun.{IsOneRun}
+use Rattle.hg_history.proofs.Views.{map_at, map_set}
+use Rattle.hg_roles.specs.Roles.{Call, Role}
+use Rattle.hg_roles.specs.Served.{places_of_policy}
+use Rattle.hg_table.specs.LifeRule.{LifeRule}
+use Rattle.hg_table.specs.Steps.{WordStep, look, open_as, close_from, part_from, take_home, left_by}
+use Rattle.hg_table.specs.Steps.{known_after, MayMake}
+use Rattle.hg_table.specs.Told.{IsShownTo}
+use Rattle.hg_table.specs.View as lives
+use Rattle.hg_table.proofs.WordSteps.{shown_to, keeps_rule, after}
+use Rattle.hg_run_table.specs.declared.part.Part.{Part}
+use Rattle.hg_run_table.specs.declared.part.SeatView.{SeatView}
+use Rattle.hg_run_table.specs.Owing.{DecidesAt, DecidesAlone}
+use Rattle.hg_run_table.specs.Rule.{Table, lives_of, KeepsBoth}
+use Rattle.hg_run_table.specs.Seated.{HaveRoles, seated}
+use Rattle.hg_run_table.specs.Told.{Mine, looked, took, looked_deciding, closed, parted, opened}
+use Rattle.hg_run_table.specs.Told.{decided}
+use Rattle.hg_run_table.proofs.Decided.{keeps_on}
+
+abbrev pub runs : List SeatView → List (List Part)
+runs views = map (λ view. view.run) views
+
+abbrev pub known : List SeatView → List lives.View
+known views = map (λ view. view.lives) views
+
+-- both rules, of a table in which the view of one seat is another
+pub set_both : (policy : Policy) (words : List ℕ) (homes : _) (views : List SeatView) (id : ℕ)
+    (new : SeatView)
+    → LifeRule (places_of_policy policy)
+    (record { words = words; homes = homes; views = set (known views) id new.lives })
+    → IsOneRun (seated policy) words (set (runs views) id new.run)
+    → KeepsBoth policy (record { words = words; homes = homes; views = set views id new })
+set_both policy words homes views id new good one = record {
+  lives =
+      subst
+      (λ (vs : List lives.View).
+      LifeRule (places_of_policy policy) (record { words = words; homes = homes; views = vs }))
+      (sym (map_set (λ (v : SeatView). v.lives) views id new)) good;
+  run =
+      subst (IsOneRun (seated policy) words) (sym (map_set (λ (v : SeatView). v.run) views id new))
+      one;
+}
+
+-- an exchange leaves what it should
+exchange_is : (old w : ℕ) → left_by (close_from old) w ≡ either (eqb w old) (old - 1) w
+exchange_is old w =
+    exchanged w old (old - 1) (λ z. left_by (close_from old) w ≡ z)
+    (λ hit. rw (eq-eqb w old hit) refl) (λ miss. rw (ne_eqb w old miss) refl)
+
+module _ (policy : Policy) (slots id : ℕ) (me : Mine) where
+  lives_at : (views : List SeatView) → get_elem? views id ≡ some me.0
+      → get_elem? (known views) id ≡ some me.0.lives
+  lives_at views at = map_at (λ (v : SeatView). v.lives) views id me.0 at
+
+  run_at : (views : List SeatView) → get_elem? views id ≡ some me.0
+      → get_elem? (runs views) id ≡ some me.0.run
+  run_at views at = map_at (λ (v : SeatView). v.run) views id me.0 at
+
+  shown : (s : Table) → KeepsBoth policy s → get_elem? s.views id ≡ some me.0 → (at : ℕ)
+      → IsShownTo at (get_or s.words at 0) me.0.lives
+  shown s r seat at =
+      shown_to (places_of_policy policy) (lives_of s) r.lives at id me.0.lives
+      (lives_at s.views seat)
+
+  module _ (at : ℕ) (inside : at < places_of_policy policy + 1) where
+    -- the life rule after a step
+    stepped_lives : (kind : WordStep) → MayMake kind at me.0.lives → (s : Table)
+        → KeepsBoth policy s → get_elem? s.views id ≡ some me.0
+        → LifeRule (places_of_policy policy)
+        (after (lives_of s) at (left_by kind (get_or s.words at 0)) id
+        (map (known_after kind at (get_or s.words at 0)) me.0.lives))
+    stepped_lives kind may s r seat =
+        keeps_rule (places_of_policy policy) (lives_of s) r.lives at id me.0.lives
+        (lives_at s.views seat) inside kind may
+
+    -- a load that decides nothing
+    quiet : (kind : WordStep) → ((w : ℕ) → left_by kind w ≡ w) → MayMake kind at me.0.lives
+        → (s : Table) → KeepsBoth policy s → get_elem? s.views id ≡ some me.0
+        → KeepsBoth policy
+        (stepped s at (get_or s.words at 0) id me.1
+        (record {
+          lives = map (known_after kind at (get_or s.words at 0)) me.0.lives;
+          run = me.0.run;
+        })
+        keeps)
+    quiet kind same may s r seat =
+        let w : ℕ = get_or s.words at 0 in
+        set_both policy (set s.words at w) s.homes s.views id
+        (record { lives = map (known_after kind at w) me.0.lives; run = me.0.run })
+        (subst
+        (λ z.
+        LifeRule (places_of_policy policy)
+        (after (lives_of s) at z id (map (known_after kind at w) me.0.lives)))
+        (same w) (stepped_lives kind may s r seat))
+        (subst (λ (z : List ℕ × List (List Part)). IsOneRun (seated policy) z.0 z.1)
+        (λ k. (
+          sym (set-get_or s.words at 0) k,
+          sym (set_again (runs s.views) id me.0.run (run_at s.views seat)) k,
+        ))
+        r.run)
+
+    pub looks : (a b : ℕ)
+        → Allows (KeepsBoth policy) slots id me at (λ w. w) (looked (step slots at a b none) me)
+    looks a b s r _ seat _ =
+        let w : ℕ = get_or s.words at 0 in (
+          record { lives = map (known_after look at w) me.0.lives; run = me.0.run },
+          keeps,
+          tt,
+          quiet look (λ w. refl) tt s r seat,
+          ((shown s r seat at, refl, refl), refl),
+        )
+
+    pub takes : (a b : ℕ) → MayMake take_home at me.0.lives
+        → Allows (KeepsBoth policy) slots id me at (λ w. w) (took (step slots at a b none) me)
+    takes a b may s r _ seat _ =
+        let w : ℕ = get_or s.words at 0 in (
+          record { lives = map (known_after take_home at w) me.0.lives; run = me.0.run },
+          keeps,
+          tt,
+          quiet take_home (λ w. refl) may s r seat,
+          ((shown s r seat at, refl, refl), refl),
+        )
+
+    module _ (roles : List Role) (made : ℕ → List (ℕ × Call)) (change : ℕ → Role → Role)
+        (has : HaveRoles me.0.run roles) where
+      -- a view with which both rules are kept
+      record Kept (s : Table) (later : List ℕ) (kind : WordStep) (found : ℕ) : Type 0 where
+        pub run : List Part
+        pub both :
+            KeepsBoth policy
+            (record {
+              words = later;
+              homes = s.homes;
+              views = set s.views id
+                  (record { lives = map (known_after kind at found) me.0.lives; run = run });
+            })
+        pub have : HaveRoles run (map (change found) roles)
+
+      -- a step of a kind, which leaves what it leaves of the word that it finds
+      made_at : (kind : WordStep) → MayMake kind at me.0.lives
+          → DecidesAt policy at me.0.lives (left_by kind) roles made change
+          → (s : Table) → KeepsBoth policy s → get_elem? s.views id ≡ some me.0
+          → Kept s (set s.words at (left_by kind (get_or s.words at 0))) kind (get_or s.words at 0)
+      made_at kind may owes s r seat =
+          let w : ℕ = get_or s.words at 0 in
+          let later : List ℕ = set s.words at (left_by kind w) in
+          let now =
+          keeps_on policy s.words later me.0.run roles (made w) (change w) has
+          (owes s.words (shown s r seat at)) (runs s.views) id r.run (run_at s.views seat) in
+          record {
+            run = now.0;
+            both =
+                set_both policy later s.homes s.views id
+                (record { lives = map (known_after kind at w) me.0.lives; run = now.0 })
+                (stepped_lives kind may s r seat) now.1;
+            have = now.2;
+          }
+
+      pub looks_deciding : (a b : ℕ)
+          → DecidesAt policy at me.0.lives (λ w. w) roles made change
+          → Allows (KeepsBoth policy) slots id me at (λ w. w)
+          (looked_deciding roles change (step slots at a b none) me)
+      looks_deciding a b owes s r _ seat _ =
+          let w : ℕ = get_or s.words at 0 in
+          let k = made_at look tt owes s r seat in (
+            record { lives = map (known_after look at w) me.0.lives; run = k.run },
+            keeps,
+            tt,
+            k.both,
+            ((shown s r seat at, refl, refl), k.have),
+          )
+
+      -- what an exchange keeps, by what it leaves
+      exchanged_both : (kind : WordStep) (old : ℕ)
+          → ((w : ℕ) → left_by kind w ≡ either (eqb w old) (old - 1) w)
+          → (s : Table)
+          → (k : Kept s (set s.words at (left_by kind (get_or s.words at 0))) kind
+          (get_or s.words at 0))
+          → KeepsBoth policy
+          (stepped s at (either (eqb (get_or s.words at 0) old) (old - 1) (get_or s.words at 0)) id
+          me.1
+          (record {
+            lives = map (known_after kind at (get_or s.words at 0)) me.0.lives;
+            run = k.run;
+          })
+          keeps)
+      exchanged_both kind old same s k =
+          let w : ℕ = get_or s.words at 0 in
+          subst
+          (λ z.
+          KeepsBoth policy
+          (stepped s at z id me.1
+          (record { lives = map (known_after kind at w) me.0.lives; run = k.run }) keeps))
+          (same w) k.both
+
+      pub closes : (old : ℕ) → MayMake (close_from old) at me.0.lives
+          → DecidesAt policy at me.0.lives (left_by (close_from old)) roles made change
+          → Allows (KeepsBoth policy) slots id me at (λ w. either (eqb w old) (old - 1) w)
+          (closed roles change (step slots at old (old - 1) none) me)
+      closes old may owes s r _ seat _ =
+          let w : ℕ = get_or s.words at 0 in
+          let k = made_at (close_from old) may owes s r seat in (
+            record { lives = map (known_after (close_from old) at w) me.0.lives; run = k.run },
+            keeps,
+            tt,
+            exchanged_both (close_from old) old (exchange_is old) s k,
+            ((shown s r seat at, refl, refl), k.have),
+          )
+
+      pub parts : (old : ℕ) → MayMake (part_from old) at me.0.lives
+          → DecidesAt policy at me.0.lives (left_by (part_from old)) roles made change
+          → Allows (KeepsBoth policy) slots id me at (λ w. either (eqb w old) (old - 1) w)
+          (parted roles change (step slots at old (old - 1) none) me)
+      parts old may owes s r _ seat _ =
+          let w : ℕ = get_or s.words at 0 in
+          let k = made_at (part_from old) may owes s r seat in (
+            record { lives = map (known_after (part_from old) at w) me.0.lives; run = k.run },
+            keeps,
+            tt,
+            exchanged_both (part_from old) old (exchange_is old) s k,
+            ((shown s r seat at, refl, refl), k.have),
+          )
+
+    -- a store tells the word that it leaves, and not the one that it finds
+    pub opens : (roles : List Role) (made : ℕ → List (ℕ × Call)) (change : ℕ → Role → Role)
+        → HaveRoles me.0.run roles → (live : ℕ)
+        → MayMake (open_as live) at me.0.lives
+        → DecidesAt policy at me.0.lives (λ _. live) roles (λ _. made live) (λ _. change live)
+        → Allows (KeepsBoth policy) slots id me at (λ _. live)
+        (λ _. opened roles change (step slots at live 0 none) me live)
+    opens roles made change has live may owes s r _ seat _ =
+        let w : ℕ = get_or s.words at 0 in
+        let k =
+        made_at roles (λ _. made live) (λ _. change live) has (open_as live) may
+        owes s r seat in (
+          record { lives = map (known_after (open_as live) at w) me.0.lives; run = k.run },
+          keeps,
+          tt,
+          k.both,
+          ((w, shown s r seat at), refl, refl, k.have),
+        )
+
+  -- at the spare word nothing hangs on what is found, and nothing is told of words and lives
+  pub decides : (roles : List Role) (made : ℕ → List (ℕ × Call)) (change : ℕ → Role → Role)
+      → HaveRoles me.0.run roles
+      → ((word : ℕ) → DecidesAlone policy roles (made word) (change word))
+      → Allows (KeepsBoth policy) slots id me 0 (λ w. w)
+      (decided roles change (step slots 0 0 0 none) me)
+  decides roles made change has owes s r _ seat _ =
+      let w : ℕ = get_or s.words 0 0 in
+      let now =
+      keeps_on policy s.words s.words me.0.run roles (made w) (change w) has
+      (owes w s.words) (runs s.views) id r.run (run_at s.views seat) in
+      let same : set s.words 0 w ≡ s.words = set-get_or s.words 0 0 in (
+        record { lives = me.0.lives; run = now.0 },
+        keeps,
+        tt,
+        subst
+            (λ (ws : List ℕ).
+            KeepsBoth policy
+            (record {
+              words = ws;
+              homes = s.homes;
+              views = set s.views id (record { lives = me.0.lives; run = now.0 });
+            }))
+            (sym same)
+            (set_both policy s.words s.homes s.views id
+            (record { lives = me.0.lives; run = now.0 })
+            (subst
+            (λ (vs : List lives.View).
+            LifeRule (places_of_policy policy)
+            (record { words = s.words; homes = s.homes; views = vs }))
+            (sym (set_again (known s.views) id me.0.lives (lives_at s.views seat))) r.lives)
+            now.1),
+        (refl, refl, now.2),
+      )

@@ -1,0 +1,11 @@
+pub mod Alike
+pub mod RolesOfViews
+pub mod Decided
+pub mod Allowed
+pub mod Reshaped
+pub mod Beginnings
+pub mod Counts
+pub mod Endings
+pub mod WorkerSteps
+pub mod NamedSteps
+pub mod FreedLemmas

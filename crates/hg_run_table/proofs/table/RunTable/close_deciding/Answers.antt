@@ -1,0 +1,13 @@
+use Rattle.std.proofs.Common.{rules, arith}
+use Rattle.hg_run_table.proofs.Allowed.{closes}
+use Rattle.hg_run_table.proofs.table.RunTable.close_deciding.Goals as goal
+
+pub compare_exchange-requires : goal.compare_exchange-requires
+compare_exchange-requires g c =
+    let wide = c.args.self.now.wide in
+    let at = c.number-at.ensures.number in (
+      search rules,
+      omega (arith, c.requires.place),
+      rw at
+          (closes _ _ _ _ _ (omega (arith, c.requires.place)) _ g.D.Decision.made g.D.Decision.change c.requires.roles _ c.requires.may c.requires.decides),
+    )

@@ -1,0 +1,11 @@
+pub mod Unused
+pub mod Seated
+pub mod Openings
+pub mod Rule
+pub mod Told
+pub mod Owing
+pub mod Reshaping
+pub mod Calls
+pub mod Picks
+pub mod JoinedCalls
+pub mod FreedOnce
