@@ -2,7 +2,7 @@
 use Rattle.std.proofs.Common.{◌≡◌, ⊎_elim, ℕ, zero, suc, ◌+◌, ◌<◌, List, [], ◌∷◌, ◌++◌, map, get_or}
 use Rattle.std.proofs.Common.{length, replicate, refl, sym, ap, subst, ◌∙◌, arith}
 use Rattle.std.specs.List.{range_with_len}
-use Rattle.std.proofs.lemmas.List.{ext_get_or, length-replicate, length-map}
+use Rattle.std.proofs.lemmas.List.{length-map}
 use mathlib.Core.Option.{some, some-injective, some-ne-none}
 use lib.ListN.{get_elem?}
 use Rattle.atomic_table.specs.Table as table
@@ -15,7 +15,6 @@ use Rattle.hg_history.proofs.OneRunLemmas.{opened}
 use Rattle.hg_history.proofs.Views.{at_append, at_map, map_at}
 use Rattle.hg_roles.specs.Beginning.{AreFirst}
 use Rattle.hg_roles.specs.FirstParts.{idle, full, first_roles, first_views}
-use Rattle.hg_roles.specs.Names.{IsOf}
 use Rattle.hg_roles.specs.Roles.{Role, of_worker, of_remote, of_pool, of_segment, RoleAgrees, name_of}
 use Rattle.hg_roles.specs.Roles.{calls_in}
 use Rattle.hg_roles.specs.Served.{running, places_of_policy}

@@ -1,5 +1,5 @@
 -- Parts of names of their own, as many as there are names, have all of them.
-use Rattle.std.proofs.Common.{◌≡◌, ◌≢◌, inl, inr, ℕ, zero, suc, ◌<◌, ◌≤◌, ◌==◌, eqb, true, false, ◌||◌}
+use Rattle.std.proofs.Common.{◌≡◌, ◌≢◌, inl, inr, ℕ, zero, suc, ◌<◌, eqb, true, false, ◌||◌}
 use Rattle.std.proofs.Common.{List, [], ◌∷◌, length, map, refl, sym, ap, ◌∙◌, subst, arith}
 use Rattle.std.proofs.Common.{eq-eqb, ne_eqb}
 use Rattle.std.specs.List.{list_any, IsDistinct, AllByRecursion}

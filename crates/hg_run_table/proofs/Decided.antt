@@ -1,5 +1,5 @@
 -- A step that decides calls of roles keeps the rule of parts that have these roles.
-use Rattle.std.proofs.Common.{◌≡◌, ℕ, List, ◌++◌, map, length, set, refl, sym, ap, subst, ◌∙◌}
+use Rattle.std.proofs.Common.{◌≡◌, ℕ, List, ◌++◌, map, set, refl, sym, ap, subst, ◌∙◌}
 use Rattle.std.proofs.lemmas.List.{length-map}
 use Rattle.hg_machine.specs.Policy.{Policy}
 use Rattle.hg_machine.specs.State.{State}
@@ -7,11 +7,11 @@ use Rattle.hg_machine.specs.Soundness.{IsSound}
 use Rattle.hg_history.specs.History.{log_of}
 use Rattle.hg_history.specs.Service.{IsIn, IsStranger}
 use Rattle.hg_history.specs.OneRun.{IsOneRun}
-use Rattle.hg_history.specs.Steps.{Moves, Decides}
+use Rattle.hg_history.specs.Steps.{Decides}
 use Rattle.hg_history.proofs.OneRunLemmas.{decided}
 use Rattle.hg_history.proofs.Views.{at_map}
 use Rattle.hg_roles.specs.Roles.{Call, Role, RoleAgrees, name_of, calls_in}
-use Rattle.hg_roles.specs.Served.{running, WordsShow}
+use Rattle.hg_roles.specs.Served.{running}
 use Rattle.hg_run_table.specs.declared.part.Part.{Part}
 use Rattle.hg_run_table.specs.Owing.{IsDecided}
 use Rattle.hg_run_table.specs.Seated.{name_in, number_of_name, HasRole, HaveRoles, PartAgrees, seated}

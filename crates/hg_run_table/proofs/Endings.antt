@@ -1,6 +1,6 @@
 -- The table at the end.
 use Rattle.std.proofs.Common.{◌≡◌, ℕ, zero, suc, ◌<◌, List, [], ◌∷◌, map, length, refl, sym, ap, subst, ◌∙◌}
-use mathlib.Core.Option.{some, some-injective, some-ne-none}
+use mathlib.Core.Option.{some-injective, some-ne-none}
 use Rattle.atomic_table.specs.Table.{Final, Seen}
 use Rattle.hg_machine.specs.Policy.{Policy}
 use Rattle.hg_history.specs.History.{log_of}

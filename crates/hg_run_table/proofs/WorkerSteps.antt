@@ -4,7 +4,6 @@ use Rattle.std.proofs.Common.{Option, Some, None, refl, sym, ap, subst, ◌∙�
 use Rattle.std.proofs.lemmas.List.{set-get_or}
 use mathlib.Core.Option.{some-injective, some-ne-none}
 use Rattle.hg_machine.specs.Policy.{Policy}
-use Rattle.hg_machine.specs.State.{State}
 use Rattle.hg_agreement.specs.Views.{View}
 use Rattle.hg_history.specs.Service.{IsIn}
 use Rattle.hg_history.specs.Steps.{Decides}
@@ -15,12 +14,12 @@ use Rattle.hg_roles.specs.Served.{running, places_of_policy, WordsShow}
 use Rattle.hg_roles.proofs.DecidingLemmas.{ties_decide, private_calls_decide, refusals_decide}
 use Rattle.hg_run_table.specs.declared.part.PartName.TheVariants.{Worker}
 use Rattle.hg_run_table.specs.declared.part.Part.{Part}
-use Rattle.hg_run_table.specs.Calls.{first_log, with_call, view_by, IsTiedAt, MayCall, IsTiedAlone}
+use Rattle.hg_run_table.specs.Calls.{first_log, with_call, view_by, MayCall, IsTiedAlone}
 use Rattle.hg_run_table.specs.Calls.{IsRefused}
 use Rattle.hg_run_table.specs.JoinedCalls.{IsTiedTogether}
 use Rattle.hg_table.specs.Told.{IsShownTo}
 use Rattle.hg_table.specs.View as lives
-use Rattle.hg_run_table.specs.Owing.{DecidesAt, DecidesAlone, IsDecided}
+use Rattle.hg_run_table.specs.Owing.{DecidesAt, DecidesAlone}
 use Rattle.hg_run_table.specs.Picks.{made_by, change_by}
 use Rattle.hg_run_table.specs.Seated.{name_in, HaveRoles}
 

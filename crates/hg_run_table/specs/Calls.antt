@@ -1,15 +1,13 @@
 -- Calls of a worker, by the word that their deciding step finds.
 use Rattle.std.specs.Prelude.{◌≡◌, ℕ, ◌<◌, true, false, List, [], ◌∷◌, ◌++◌, Option, Some, None}
-use Rattle.hg_machine.specs.declared.Answer.{Answer}
-use Rattle.hg_machine.specs.declared.Event.{Event}
 use Rattle.hg_machine.specs.Policy.{Policy}
 use Rattle.hg_machine.specs.Refusal.{refusal}
 use Rattle.hg_machine.specs.State.{State}
 use Rattle.hg_agreement.specs.Views.{View}
 use Rattle.hg_agreement.specs.Agreement.{Agrees, Ties}
 use Rattle.hg_frame.specs.SlotWords.{changes_word}
-use Rattle.hg_roles.specs.Deciding.{IsCallOf, called}
-use Rattle.hg_roles.specs.Roles.{Call, Role, of_worker}
+use Rattle.hg_roles.specs.Deciding.{IsCallOf}
+use Rattle.hg_roles.specs.Roles.{Call, of_worker}
 use Rattle.hg_roles.specs.Served.{places_of_policy}
 use Rattle.hg_run_table.specs.declared.part.Part.{Part}
 use Rattle.hg_run_table.specs.declared.table.RunSeat.{RunSeat}

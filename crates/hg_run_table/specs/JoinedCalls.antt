@@ -1,5 +1,5 @@
 -- Calls that concern a worker and another part.
-use Rattle.std.specs.Prelude.{◌≡◌, ℕ, ◌<◌, List, [], ◌∷◌}
+use Rattle.std.specs.Prelude.{◌≡◌, ℕ, List, [], ◌∷◌}
 use Rattle.hg_machine.specs.Policy.{Policy}
 use Rattle.hg_agreement.specs.Views.{View}
 use Rattle.hg_history.specs.Steps.{Decides}

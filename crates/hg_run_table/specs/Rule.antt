@@ -1,5 +1,5 @@
 -- What a table of the words keeps between any two steps.
-use Rattle.std.specs.Prelude.{ℕ, List, map}
+use Rattle.std.specs.Prelude.{map}
 use Rattle.atomic_table.specs.Table as table
 use Rattle.hg_machine.specs.Policy.{Policy}
 use Rattle.hg_history.specs.OneRun.{IsOneRun}

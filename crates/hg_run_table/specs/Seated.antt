@@ -1,4 +1,4 @@
--- The parts of a service in plain data, as seats of a table have them, and the rule of the table.
+-- The parts of a service in plain data, as seats of a table have them.
 use Rattle.std.specs.Prelude.{◌≡◌, ℕ, ◌+◌, ◌<◌, List, length}
 use Rattle.hg_machine.specs.Policy.{Policy}
 use Rattle.hg_machine.specs.State.{State}

@@ -1,4 +1,4 @@
-use Rattle.std.proofs.Common.{◌≡◌, [], ap, ◌∙◌, inl, append-nil, sym}
+use Rattle.std.proofs.Common.{inl}
 use Rattle.hg_run_table.proofs.WorkerSteps.{together, joined_roles, joined_tied, together_log}
 use Rattle.hg_run_table.proofs.WorkerSteps.{together_worker, together_other}
 use Rattle.hg_run_table.proofs.table.RunTable.call_together.Goals as goal
