@@ -34,7 +34,7 @@ pub struct Done {
 }
 
 /// A worker with a stream of its own.
-fn lane<N: ServiceName>(
+fn make_lane<N: ServiceName>(
     alloc: Global,
     worker: Worker<N>,
     plan: Plan,
@@ -66,7 +66,7 @@ pub fn add_lanes<N: ServiceName>(
 ) -> Result<(), AllocError> {
     for number in 0..plan.workers {
         if let Some(worker) = service.worker(number) {
-            lanes.push(lane(alloc, worker, plan)?)?;
+            lanes.push(make_lane(alloc, worker, plan)?)?;
         }
     }
     Ok(())
