@@ -42,21 +42,15 @@ lay_out_shared() {
     while read -r from path; do lay_out "$1" "$2/$from" "$path"; done < "$2/shared"
 }
 
-# A checksum of the files that are there, but for what was built.
-sum_of_room() {
-    (cd "$work" && find crates crates.txt HANDLES -name out -prune -o -type f -print0 | sort -z \
-        | xargs -0 sha256sum | sha256sum)
-}
-
 # STATUS: proves all that is there, and builds the programs, by the kit's gate: it takes what this
-# machine has kept of earlier runs. Without arguments each program ends with this status; where it is
-# empty, folders say what programs are run on and print. What was proved in this room from the same files
-# isn't proved again.
+# machine has kept of earlier runs. Without arguments each program ends with this status. What was
+# proved in this room from the same files isn't proved again.
 prove() {
-    local sum it
+    local sum
     mkdir -p "$work/.git"
-    [ -z "$1" ] || for it in "$work"/crates/*_bench; do echo "$1" > "$it/status"; done
-    sum=$(sum_of_room)
+    for it in "$work"/crates/*_bench; do echo "$1" > "$it/status"; done
+    sum=$(cd "$work" && find crates crates.txt HANDLES -name out -prune -o -type f -print0 | sort -z \
+        | xargs -0 sha256sum | sha256sum)
     [ "$sum" != "$(cat "$work/proved" 2> "$work/said")" ] || return 0
     (cd "$work" && rt ci) > "$work/built" 2>&1 || { cat "$work/built"; exit 1; }
     echo "$sum" > "$work/proved"
