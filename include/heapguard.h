@@ -123,7 +123,9 @@ enum hg_status {
     HG_AGAIN = 25,           /* another call has what this one needs: it did nothing; make it again */
     HG_STILL_OUT = 26,       /* value: the lowest worker that hasn't left */
     HG_STILL_HELD = 27,      /* value: the lowest segment that is held */
-    HG_LOST = 28,            /* value: the lowest place that isn't accounted for */
+    HG_LOST = 28,            /* value: the lowest place that isn't accounted for; of a bank of
+                              * services these three have the number of the core as detail, and of
+                              * hg_bank_worker_leave HG_BUSY and HG_STILL_HELD have it */
     /* denied, by the first rule that refuses */
     HG_STRANGER = 32,
     HG_STALE = 33,           /* detail: the generation that is there, 0 where none is */

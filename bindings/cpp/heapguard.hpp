@@ -1,6 +1,7 @@
-// heapguard.hpp: heapguard's core, bank and service as classes of C++17 that close what they opened.
-// The duties at the head of heapguard.h and heapguard_service.h are their caller's too, but for those
-// on 16 bytes: a moved-from Core, Bank or Service is a closed one, and a moved-from ServiceWorker none.
+// heapguard.hpp: heapguard's core, bank, service and bank of services as classes of C++17 that close what
+// they opened. The duties at the head of heapguard.h and heapguard_service.h are their caller's too, but
+// for those on 16 bytes: a moved-from Core, Bank, Service or BankService is a closed one, and a moved-from
+// ServiceWorker or BankWorker none.
 #ifndef HEAPGUARD_HPP
 #define HEAPGUARD_HPP
 
@@ -527,6 +528,7 @@ public:
     }
 
 private:
+    friend class BankService;
     hg_bank bank_ HG_BANK_INIT;
 };
 
@@ -744,6 +746,237 @@ public:
 
 private:
     hg_service service_ HG_SERVICE_INIT;
+};
+
+/// A worker of a bank of services, for one thread: its calls take no lock. They are those of a
+/// ServiceWorker; where they name a block, a place, a segment or a hand, they name its core too. Dropped,
+/// it is given up with all that it holds, and its bank of services closes no more: leave() comes before
+/// that. deliver, take, refill and abandon ask again where another call has what they need.
+class BankWorker : detail::Shared {
+public:
+    /// None, which answers HG_CLOSED.
+    BankWorker() noexcept = default;
+
+    BankWorker(const BankWorker &) = delete;
+    BankWorker &operator=(const BankWorker &) = delete;
+
+    BankWorker(BankWorker &&other) noexcept
+        : worker_(std::exchange(other.worker_, hg_bank_worker HG_BANK_WORKER_INIT)) {}
+
+    BankWorker &operator=(BankWorker &&other) noexcept
+    {
+        if (this != &other) {
+            (void)hg_bank_worker_drop(&worker_);
+            worker_ = std::exchange(other.worker_, hg_bank_worker HG_BANK_WORKER_INIT);
+        }
+        return *this;
+    }
+
+    ~BankWorker() { (void)hg_bank_worker_drop(&worker_); }
+
+    /// A block of the first core with room, from the current one on: block_of its reply.
+    [[nodiscard]] Reply alloc(Tenant actor, Arena arena, std::uint64_t bytes)
+    {
+        return hg_bank_worker_alloc(&worker_, number(actor), number(arena), bytes);
+    }
+
+    [[nodiscard]] Reply free(Tenant actor, BankHandle block)
+    {
+        return hg_bank_worker_free(&worker_, number(actor), block);
+    }
+
+    [[nodiscard]] Reply read(Tenant actor, BankHandle block, std::uint32_t index)
+    {
+        return hg_bank_worker_read(&worker_, number(actor), block, index);
+    }
+
+    [[nodiscard]] Reply write(Tenant actor, BankHandle block, std::uint32_t index, std::uint64_t value)
+    {
+        return hg_bank_worker_write(&worker_, number(actor), block, index, value);
+    }
+
+    [[nodiscard]] Reply look(Tenant actor, CoreNumber core, Place place)
+    {
+        return hg_bank_worker_look(&worker_, number(actor), number(core), number(place));
+    }
+
+    [[nodiscard]] Reply collect(CoreNumber core)
+    {
+        return hg_bank_worker_collect(&worker_, number(core));
+    }
+
+    [[nodiscard]] Reply deliver(CoreNumber core)
+    {
+        return hg_bank_worker_deliver_now(&worker_, number(core));
+    }
+
+    [[nodiscard]] Reply take(CoreNumber core, Segment segment)
+    {
+        return hg_bank_worker_take_now(&worker_, number(core), number(segment));
+    }
+
+    /// A segment of the first core that has one, from the current one on: the value is its number, and
+    /// its core is core_of its reply.
+    [[nodiscard]] Reply refill(Arena arena)
+    {
+        return hg_bank_worker_refill_now(&worker_, number(arena));
+    }
+
+    [[nodiscard]] Reply abandon(CoreNumber core, Segment segment)
+    {
+        return hg_bank_worker_abandon_now(&worker_, number(core), number(segment));
+    }
+
+    /// As those without try_, asked once: HG_AGAIN where another call has what is needed.
+    [[nodiscard]] Reply try_deliver(CoreNumber core)
+    {
+        return hg_bank_worker_deliver(&worker_, number(core));
+    }
+
+    [[nodiscard]] Reply try_take(CoreNumber core, Segment segment)
+    {
+        return hg_bank_worker_take(&worker_, number(core), number(segment));
+    }
+
+    [[nodiscard]] Reply try_refill(Arena arena)
+    {
+        return hg_bank_worker_refill(&worker_, number(arena));
+    }
+
+    [[nodiscard]] Reply try_abandon(CoreNumber core, Segment segment)
+    {
+        return hg_bank_worker_abandon(&worker_, number(core), number(segment));
+    }
+
+    /// The blocks that it holds in a core and the actor may list, as far as there is room for that many;
+    /// the value is how many there are.
+    [[nodiscard]] Reply list(CoreNumber core, Tenant actor, Reply *room, std::size_t count)
+    {
+        return hg_bank_worker_list(&worker_, number(core), number(actor), room, count);
+    }
+
+    /// Its number, if there is one.
+    std::optional<Worker> own() { return found<Worker>(hg_bank_worker_number(&worker_)); }
+
+    /// How many cores it has, 0 where there is none.
+    std::uint32_t cores()
+    {
+        return static_cast<std::uint32_t>(hg_bank_worker_cores(&worker_).value);
+    }
+
+    bool holds(CoreNumber core, Segment segment)
+    {
+        return hg_bank_worker_holds(&worker_, number(core), number(segment)).value == 1;
+    }
+
+    /// The place of the block in its hand in a core, if it has one there.
+    std::optional<Place> hand(CoreNumber core)
+    {
+        return found<Place>(hg_bank_worker_hand(&worker_, number(core)));
+    }
+
+    /// What counts against the tenant's limit with it over all cores, in bytes; nothing of a tenant that
+    /// isn't there.
+    std::optional<std::uint64_t> charge(Tenant tenant)
+    {
+        return value(hg_bank_worker_charge(&worker_, number(tenant)));
+    }
+
+    /// Sends what is in hand and gives up each segment that it holds, in each core, and goes back to its
+    /// bank of services; or what the first call that wasn't served was answered, and then it stays.
+    [[nodiscard]] Reply leave() { return hg_bank_worker_leave_now(&worker_); }
+
+private:
+    friend class BankService;
+    hg_bank_worker worker_ HG_BANK_WORKER_INIT;
+};
+
+/// A bank of services: what a bank is, served by several threads at once, each of which is one of its
+/// workers. Dropped, it is given up, and its workers go on. Its calls are one at a time, questions too,
+/// and so are those of a worker.
+class BankService : detail::Shared {
+public:
+    /// A closed one, which answers HG_CLOSED.
+    BankService() noexcept = default;
+
+#ifdef __cpp_exceptions
+    /// Opens by the text of a policy with so many cores; or throws the policy's first fault, or
+    /// std::invalid_argument where no bank has so many.
+    BankService(std::string_view policy, std::uint32_t cores)
+    {
+        std::string line;
+        Reply opened = open(policy, cores, line);
+        if (opened.status == HG_NO_COUNT) throw std::invalid_argument(hg_status_text(HG_NO_COUNT));
+        if (opened.status != HG_DONE) throw PolicyFault(opened.status, line);
+    }
+#endif
+
+    BankService(const BankService &) = delete;
+    BankService &operator=(const BankService &) = delete;
+
+    BankService(BankService &&other) noexcept
+        : service_(std::exchange(other.service_, hg_bank_service HG_BANK_SERVICE_INIT)) {}
+
+    BankService &operator=(BankService &&other) noexcept
+    {
+        if (this != &other) {
+            (void)hg_bank_service_drop(&service_);
+            service_ = std::exchange(other.service_, hg_bank_service HG_BANK_SERVICE_INIT);
+        }
+        return *this;
+    }
+
+    ~BankService() { (void)hg_bank_service_drop(&service_); }
+
+    /// Opens a closed one by the text of a policy, with 1 to 16384 cores; with a fault, `line` is the
+    /// line that tells it, as far as 1,024 bytes go.
+    [[nodiscard]] Reply open(std::string_view policy, std::uint32_t cores, std::string &line)
+    {
+        return written<1024>(line, [&](char *room, std::size_t length) {
+            return hg_bank_service_open(&service_, policy.data(), policy.size(), cores, room, length);
+        });
+    }
+
+    /// Gives the worker of a number, where `worker` is none yet.
+    [[nodiscard]] Reply give(Worker numbered, BankWorker &worker)
+    {
+        return hg_bank_service_worker(&service_, number(numbered), &worker.worker_);
+    }
+
+    /// Becomes a bank, where `bank` is a closed one, once each worker that it gave has left. Those that
+    /// it didn't give leave by the first such call. After HG_NO_MEMORY this comes again before all else.
+    [[nodiscard]] Reply close(Bank &bank) { return hg_bank_service_close(&service_, &bank.bank_); }
+
+    /// How many cores it has, 0 where it is closed.
+    std::uint32_t cores()
+    {
+        return static_cast<std::uint32_t>(hg_bank_service_cores(&service_).value);
+    }
+
+    /// How many workers there are, 0 where it is closed.
+    std::uint32_t workers()
+    {
+        return static_cast<std::uint32_t>(hg_bank_service_workers(&service_).value);
+    }
+
+    /// How many segments each core has, 0 where it is closed.
+    std::uint32_t segments()
+    {
+        return static_cast<std::uint32_t>(hg_bank_service_segments(&service_).value);
+    }
+
+    std::optional<Tenant> tenant(std::string_view name)
+    {
+        return found<Tenant>(hg_bank_service_tenant(&service_, name.data(), name.size()));
+    }
+
+    std::optional<Arena> arena(std::string_view name)
+    {
+        return found<Arena>(hg_bank_service_arena(&service_, name.data(), name.size()));
+    }
+
+private:
+    hg_bank_service service_ HG_BANK_SERVICE_INIT;
 };
 
 } // namespace heapguard

@@ -38,7 +38,7 @@ use std::fmt;
 /// # Ok::<(), heapguard::OpenError>(())
 /// ```
 pub struct Bank {
-    raw: RawBank,
+    pub(crate) raw: RawBank,
 }
 
 /// How many cores, workers and segments of each core it has, and nothing of what is in them.

@@ -20,13 +20,14 @@
 //! # Ok::<(), heapguard::OpenError>(())
 //! ```
 //!
-//! A [`Core`] has 4 MiB of blocks; a [`Bank`] is many cores under one policy; and a [`Service`] is
-//! what a core is, served by several threads at once.
+//! A [`Core`] has 4 MiB of blocks; a [`Bank`] is many cores under one policy; a [`Service`] is what a
+//! core is, served by several threads at once, and a [`BankService`] what a bank is.
 //!
 //! All calls are safe. What the library proves of each is in `crates/hg_c/README.md`.
 
 mod bank;
 mod bank_handle;
+mod bank_service;
 mod handle;
 mod number;
 mod raw;
@@ -36,6 +37,7 @@ mod told;
 
 pub use bank::Bank;
 pub use bank_handle::{BankHandle, NoBankHandle};
+pub use bank_service::{BankNotClosed, BankNotLeft, BankService, BankUnclosed, BankWorker};
 pub use handle::{Handle, NoHandle, Place};
 pub use number::{Arena, CoreNumber, Segment, Tenant, Worker};
 pub use refusal::{FaultKind, OpenError, PolicyFault, Refusal, Rule};
@@ -421,7 +423,10 @@ mod tests {
 
     #[test]
     fn a_core_is_told_in_debug() {
-        assert_eq!(Core::open("version = 1").unwrap_err().to_string(), "policy fault 2: missing workers");
+        assert_eq!(
+            Core::open("version = 1").unwrap_err().to_string(),
+            "policy fault 2: missing workers"
+        );
         let policy = "version = 1
             workers = 2
             tenant = []
@@ -440,7 +445,10 @@ mod tests {
         let (worker, alice, bob) = (Worker(0), Tenant(0), Tenant(1));
         core.refill(worker, Arena(0)).unwrap();
         let block = core.alloc(worker, alice, Arena(0), 24).unwrap();
-        let all = |done| Progress { done, refused: None };
+        let all = |done| Progress {
+            done,
+            refused: None,
+        };
         assert_eq!(core.write_words(worker, alice, block, 1, &[7, 8]), all(2));
         let mut room = [1; 5];
         let past = core.read_words(worker, alice, block, 0, &mut room);

@@ -64,6 +64,38 @@ impl RawWorker {
     }
 }
 
+/// The 16 bytes of a bank of services, which the library alone looks into.
+#[repr(C)]
+pub struct RawBankService {
+    at: *mut u8,
+    mark: u64,
+}
+
+impl RawBankService {
+    pub fn closed() -> RawBankService {
+        RawBankService {
+            at: std::ptr::null_mut(),
+            mark: 0,
+        }
+    }
+}
+
+/// The 16 bytes of a worker of a bank of services, which the library alone looks into.
+#[repr(C)]
+pub struct RawBankWorker {
+    at: *mut u8,
+    mark: u64,
+}
+
+impl RawBankWorker {
+    pub fn none() -> RawBankWorker {
+        RawBankWorker {
+            at: std::ptr::null_mut(),
+            mark: 0,
+        }
+    }
+}
+
 /// A block of a bank.
 #[repr(C)]
 #[derive(Clone, Copy)]
@@ -371,4 +403,81 @@ extern "C" {
     pub fn hg_worker_hand(worker: *mut RawWorker) -> RawReply;
     pub fn hg_worker_leave(worker: *mut RawWorker) -> RawReply;
     pub fn hg_worker_drop(worker: *mut RawWorker) -> RawReply;
+    pub fn hg_bank_service_open(
+        service: *mut RawBankService,
+        policy: *const u8,
+        policy_length: usize,
+        cores: u32,
+        room: *mut u8,
+        room_length: usize,
+    ) -> RawReply;
+    pub fn hg_bank_service_worker(
+        service: *mut RawBankService,
+        number: u32,
+        worker: *mut RawBankWorker,
+    ) -> RawReply;
+    pub fn hg_bank_service_close(service: *mut RawBankService, bank: *mut RawBank) -> RawReply;
+    pub fn hg_bank_service_drop(service: *mut RawBankService) -> RawReply;
+    pub fn hg_bank_service_cores(service: *mut RawBankService) -> RawReply;
+    pub fn hg_bank_service_workers(service: *mut RawBankService) -> RawReply;
+    pub fn hg_bank_service_segments(service: *mut RawBankService) -> RawReply;
+    pub fn hg_bank_service_tenant(
+        service: *mut RawBankService,
+        name: *const u8,
+        name_length: usize,
+    ) -> RawReply;
+    pub fn hg_bank_service_arena(
+        service: *mut RawBankService,
+        name: *const u8,
+        name_length: usize,
+    ) -> RawReply;
+    pub fn hg_bank_worker_alloc(
+        worker: *mut RawBankWorker,
+        actor: u32,
+        arena: u32,
+        bytes: u64,
+    ) -> RawReply;
+    pub fn hg_bank_worker_free(
+        worker: *mut RawBankWorker,
+        actor: u32,
+        block: RawBankHandle,
+    ) -> RawReply;
+    pub fn hg_bank_worker_read(
+        worker: *mut RawBankWorker,
+        actor: u32,
+        block: RawBankHandle,
+        index: u32,
+    ) -> RawReply;
+    pub fn hg_bank_worker_write(
+        worker: *mut RawBankWorker,
+        actor: u32,
+        block: RawBankHandle,
+        index: u32,
+        value: u64,
+    ) -> RawReply;
+    pub fn hg_bank_worker_look(
+        worker: *mut RawBankWorker,
+        actor: u32,
+        core: u32,
+        place: u32,
+    ) -> RawReply;
+    pub fn hg_bank_worker_collect(worker: *mut RawBankWorker, core: u32) -> RawReply;
+    pub fn hg_bank_worker_deliver(worker: *mut RawBankWorker, core: u32) -> RawReply;
+    pub fn hg_bank_worker_take(worker: *mut RawBankWorker, core: u32, segment: u32) -> RawReply;
+    pub fn hg_bank_worker_refill(worker: *mut RawBankWorker, arena: u32) -> RawReply;
+    pub fn hg_bank_worker_abandon(worker: *mut RawBankWorker, core: u32, segment: u32) -> RawReply;
+    pub fn hg_bank_worker_list(
+        worker: *mut RawBankWorker,
+        core: u32,
+        actor: u32,
+        room: *mut RawReply,
+        count: usize,
+    ) -> RawReply;
+    pub fn hg_bank_worker_number(worker: *mut RawBankWorker) -> RawReply;
+    pub fn hg_bank_worker_cores(worker: *mut RawBankWorker) -> RawReply;
+    pub fn hg_bank_worker_holds(worker: *mut RawBankWorker, core: u32, segment: u32) -> RawReply;
+    pub fn hg_bank_worker_hand(worker: *mut RawBankWorker, core: u32) -> RawReply;
+    pub fn hg_bank_worker_charge(worker: *mut RawBankWorker, tenant: u32) -> RawReply;
+    pub fn hg_bank_worker_leave(worker: *mut RawBankWorker) -> RawReply;
+    pub fn hg_bank_worker_drop(worker: *mut RawBankWorker) -> RawReply;
 }

@@ -18,6 +18,8 @@ use Rattle.hg_ffi.specs.Banks as banks
 use Rattle.hg_ffi.specs.BankAtOnce as many
 use Rattle.hg_ffi.specs.declared.host_part.HostPart.{HostPart}
 use Rattle.hg_ffi.specs.Parts as parts
+use Rattle.hg_bank_service_ffi.specs.BankParts as bank_parts
+use Rattle.hg_bank_service_ffi.specs.declared.host_bank_part.HostBankPart.{HostBankPart}
 
 both_ways : {X : Type 0} {b : Bool} → b ≡ true → b ≡ false → X
 both_ways is isnt = absurd (subst T (sym is ∙ isnt) tt)
@@ -84,5 +86,20 @@ pub on_part_word : {does : Handle → Type 0} {stays : Type 0} {word : ℕ} (han
     → (is_handle word ≡ true) × (word ≡ handle_word handle) → ReadsWord word (Some handle) → does handle → parts.OnWord word does stays
 on_part_word handle is read done = record {
   named = λ _. (handle, is.1, read, done);
+  unnamed = λ no. both_ways is.0 no;
+}
+
+-- the same of a bank worker
+pub on_bank_part_handle : {old new : HostBankPart} {block : BankBlock} {event : Handle → Event} {reply : Reply} (handle : Handle)
+    → (is_handle block.handle ≡ true) × (block.handle ≡ handle_word handle) → ReadsWord block.handle (Some handle) → bank_parts.Serves old (core_of block.core) (event handle) reply new → bank_parts.ServesOn old block event reply new
+on_bank_part_handle handle is read serves = record {
+  named = λ _. (handle, is.1, read, serves);
+  unnamed = λ no. both_ways is.0 no;
+}
+
+pub at_bank_part_place : {old new : HostBankPart} {core number : ℕ} {event : Place → Event} {reply : Reply} (place : Place)
+    → (is_place number ≡ true) × (number ≡ number_of place) → bank_parts.Serves old (core_of core) (event place) reply new → bank_parts.ServesAt old core number event reply new
+at_bank_part_place place is serves = record {
+  named = λ _. (place, is.1, serves);
   unnamed = λ no. both_ways is.0 no;
 }

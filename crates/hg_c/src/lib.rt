@@ -6,6 +6,7 @@
 mod at_once_exports;
 mod bank_at_once_exports;
 mod bank_exports;
+mod bank_service_exports;
 mod exports;
 mod service_exports;
 mod version;

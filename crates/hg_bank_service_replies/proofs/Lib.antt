@@ -1,0 +1,6 @@
+mod Rows
+mod LetLeave
+mod Its
+mod Taken
+mod Staying
+mod Told

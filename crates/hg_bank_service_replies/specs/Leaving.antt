@@ -1,0 +1,68 @@
+-- How a bank worker leaves its bank of services.
+use Rattle.std.specs.Prelude.{◌≡◌, ℕ, List, Some, MatchOption, slice_get}
+use Rattle.hg_hosted.specs.declared.worker.HostedWorker.{HostedWorker}
+use Rattle.hg_worker.specs.declared.state.WorkerState.{WorkerState}
+use Rattle.hg_reply.specs.declared.reply.Reply.{Reply}
+use Rattle.hg_reply.specs.Replies.{again, plain}
+use Rattle.hg_bank_replies.specs.Replies.{placed}
+use Rattle.hg_service_replies.specs.Leaving.{HoldsFirst, HoldsNone}
+use Rattle.hg_bank_service.specs.Has.{Has}
+use Rattle.hg_bank_service.specs.Idle.{AreIdleFrom}
+use Rattle.hg_bank_service.specs.Leaving.{AreLeft, IsFirstBusy}
+use Rattle.hg_bank_service.specs.declared.unleft.Leaving.{Leaving}
+use Rattle.hg_bank_service.specs.declared.worker.BankWorker.{BankWorker}
+use Rattle.hg_bank_service_replies.specs.declared.part.BankPart.{BankPart}
+use Rattle.hg_bank_service_replies.specs.declared.part.BankPart.TheVariants as part
+use Rattle.hg_bank_service_replies.specs.Serving.{IsOther}
+
+-- the worker of a core, if there is one, holds no segment, or this one is the lowest that it holds
+abbrev pub HoldsNoneIn : BankWorker → ℕ → Type 0
+HoldsNoneIn worker core =
+    (one : HostedWorker) → slice_get worker.workers.items core ≡ Some one → Has HoldsNone one
+
+abbrev pub HoldsFirstIn : BankWorker → ℕ → ℕ → Type 0
+HoldsFirstIn worker core segment =
+    (one : HostedWorker) → slice_get worker.workers.items core ≡ Some one
+    → Has (HoldsFirst segment) one
+
+-- what is told of a worker that is busy in this core: a block in hand, or else the lowest segment that
+-- it holds
+abbrev pub TellsBusy : ℕ → Reply → WorkerState → Type 0
+TellsBusy core reply state =
+    MatchOption state.hand
+    ((segment : ℕ) × HoldsFirst segment state × (reply ≡ placed 27 core segment))
+    (λ handle. reply ≡ placed 20 core 0)
+
+-- why it stays: what the worker of the lowest core that has something has there
+pub record StaysFor (workers : List HostedWorker) (reply : Reply) : Type 0 where
+  pub core : ℕ
+  pub first : IsFirstBusy workers core
+  pub told : Has (TellsBusy core reply) first.worker
+
+-- it leaves and is gone; or stays as it was; or is leaving, since another call has what it has to put
+-- back, and none of its workers is busy
+abbrev pub WorkerLeaves : BankWorker → Reply → BankPart → Type 0
+WorkerLeaves old reply part.Gone = (reply ≡ plain 2) × AreIdleFrom 0 old.workers.items
+WorkerLeaves old reply (part.Worker back) = (back ≡ old) × StaysFor old.workers.items reply
+WorkerLeaves old reply (part.Leaving left) =
+    (reply ≡ again) × AreIdleFrom 0 old.workers.items
+    × AreLeft old.workers.items left.workers.items
+WorkerLeaves old reply (part.Service opened) = ⊥
+WorkerLeaves old reply (part.Bank bank) = ⊥
+
+-- one that is leaving is gone, or some of its workers still aren't
+abbrev pub GoesOnLeaving : Leaving → Reply → BankPart → Type 0
+GoesOnLeaving old reply part.Gone = reply ≡ plain 2
+GoesOnLeaving old reply (part.Leaving left) =
+    (reply ≡ again) × AreLeft old.workers.items left.workers.items
+GoesOnLeaving old reply (part.Worker worker) = ⊥
+GoesOnLeaving old reply (part.Service opened) = ⊥
+GoesOnLeaving old reply (part.Bank bank) = ⊥
+
+-- any other part is answered as closed, and stays
+abbrev pub PartLeaves : BankPart → Reply → BankPart → Type 0
+PartLeaves (part.Worker old) reply new = WorkerLeaves old reply new
+PartLeaves (part.Leaving old) reply new = GoesOnLeaving old reply new
+PartLeaves (part.Service opened) reply new = IsOther (part.Service opened) reply new
+PartLeaves (part.Bank bank) reply new = IsOther (part.Bank bank) reply new
+PartLeaves part.Gone reply new = IsOther part.Gone reply new

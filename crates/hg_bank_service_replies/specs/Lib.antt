@@ -1,0 +1,9 @@
+pub mod Owned
+pub mod Opening
+pub mod Serving
+pub mod Taking
+pub mod Leaving
+pub mod Closing
+pub mod Dropping
+pub mod Listing
+pub mod Asking
