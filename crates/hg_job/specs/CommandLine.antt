@@ -27,17 +27,21 @@ flag name = record (new_rule name) { long = Some name; action = Some SetTrue }
 abbrev pub optional : Text → Rule
 optional name = new_rule name
 
+-- a command of which the policy is the first operand
+abbrev pub of_policy : Text → App
+of_policy name = with_rule (new_app name) (required (codes "POLICY"))
+
 abbrev pub check : App
 check =
     with_rule
-    (with_rule (with_rule (new_app (codes "check")) (required (codes "POLICY")))
+    (with_rule (of_policy (codes "check"))
     (optional (codes "TRACE")))
     (flag (codes "explain"))
 
 -- a replay by its operands, and by its options too
 abbrev pub replaying : App
 replaying =
-    with_rule (with_rule (new_app (codes "replay")) (required (codes "POLICY")))
+    with_rule (of_policy (codes "replay"))
     (required (codes "TRACE"))
 
 abbrev pub replay : App
@@ -46,28 +50,28 @@ replay = with_rule (with_rule replaying (flag (codes "explain"))) (flag (codes "
 abbrev pub race : App
 race =
     with_rule
-    (with_rule (with_rule (new_app (codes "race")) (required (codes "POLICY")))
+    (with_rule (of_policy (codes "race"))
     (counted (codes "ROUNDS")))
     (flag (codes "explain"))
 
 abbrev pub test : App
 test =
     with_rule
-    (with_rule (with_rule (new_app (codes "test")) (required (codes "POLICY")))
+    (with_rule (of_policy (codes "test"))
     (several (codes "TRACE")))
     (flag (codes "explain"))
 
 abbrev pub show : App
 show =
     with_rule
-    (with_rule (with_rule (new_app (codes "show")) (required (codes "POLICY")))
+    (with_rule (of_policy (codes "show"))
     (flag (codes "json")))
     (flag (codes "explain"))
 
 -- what stands after a trace: by its operands, with the options for JSON and a map, and with all
 abbrev pub standing : App
 standing =
-    with_rule (with_rule (new_app (codes "state")) (required (codes "POLICY")))
+    with_rule (of_policy (codes "state"))
     (required (codes "TRACE"))
 
 abbrev pub formed : App

@@ -3,7 +3,7 @@ ghost use Rattle.std.specs.Prelude.{◌≡◌, codes, false, IfOk};
 ghost use Rattle.clap.specs.Words.{app_of, rule_of};
 ghost use Rattle.clap.specs.declared.builder.command.Command.TheViews.{out-Command};
 ghost use Rattle.hg_job.specs.CommandLine.{alone, check, counted, flag, formed, heapguard, help};
-ghost use Rattle.hg_job.specs.CommandLine.{named, optional, race, reader, replay, replaying};
+ghost use Rattle.hg_job.specs.CommandLine.{named, of_policy, optional, race, reader, replay, replaying};
 ghost use Rattle.hg_job.specs.CommandLine.{required, runner, several, show, shower, standing, state};
 ghost use Rattle.hg_job.specs.CommandLine.{test};
 
@@ -202,14 +202,27 @@ fn explain<'a>(alloc: Global, help: &'a str) -> Arg<'a>
     option(alloc, "explain", help)
 }
 
+/// A command with its help, of which the policy is the first operand.
+fn of_policy<'a>(
+    alloc: Global,
+    name: &'a str,
+    about: &'a str,
+    more: &'a str,
+) -> Result<Command<'a>, AllocError>
+    ensures app { IfOk result (λ c. app_of c ≡ of_policy name.entry.now) }
+    ensures local { IfOk result (λ c. (out-Command c).has_globals ≡ false) }
+{
+    Command::new(alloc, name)
+        .about(about)
+        .after_help(more)
+        .arg(policy(alloc))
+}
+
 fn check_command<'a>(alloc: Global) -> Result<Command<'a>, AllocError>
     ensures app { IfOk result (λ c. app_of c ≡ check) }
     ensures local { IfOk result (λ c. (out-Command c).has_globals ≡ false) }
 {
-    Command::new(alloc, "check")
-        .about(CHECK_ABOUT)
-        .after_help(CHECK_MORE)
-        .arg(policy(alloc))?
+    of_policy(alloc, "check", CHECK_ABOUT, CHECK_MORE)?
         .arg(optional(alloc, "TRACE", "File with a trace for it"))?
         .arg(explain(alloc, WITH_WANTED))
 }
@@ -219,11 +232,7 @@ fn replaying<'a>(alloc: Global) -> Result<Command<'a>, AllocError>
     ensures app { IfOk result (λ c. app_of c ≡ replaying) }
     ensures local { IfOk result (λ c. (out-Command c).has_globals ≡ false) }
 {
-    Command::new(alloc, "replay")
-        .about(REPLAY_ABOUT)
-        .after_help(REPLAY_MORE)
-        .arg(policy(alloc))?
-        .arg(trace(alloc))
+    of_policy(alloc, "replay", REPLAY_ABOUT, REPLAY_MORE)?.arg(trace(alloc))
 }
 
 fn replay_command<'a>(alloc: Global) -> Result<Command<'a>, AllocError>
@@ -239,10 +248,7 @@ fn race_command<'a>(alloc: Global) -> Result<Command<'a>, AllocError>
     ensures app { IfOk result (λ c. app_of c ≡ race) }
     ensures local { IfOk result (λ c. (out-Command c).has_globals ≡ false) }
 {
-    Command::new(alloc, "race")
-        .about(RACE_ABOUT)
-        .after_help(RACE_MORE)
-        .arg(policy(alloc))?
+    of_policy(alloc, "race", RACE_ABOUT, RACE_MORE)?
         .arg(rounds(alloc))?
         .arg(explain(alloc, WITH_WANTED))
 }
@@ -251,10 +257,7 @@ fn test_command<'a>(alloc: Global) -> Result<Command<'a>, AllocError>
     ensures app { IfOk result (λ c. app_of c ≡ test) }
     ensures local { IfOk result (λ c. (out-Command c).has_globals ≡ false) }
 {
-    Command::new(alloc, "test")
-        .about(TEST_ABOUT)
-        .after_help(TEST_MORE)
-        .arg(policy(alloc))?
+    of_policy(alloc, "test", TEST_ABOUT, TEST_MORE)?
         .arg(traces(alloc))?
         .arg(explain(alloc, WITH_WANTED))
 }
@@ -263,10 +266,7 @@ fn show_command<'a>(alloc: Global) -> Result<Command<'a>, AllocError>
     ensures app { IfOk result (λ c. app_of c ≡ show) }
     ensures local { IfOk result (λ c. (out-Command c).has_globals ≡ false) }
 {
-    Command::new(alloc, "show")
-        .about(SHOW_ABOUT)
-        .after_help(SHOW_MORE)
-        .arg(policy(alloc))?
+    of_policy(alloc, "show", SHOW_ABOUT, SHOW_MORE)?
         .arg(option(alloc, "json", "Print it as JSON, for programs"))?
         .arg(explain(alloc, WITH_WANTED))
 }
@@ -276,11 +276,7 @@ fn standing<'a>(alloc: Global) -> Result<Command<'a>, AllocError>
     ensures app { IfOk result (λ c. app_of c ≡ standing) }
     ensures local { IfOk result (λ c. (out-Command c).has_globals ≡ false) }
 {
-    Command::new(alloc, "state")
-        .about(STATE_ABOUT)
-        .after_help(STATE_MORE)
-        .arg(policy(alloc))?
-        .arg(trace(alloc))
+    of_policy(alloc, "state", STATE_ABOUT, STATE_MORE)?.arg(trace(alloc))
 }
 
 /// The same, with two of its forms.
