@@ -121,8 +121,8 @@ enum hg_status {
     HG_FULL = 24,            /* all cores of the bank are open that there may be */
     /* of a service and its workers (heapguard_service.h) */
     HG_AGAIN = 25,           /* another call has what this one needs: it did nothing; make it again */
-    HG_STILL_OUT = 26,       /* value: the lowest worker that hasn't left */
-    HG_STILL_HELD = 27,      /* value: the lowest segment that is held */
+    HG_STILL_OUT = 26,       /* value: the lowest worker that hasn't come back to its service */
+    HG_STILL_HELD = 27,      /* value: the lowest segment that is held, or isn't there at a closing */
     HG_LOST = 28,            /* value: the lowest place that isn't accounted for; of a bank of
                               * services these three have the number of the core as detail, and of
                               * hg_bank_worker_leave HG_BUSY and HG_STILL_HELD have it */

@@ -96,8 +96,8 @@ HG_MUST_USE hg_reply hg_service_worker(hg_service *service, uint32_t number, hg_
 
 /* The service becomes a core, in which nobody holds a segment and no hand has a block: HG_DONE, once
  * each worker that was given has left. Else it goes on: HG_STILL_OUT with the lowest worker that
- * hasn't left, or that is leaving just then, HG_STILL_HELD with a segment that is held,
- * HG_AGAIN, or HG_HELD where a core is open in `core`. After HG_NO_MEMORY it is to be closed again
+ * hasn't left, or that is leaving just then, HG_STILL_HELD with the lowest segment that isn't among
+ * those that nobody holds, or 0 where another call has these, HG_AGAIN, or HG_HELD where a core is open in `core`. After HG_NO_MEMORY it is to be closed again
  * before all else: its core may wait there for memory, and what is asked of the service is answered
  * HG_CLOSED then, but for hg_service_open (HG_HELD) and hg_service_drop, which gives the core up.
  * Workers that weren't given leave by the first closing, and aren't given any more. A worker that was
@@ -189,7 +189,7 @@ HG_MUST_USE hg_reply hg_bank_service_worker(hg_bank_service *service, uint32_t n
  * a block: HG_DONE, once each worker that was given has left. Its cores close from the highest number
  * down, and what is closed stays so. Where one can't close, the bank of services goes on, to be closed
  * again: HG_STILL_OUT with the lowest worker that hasn't left that core, or that is leaving just then,
- * or HG_STILL_HELD with a segment that is held there, and the number of the core in `detail`; HG_AGAIN;
+ * or HG_STILL_HELD with a segment there, as of a service, and the number of the core in `detail`; HG_AGAIN;
  * or HG_HELD where a bank is open in `bank`. After HG_NO_MEMORY it is to be closed again before all
  * else: its bank may wait there for memory, as the core of a service may. Workers that weren't given
  * leave by the first closing, and aren't given any more. A worker that was dropped keeps its bank of

@@ -11,7 +11,8 @@ use Rattle.hg_hosted.specs.declared.worker.HostedWorker.{HostedWorker}
 use Rattle.hg_hosted.specs.Waiting.{NeedsShared}
 use Rattle.hg_hosted.proofs.Undone.{each_set}
 use Rattle.hg_bank_service.specs.Asking.{ServesAt}
-use Rattle.hg_bank_service.specs.Has.{AreNumbered, Has, IsNumbered}
+use Rattle.hg_hosted.specs.Has.{Has}
+use Rattle.hg_bank_service.specs.Has.{AreNumbered, IsNumbered}
 use Rattle.hg_bank_service.specs.Named.{IsAbsent, ServesIn, ServesThere}
 use Rattle.hg_bank_service.specs.Sums.{AreSums}
 use Rattle.hg_bank_service.specs.declared.worker.BankWorker.{BankWorker}

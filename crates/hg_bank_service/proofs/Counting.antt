@@ -17,7 +17,7 @@ use Rattle.hg_hosted.specs.Calls.{Allocates}
 use Rattle.hg_hosted.specs.Charges.{charge_at}
 use Rattle.hg_hosted.specs.Serving.{Serves}
 use Rattle.hg_hosted.proofs.Undone.{each_set}
-use Rattle.hg_bank_service.specs.Has.{Has}
+use Rattle.hg_hosted.specs.Has.{Has}
 use Rattle.hg_bank_service.specs.Sums.{AreSums}
 use Rattle.hg_bank_service.proofs.Allotments.{others_uncharged}
 use Rattle.hg_bank_service.proofs.Charging.{charge_is}

@@ -1,28 +1,14 @@
 -- Bank workers leave.
 use Rattle.std.proofs.Common.{◌≡◌, ℕ, zero, suc, ◌≤◌, true, false, List, [], ◌∷◌, ◌++◌}
-use Rattle.std.proofs.Common.{length, slice_get, Option, None, Some, is_some, option_map, refl}
+use Rattle.std.proofs.Common.{length, slice_get, Option, None, Some, is_some, refl}
 use Rattle.std.proofs.Common.{sym, ap, subst, ◌∙◌, arith}
 use Rattle.std.proofs.lemmas.Bool.{false≢true}
 use Rattle.std.proofs.lemmas.List.{append_assoc, length-append}
 use Rattle.std.proofs.lemmas.Option.{none-some, same_Some}
-use Rattle.hg_place.specs.declared.Handle.{Handle}
-use Rattle.hg_place.specs.declared.Place.{Place}
 use Rattle.hg_hosted.specs.declared.worker.HostedWorker.{HostedWorker}
 use Rattle.hg_bank_service.specs.Idle.{AreIdleFrom}
-use Rattle.hg_bank_service.specs.Leaving.{AreLeft, IsBack}
-
-abbrev place_in : Option Handle → Option Place
-place_in = option_map (λ handle. handle.place)
-
-pub no_hand : (hand : Option Handle) (place : Option Place) → place ≡ place_in hand
-    → is_some place ≡ false → hand ≡ None
-no_hand None place told is = refl
-no_hand (Some handle) place told is = absurd (false≢true (sym is ∙ ap is_some told))
-
-pub some_hand : (hand : Option Handle) (place : Option Place) → place ≡ place_in hand
-    → is_some place ≡ true → hand ≡ None → ⊥
-some_hand hand place told is none =
-    false≢true (sym (ap is_some (told ∙ ap place_in none)) ∙ is)
+use Rattle.hg_hosted.specs.Departing.{IsBack}
+use Rattle.hg_bank_service.specs.Leaving.{AreLeft}
 
 pub some_of : {X : Type 0} (o : Option X) → is_some o ≡ true → (x : X) × (o ≡ Some x)
 some_of None isnt = absurd (false≢true isnt)

@@ -37,7 +37,8 @@ use Rattle.hg_hosted.specs.Calls.{Allocates}
 use Rattle.hg_hosted.specs.Charges.{charge_at}
 use Rattle.hg_hosted.specs.Serving.{Serves}
 use Rattle.hg_bank_service.specs.Allocating.{GivesBlock, RefusesBlock}
-use Rattle.hg_bank_service.specs.Has.{Has, IsNumbered}
+use Rattle.hg_hosted.specs.Has.{Has}
+use Rattle.hg_bank_service.specs.Has.{IsNumbered}
 use Rattle.hg_bank_service.proofs.Charging.{charge_by, charge_is}
 
 by_none : {X : Type 0} (o : Option X) {P : Type 0} → o ≡ None → IfNone o P → P

@@ -10,7 +10,8 @@ use Rattle.hg_hosted.specs.declared.worker.HostedWorker.{HostedWorker}
 use Rattle.hg_hosted.specs.Serving.{Serves}
 use Rattle.hg_hosted.specs.Steps.{Does}
 use Rattle.hg_hosted.specs.Waiting.{Waits}
-use Rattle.hg_bank_service.specs.Has.{Has, IsNumbered}
+use Rattle.hg_hosted.specs.Has.{Has}
+use Rattle.hg_bank_service.specs.Has.{IsNumbered}
 
 abbrev pub KeepsIts : WorkerState → WorkerState → Type 0
 KeepsIts old new = (new.policy ≡ old.policy) × (new.number ≡ old.number)

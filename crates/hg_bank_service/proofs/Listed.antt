@@ -11,7 +11,8 @@ use Rattle.hg_hosted.specs.Calls.{ListsAll}
 use Rattle.hg_hosted.specs.Charges.{charge_at}
 use Rattle.hg_hosted.specs.Serving.{Serves}
 use Rattle.hg_hosted.specs.declared.worker.HostedWorker.{HostedWorker}
-use Rattle.hg_bank_service.specs.Has.{Has, IsNumbered}
+use Rattle.hg_hosted.specs.Has.{Has}
+use Rattle.hg_bank_service.specs.Has.{IsNumbered}
 use Rattle.hg_bank_service.specs.Listing.{ChangesOne, ListsIn, ListsNothing}
 use Rattle.hg_bank_service.specs.Named.{KeepsRest}
 use Rattle.hg_bank_service.specs.declared.worker.BankWorker.{BankWorker}

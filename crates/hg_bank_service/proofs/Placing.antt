@@ -15,7 +15,8 @@ use Rattle.hg_hosted.proofs.Undone.{each_set}
 use Rattle.hg_bank_service.specs.Allocating.{GivesBlock, RefusesBlock}
 use Rattle.hg_bank_service.specs.Asking.{AllocatesAt}
 use Rattle.hg_bank_service.specs.Choosing.{AreAsked, IsServed}
-use Rattle.hg_bank_service.specs.Has.{AreNumbered, Has, IsNumbered}
+use Rattle.hg_hosted.specs.Has.{Has}
+use Rattle.hg_bank_service.specs.Has.{AreNumbered, IsNumbered}
 use Rattle.hg_bank_service.specs.Order.{turn}
 use Rattle.hg_bank_service.specs.Searching.{EndsInBlock, IsSearched}
 use Rattle.hg_bank_service.specs.Sums.{AreSums, charge_over}

@@ -13,7 +13,8 @@ use Rattle.hg_hosted.specs.Waiting.{Waits}
 use Rattle.hg_hosted.proofs.Undone.{each_set}
 use Rattle.hg_bank_service.specs.Asking.{ServesAt}
 use Rattle.hg_bank_service.specs.Choosing.{AreAsked, IsServed}
-use Rattle.hg_bank_service.specs.Has.{AreNumbered, Has, IsNumbered}
+use Rattle.hg_hosted.specs.Has.{Has}
+use Rattle.hg_bank_service.specs.Has.{AreNumbered, IsNumbered}
 use Rattle.hg_bank_service.specs.Order.{turn}
 use Rattle.hg_bank_service.specs.Refilling.{AnswersRefill}
 use Rattle.hg_bank_service.specs.Searching.{EndsSo, IsSearched, segment_given}

@@ -15,7 +15,7 @@ use Rattle.hg_hosted.specs.declared.worker.HostedWorker.{HostedWorker}
 use Rattle.hg_hosted.specs.Calls.{Allocates}
 use Rattle.hg_hosted.specs.Serving.{Serves}
 use Rattle.hg_bank_service.specs.Choosing.{AreAsked, IsServed}
-use Rattle.hg_bank_service.specs.Has.{Has}
+use Rattle.hg_hosted.specs.Has.{Has}
 use Rattle.hg_bank_service.specs.Sums.{charge_over}
 use Rattle.hg_bank_service.specs.declared.worker.BankWorker.{BankWorker}
 

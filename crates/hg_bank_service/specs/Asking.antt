@@ -12,7 +12,7 @@ use Rattle.hg_hosted.specs.Reaching.{Reaches}
 use Rattle.hg_hosted.specs.Serving.{Serves}
 use Rattle.hg_hosted.specs.Steps.{Does}
 use Rattle.hg_hosted.specs.Waiting.{Waits}
-use Rattle.hg_bank_service.specs.Has.{Has}
+use Rattle.hg_hosted.specs.Has.{Has}
 
 -- the worker of a core does what the event asks, or finds that another call has what it needs; and
 -- each other is as it was

@@ -3,7 +3,7 @@ use Rattle.std.specs.Prelude.{◌≡◌, ℕ, List, Some, map, slice_get}
 use Rattle.hg_machine.specs.Policy.{Policy}
 use Rattle.hg_hosted.specs.declared.worker.HostedWorker.{HostedWorker}
 use Rattle.hg_hosted.specs.New.{IsNewHosted}
-use Rattle.hg_bank_service.specs.Has.{Has}
+use Rattle.hg_hosted.specs.Has.{Has}
 
 -- the row has of each of these lists the entry of this number
 abbrev pub IsDealt : List (List HostedWorker) → ℕ → List HostedWorker → Type 0

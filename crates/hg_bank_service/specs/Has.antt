@@ -2,11 +2,8 @@
 use Rattle.std.specs.Prelude.{◌≡◌, ℕ, List, Some, slice_get}
 use Rattle.hg_machine.specs.Policy.{Policy}
 use Rattle.hg_worker.specs.declared.state.WorkerState.{WorkerState}
+use Rattle.hg_hosted.specs.Has.{Has}
 use Rattle.hg_hosted.specs.declared.worker.HostedWorker.{HostedWorker}
-
--- what is said of a worker by its state
-abbrev pub Has : (WorkerState → Type 0) → HostedWorker → Type 0
-Has Is worker = (own : _) → worker.state ≡ Some own → Is own.value
 
 -- it has this policy and this number
 pub record IsNumbered (policy : Policy) (number : ℕ) (state : WorkerState) : Type 0 where

@@ -1,18 +1,13 @@
 -- A bank worker leaves.
 use Rattle.std.specs.Prelude.{◌≡◌, ℕ, ◌<◌, ◌≤◌, List, Some, length, slice_get}
 use Rattle.hg_hosted.specs.declared.worker.HostedWorker.{HostedWorker}
+use Rattle.hg_hosted.specs.Departing.{IsBack}
+use Rattle.hg_hosted.specs.Has.{Has}
 use Rattle.hg_hosted.specs.Leaving.{IsIdle}
-use Rattle.hg_hosted.specs.Places.{HaveSamePlaces}
-use Rattle.hg_bank_service.specs.Has.{Has}
 use Rattle.hg_bank_service.specs.Idle.{AreIdleFrom}
 use Rattle.hg_bank_service.specs.declared.unleft.Unleft.{Unleft}
 use Rattle.hg_bank_service.specs.declared.unleft.Unleft.TheVariants as unleft
 use Rattle.hg_bank_service.specs.declared.worker.BankWorker.{BankWorker}
-
--- it is in the state that it was in, and its ways lead where they led
-pub record IsBack (was back : HostedWorker) : Type 0 where
-  pub state : back.state ≡ was.state
-  pub places : HaveSamePlaces was.shared back.shared
 
 -- those of the cores from a number on have left, and the others are still there
 pub record AreLeft (old new : List HostedWorker) : Type 0 where

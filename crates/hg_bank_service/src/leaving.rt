@@ -1,9 +1,6 @@
 //! A bank worker leaves.
 
-ghost use Rattle.std.specs.Prelude.{◌≡◌, ◌<◌, ◌≤◌, ℕ, Some, IfErr, IfSome, IfNone, IsTrue, IsFalse};
-ghost use Rattle.std.specs.Prelude.{OnOk, length, slice_get};
-ghost use Rattle.hg_hosted.specs.Leaving.{IsIdle};
-ghost use Rattle.hg_bank_service.specs.Has.{Has};
+ghost use Rattle.std.specs.Prelude.{◌≡◌, ◌≤◌, IfErr, IfSome, IfNone, OnOk, length};
 ghost use Rattle.hg_bank.specs.declared.bank.TheConstants.{MAX_CORES};
 ghost use Rattle.hg_bank_service.specs.Idle.{AreIdleFrom};
 ghost use Rattle.hg_bank_service.specs.Leaving.{AreLeft, IsFirstBusy, IsUnleft};
@@ -11,7 +8,6 @@ ghost use Rattle.hg_bank_service.specs.Leaving.{AreLeft, IsFirstBusy, IsUnleft};
 use crate::unleft::{Leaving, Unleft};
 use crate::worker::BankWorker;
 use hg_hosted::HostedWorker;
-use hg_place::MAX_SEGMENTS;
 
 impl BankWorker {
     /// Gives the worker of each core back to its service. None holds a segment then or has a block
@@ -78,22 +74,9 @@ fn first_busy(workers: &[HostedWorker]) -> Option<u16>
     ensures none { IfNone result (AreIdleFrom 0 workers.now) }
 {
     for core in 0..workers.len() as u16 {
-        if !is_idle(&workers[usize::from(core)]) {
+        if !workers[usize::from(core)].is_idle() {
             return Some(core);
         }
     }
     None
-}
-
-/// Whether it holds no segment and has nothing in hand.
-fn is_idle(worker: &HostedWorker) -> bool
-    ensures yes { IsTrue result → Has IsIdle worker.now }
-    ensures no { IsFalse result → ¬ (Has IsIdle worker.now) }
-{
-    for segment in 0..MAX_SEGMENTS as u8 {
-        if worker.holds(segment) {
-            return false;
-        }
-    }
-    worker.hand().is_none()
 }

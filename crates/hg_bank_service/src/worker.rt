@@ -6,7 +6,9 @@ ghost use Rattle.hg_machine.specs.Policy.{is_tenant};
 ghost use Rattle.hg_bank.specs.declared.bank.TheConstants.{MAX_CORES};
 ghost use Rattle.hg_heap.specs.Held.{is_held};
 ghost use Rattle.hg_worker.specs.Seats.{number_in};
-ghost use Rattle.hg_bank_service.specs.Has.{Has, AreNumbered};
+ghost use Rattle.hg_hosted.specs.Has.{Has};
+ghost use Rattle.hg_bank_service.specs.Has.{AreNumbered};
+ghost use Rattle.hg_bank_service.specs.Idle.{HasFirst};
 ghost use Rattle.hg_bank_service.specs.Sums.{AreSums, charge_over};
 
 use hg_bank::BankSegment;
@@ -64,6 +66,17 @@ impl BankWorker {
         match self.workers.get(usize::from(segment.core)) {
             Some(worker) => worker.holds(segment.segment),
             None => false,
+        }
+    }
+
+    /// The lowest segment that the worker holds in a core. Nobody holds one of a core that isn't there.
+    pub fn first_held(&self, core: u16) -> Option<u8>
+        ensures { MatchOption (slice_get self.now.workers.items core) (result ≡ None)
+            (HasFirst result) }
+    {
+        match self.workers.get(usize::from(core)) {
+            Some(worker) => worker.first_held(),
+            None => None,
         }
     }
 

@@ -2,10 +2,14 @@
 use Rattle.std.proofs.Common.{◌≡◌, ◌<◌, ◌+◌, ℕ, List, [], ◌∷◌, ◌++◌, map, length, Option, Some, None, MatchOption, get_or, slice_get, slice_set, arith, refl, sym, ap, subst, ◌∙◌}
 use Rattle.std.proofs.lemmas.List.{length-append}
 use Rattle.std.proofs.lemmas.Option.{none-some, same_Some, slice_get-get_or, slice_get_within}
+use Rattle.atomic_table.specs.Seated.{TableId}
 use Rattle.hg_machine.specs.Policy.{Policy}
+use Rattle.hg_worker.specs.States.{IsNamed}
 use Rattle.hg_close.specs.declared.fault.CloseFault.{CloseFault}
 use Rattle.hg_hosted.proofs.Reaching.{places_back, places_then}
-use Rattle.hg_hosted.specs.Places.{HaveSamePlaces}
+use Rattle.hg_hosted.specs.Closing.{GoesOn}
+use Rattle.hg_hosted.specs.New.{IsOpened}
+use Rattle.hg_hosted.specs.Shared.{table_of_shared}
 use Rattle.hg_hosted.specs.declared.service.HostedService.{HostedService}
 use Rattle.hg_hosted.specs.declared.worker.HostedWorker.{HostedWorker}
 use Rattle.hg_bank_service.specs.Closing.{HaveClosed, KeepsAllClosed, StopsAt}
@@ -15,7 +19,7 @@ use Rattle.hg_bank_service.specs.declared.worker.BankWorker.{BankWorker}
 use Rattle.hg_bank_service_replies.proofs.Rows.{each_but_last, of_map, of_set, to_map}
 use Rattle.hg_bank_service_replies.specs.Closing.{AreLetLeave, PlaceLeaves}
 use Rattle.hg_bank_service_replies.specs.Opening.{ready}
-use Rattle.hg_bank_service_replies.specs.Owned.{AreItsWorkers, IsItsWorker, ShareByCore, cores_of}
+use Rattle.hg_bank_service_replies.specs.Owned.{AreItsWorkers, AreOfByCore, IsItsWorker, IsOf, cores_of}
 use Rattle.hg_bank_service_replies.specs.Taking.{IsNone, IsTaken}
 use Rattle.hg_bank_service_replies.specs.declared.part.Ungiven.{Ungiven}
 use Rattle.hg_bank_service_replies.specs.declared.part.Ungiven.TheVariants as ungiven
@@ -30,6 +34,28 @@ ready_there workers number worker there =
     let found = of_map ready workers number (ready worker) there in
     found.1 ∙ ap (λ one. Some (worker_in worker one)) found.2
 
+-- one that a service opened with is of it
+new_of :
+    {policy : Policy} (service : HostedService) (workers : List HostedWorker)
+    → IsOpened policy service workers → (number : ℕ) (worker : HostedWorker)
+    → slice_get workers number ≡ Some worker → IsOf service worker
+new_of service workers opened number worker at = record {
+  of = λ own is. subst (λ (p : Policy). IsNamed p (table_of_shared service.shared) own.value)
+      (sym opened.serves) (opened.new.named number worker at own is);
+  places = opened.places number worker at;
+}
+
+-- and of what that goes on as
+still_of :
+    (was next : HostedService) (why : CloseFault) → GoesOn was why next → (worker : HostedWorker)
+    → IsOf was worker → IsOf next worker
+still_of was next why goes worker is = record {
+  of = λ own at. subst (λ (t : TableId). IsNamed next.policy t own.value) (sym goes.table)
+      (subst (λ (p : Policy). IsNamed p (table_of_shared was.shared) own.value) (sym goes.policy)
+      (is.of own at));
+  places = places_then (places_back goes.places) is.places;
+}
+
 -- those that it begins with
 pub its_new : {policy : Policy} {cores : ℕ} (service : ServicesState) (workers : List BankWorker) → IsOpenedBank policy cores service workers → AreItsWorkers service (map ready workers)
 its_new service workers opened number worker there =
@@ -40,11 +66,11 @@ its_new service workers opened number worker there =
       number_is = new.number_is;
       serves = new.serves ∙ sym opened.serves;
       many = omega (arith, new.many, opened.many, none);
-      places = λ core one its running row.
+      of = λ core one its running row.
           let dealt = of_map (λ (all : List HostedWorker). slice_get all number) opened.its core (Some its)
           (subst (λ (given : List (Option HostedWorker)). slice_get given core ≡ Some (Some its)) (opened.dealt number worker at)
           (to_map Some worker.workers.items core its row)) in
-          (opened.opened.each core one dealt.0 running dealt.1).places number its dealt.2;
+          new_of one dealt.0 (opened.opened.each core one dealt.0 running dealt.1) number its dealt.2;
     }
 
 -- those that are left where one goes
@@ -80,14 +106,14 @@ same_cores old new left have many =
 
 -- those of a service that another goes on as
 its_kept : (old new : ServicesState) (workers : List (Option Ungiven)) → new.policy ≡ old.policy → cores_of new ≡ cores_of old
-    → ((worker : List HostedWorker) → ShareByCore old.running worker → ShareByCore new.running worker)
+    → ((worker : List HostedWorker) → AreOfByCore old.running worker → AreOfByCore new.running worker)
     → AreItsWorkers old workers → AreItsWorkers new workers
-its_kept old new workers policy cores places its number worker there =
+its_kept old new workers policy cores still its number worker there =
     let it = its number worker there in record {
       number_is = it.number_is;
       serves = it.serves ∙ sym policy;
       many = it.many ∙ sym cores;
-      places = places worker.workers.items it.places;
+      of = still worker.workers.items it.of;
     }
 
 -- and those of one that stops
@@ -98,18 +124,18 @@ its_stopped old new core why workers stops its =
     let runs = ap length stops.left ∙ length-append below (stops.next ∷ []) in
     its_kept old new workers stops.policy
     (same_cores old new (below ++ stops.was ∷ []) stops.closed (omega (arith, ran, runs)))
-    (λ row share. subst (λ (running : List HostedService). ShareByCore running row) (sym stops.left)
+    (λ row share. subst (λ (running : List HostedService). AreOfByCore running row) (sym stops.left)
     (λ k service worker running. each_but_last
-    (λ j (one : HostedService). (own : HostedWorker) → slice_get row j ≡ Some own → HaveSamePlaces one.shared own.shared)
+    (λ j (one : HostedService). (own : HostedWorker) → slice_get row j ≡ Some own → IsOf one own)
     below stops.was stops.next stops.closed.gone
-    (λ j one at own. subst (λ (running : List HostedService). ShareByCore running row) stops.closed.taken share j one own at)
-    (λ j before own at. places_then (places_back stops.goes_on.places) (before own at)) k service running worker))
+    (λ j one at own. subst (λ (running : List HostedService). AreOfByCore running row) stops.closed.taken share j one own at)
+    (λ j before own at. still_of stops.was stops.next why stops.goes_on own (before own at)) k service running worker))
     its
 
 -- and those of one that has closed all
 pub its_closed : (old new : ServicesState) (workers : List (Option Ungiven)) → KeepsAllClosed old new → AreItsWorkers old workers → AreItsWorkers new workers
 its_closed old new workers closed its =
     its_kept old new workers closed.policy (same_cores old new [] closed.closed (ap length closed.none))
-    (λ row share. subst (λ (running : List HostedService). ShareByCore running row) (sym closed.none)
+    (λ row share. subst (λ (running : List HostedService). AreOfByCore running row) (sym closed.none)
     (λ k service worker running. absurd (none-some service running)))
     its

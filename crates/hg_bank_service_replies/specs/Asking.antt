@@ -9,7 +9,7 @@ use Rattle.hg_reply.specs.declared.reply.Reply.{Reply}
 use Rattle.hg_reply.specs.Replies.{closed, no_name, plain, valued}
 use Rattle.hg_reply.specs.Naming.{named, nobody}
 use Rattle.hg_service_replies.specs.Asking.{hand_reply}
-use Rattle.hg_bank_service.specs.Has.{Has}
+use Rattle.hg_hosted.specs.Has.{Has}
 use Rattle.hg_bank_service.specs.Sums.{charge_over}
 use Rattle.hg_bank_service.specs.State.{ServicesState}
 use Rattle.hg_bank_service.specs.declared.worker.BankWorker.{BankWorker}

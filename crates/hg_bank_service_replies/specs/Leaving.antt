@@ -1,12 +1,12 @@
 -- How a bank worker leaves its bank of services.
-use Rattle.std.specs.Prelude.{◌≡◌, ℕ, List, Some, MatchOption, slice_get}
+use Rattle.std.specs.Prelude.{◌≡◌, ℕ, List, MatchOption}
 use Rattle.hg_hosted.specs.declared.worker.HostedWorker.{HostedWorker}
 use Rattle.hg_worker.specs.declared.state.WorkerState.{WorkerState}
 use Rattle.hg_reply.specs.declared.reply.Reply.{Reply}
 use Rattle.hg_reply.specs.Replies.{again, plain}
 use Rattle.hg_bank_replies.specs.Replies.{placed}
-use Rattle.hg_service_replies.specs.Leaving.{HoldsFirst, HoldsNone}
-use Rattle.hg_bank_service.specs.Has.{Has}
+use Rattle.hg_hosted.specs.Has.{Has}
+use Rattle.hg_hosted.specs.Leaving.{HoldsFirst}
 use Rattle.hg_bank_service.specs.Idle.{AreIdleFrom}
 use Rattle.hg_bank_service.specs.Leaving.{AreLeft, IsFirstBusy}
 use Rattle.hg_bank_service.specs.declared.unleft.Leaving.{Leaving}
@@ -14,16 +14,6 @@ use Rattle.hg_bank_service.specs.declared.worker.BankWorker.{BankWorker}
 use Rattle.hg_bank_service_replies.specs.declared.part.BankPart.{BankPart}
 use Rattle.hg_bank_service_replies.specs.declared.part.BankPart.TheVariants as part
 use Rattle.hg_bank_service_replies.specs.Serving.{IsOther}
-
--- the worker of a core, if there is one, holds no segment, or this one is the lowest that it holds
-abbrev pub HoldsNoneIn : BankWorker → ℕ → Type 0
-HoldsNoneIn worker core =
-    (one : HostedWorker) → slice_get worker.workers.items core ≡ Some one → Has HoldsNone one
-
-abbrev pub HoldsFirstIn : BankWorker → ℕ → ℕ → Type 0
-HoldsFirstIn worker core segment =
-    (one : HostedWorker) → slice_get worker.workers.items core ≡ Some one
-    → Has (HoldsFirst segment) one
 
 -- what is told of a worker that is busy in this core: a block in hand, or else the lowest segment that
 -- it holds

@@ -17,9 +17,10 @@ use std::mem;
 
 /// The bank that a bank of services becomes, once each worker that a thread had has left. The services
 /// close from the highest core down, and what is closed stays so. Where one can't close, the rest goes
-/// on: `STILL_OUT` with the lowest worker that hasn't left there, or `STILL_HELD` with the lowest
-/// segment that is held there, and the number of the core; `AGAIN` where another call has what a
-/// worker that no thread had puts back; or `NO_MEMORY`. `LOST` with the number of a core and the
+/// on: `STILL_OUT` with the lowest worker that hasn't come to the service there, as one that hasn't left
+/// or was dropped, or `STILL_HELD` with the lowest segment there that isn't among those that nobody
+/// holds, or 0 where another call has these, and the number of the core; `AGAIN` where another call has
+/// what a worker that no thread had puts back; or `NO_MEMORY`. `LOST` with the number of a core and the
 /// lowest place there that isn't accounted for: then all is gone. Any other part is answered `CLOSED`.
 pub fn close(alloc: Global, part: &mut BankPart) -> Result<Bank, Reply>
     ensures closes { PartCloses part.old result part.new }

@@ -1,15 +1,12 @@
 //! A bank worker leaves its bank of services.
 
-ghost use Rattle.std.specs.Prelude.{MatchOption};
 ghost use Rattle.hg_bank_service.specs.Leaving.{IsFirstBusy};
-ghost use Rattle.hg_bank_service_replies.specs.Leaving.{GoesOnLeaving, HoldsFirstIn, HoldsNoneIn};
-ghost use Rattle.hg_bank_service_replies.specs.Leaving.{PartLeaves, StaysFor, WorkerLeaves};
+ghost use Rattle.hg_bank_service_replies.specs.Leaving.{GoesOnLeaving, PartLeaves, StaysFor};
+ghost use Rattle.hg_bank_service_replies.specs.Leaving.{WorkerLeaves};
 
 use crate::part::BankPart;
-use hg_bank::BankSegment;
 use hg_bank_replies::placed;
 use hg_bank_service::{BankWorker, Leaving, Unleft};
-use hg_place::MAX_SEGMENTS;
 use hg_reply::Reply;
 use hg_reply::status::{AGAIN, BUSY, CLOSED, DONE, STILL_HELD};
 use std::mem;
@@ -72,20 +69,8 @@ fn busy_reply(worker: &BankWorker, core: u16) -> Reply
     if worker.hand(core).is_some() {
         return placed(BUSY, core, 0);
     }
-    match first_held(worker, core) {
+    match worker.first_held(core) {
         Some(segment) => placed(STILL_HELD, core, u64::from(segment)),
         None => unreachable!(),
     }
-}
-
-/// The lowest segment that the worker holds in a core.
-fn first_held(worker: &BankWorker, core: u16) -> Option<u8>
-    ensures { MatchOption result (HoldsNoneIn worker.now core) (HoldsFirstIn worker.now core) }
-{
-    for segment in 0..MAX_SEGMENTS as u8 {
-        if worker.holds(BankSegment { core, segment }) {
-            return Some(segment);
-        }
-    }
-    None
 }

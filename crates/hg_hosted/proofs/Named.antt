@@ -12,9 +12,11 @@ use Rattle.hg_table.specs.declared.segment.UnnamedSegment.{UnnamedSegment}
 use Rattle.hg_worker.specs.Seats.{number_in, AreOnTable}
 use Rattle.hg_worker.specs.States.{IsNamed}
 use Rattle.hg_worker.specs.declared.state.WorkerState.{WorkerState}
+use Rattle.hg_hosted.specs.declared.parts.Left.{Left}
 use Rattle.hg_hosted.specs.declared.parts.Segments.{Segments}
 use Rattle.hg_hosted.specs.declared.shared.Shared.{Shared}
 use Rattle.hg_hosted.specs.Parking.{FitsKnown, KnowsName}
+use Rattle.hg_hosted.specs.Leaving.{IsIdle}
 use Rattle.hg_hosted.specs.Parts.{ArePooled, HasLeft, HasSegments, IsOfOne}
 use Rattle.hg_hosted.specs.Shared.{AreOfService, known_table, table_of_shared}
 
@@ -66,12 +68,25 @@ put_of knows each on of same = pooled_by (knows.named of same) each on
 -- a worker may go where its service is known
 pub leaves_to :
     (state : Box WorkerState Global) {known : Option WorkerState}
-    → KnowsName state.value.policy (table_of_worker state.value.seat) known
+    → KnowsName state.value.policy (table_of_worker state.value.seat) known → IsIdle state.value
     → FitsKnown HasLeft known (record { state = Some state })
-leaves_to state knows of same own is =
+leaves_to state knows idle of same own is =
     let named = knows.named of same in
-    subst (λ o. IsOfOne of o.value) (same_Some state own is)
-    record { serves = sym named.serves; seated = sym named.seated }
+    subst (λ o. IsOfOne of o.value × IsIdle o.value) (same_Some state own is)
+    (record { serves = sym named.serves; seated = sym named.seated }, idle)
+
+-- and who comes from there is of the service that is known, and has left
+pub comes_of :
+    {policy : Policy} {table : TableId} {left : Left} (known : Option WorkerState)
+    → KnowsName policy table known → FitsKnown HasLeft known left → (own : Box WorkerState Global)
+    → left.state ≡ Some own → IsNamed policy table own.value × IsIdle own.value
+comes_of None knows fits own is = absurd (true≢false (sym knows.some))
+comes_of {policy = policy} {table = table} (Some of) knows fits own is =
+    let named = knows.named of refl in
+    let has = fits of refl own is in (
+      record { serves = has.0.serves ∙ named.serves; seated = has.0.seated ∙ named.seated },
+      has.1,
+    )
 
 -- what is shared stays of its service where nothing of it changes but where lists lead
 pub still_of :

@@ -10,7 +10,7 @@ use Rattle.hg_machine.specs.Policy.{Policy}
 use Rattle.hg_worker.specs.declared.state.WorkerState.{WorkerState}
 use Rattle.hg_worker.specs.States.{IsNamed}
 use Rattle.hg_hosted.specs.declared.of_service.Way.{Way}
-use Rattle.hg_hosted.specs.Parking.{way, AreOfOne, FitsKnown, IsUsed, KnowsName}
+use Rattle.hg_hosted.specs.Parking.{came_to, has_parked, has_taken, AreOfOne, FitsKnown, IsUsed, KnowsName}
 
 module _ {A : Type 0} (P : A → Type 0) where
   -- what holds of all in a list holds of the one at a place, and stays so
@@ -46,18 +46,18 @@ there_is None there = absurd (true≢false (sym there))
 there_is (Some of) there = (of, refl)
 
 module _ {T : Type 0} (of_service : WorkerState → T → Type 0) where
-  pub begins : AreOfOne of_service [] (way None false ∷ [])
+  pub begins : AreOfOne of_service [] (came_to None ∷ [])
   begins = (None, record { alone = refl; empty = refl })
 
   -- the service that the rule speaks of is the one that a caller knows
   known_one :
-      (parts : List T) (ways : List Way) (port : ℕ) (own : Way) (of : WorkerState)
+      (parts : List T) (ways : List (Way T)) (port : ℕ) (own : Way T) (of : WorkerState)
       → own.known ≡ Some of → AreOfOne of_service parts ways → get_elem? ways port ≡ some own
       → IsUsed of_service of parts ways
   known_one parts ways port own of knows (None, unused) at =
       let alone = subst (λ all. get_elem? all port ≡ some own) unused.alone at in
       absurd (none-some of
-      (ap (λ one. one.known) (alone_is port (way None false) own alone) ∙ knows))
+      (ap (λ one. one.known) (alone_is port (came_to None) own alone) ∙ knows))
   known_one parts ways port own of knows (Some one, used) at =
       let same = all_at (λ o. o.known ≡ Some one) ways port own used.callers at in
       subst (λ (o : WorkerState). IsUsed of_service o parts ways)
@@ -65,15 +65,17 @@ module _ {T : Type 0} (of_service : WorkerState → T → Type 0) where
 
   -- the first part comes
   first_comes :
-      (parts : List T) (ways : List Way) (port : ℕ) (own : Way) (of : WorkerState) (part : T)
+      (parts : List T) (ways : List (Way T)) (port : ℕ) (own : Way T) (of : WorkerState) (part : T)
       → own.known ≡ None → of_service of part → AreOfOne of_service parts ways
       → get_elem? ways port ≡ some own
-      → IsUsed of_service of (parts ++ part ∷ []) (set ways port (way (Some of) false))
+      → IsUsed of_service of (parts ++ part ∷ [])
+      (set ways port (has_parked (Some of) [] [] part))
   first_comes parts ways port own of part nothing fits (None, unused) at = record {
     callers = subst
         (λ all. AllByRecursion (λ one. one.known ≡ Some of)
-        (set all port (way (Some of) false))) (sym unused.alone)
-        (alone_set (λ one. one.known ≡ Some of) port (way None false) own (way (Some of) false)
+        (set all port (has_parked (Some of) [] [] part))) (sym unused.alone)
+        (alone_set (λ one. one.known ≡ Some of) port (came_to None) own
+        (has_parked (Some of) [] [] part)
         (subst (λ all. get_elem? all port ≡ some own) unused.alone at) refl);
     parts_of = subst (λ all. AllByRecursion (of_service of) (all ++ part ∷ [])) (sym unused.empty)
         (fits, tt);
@@ -83,13 +85,14 @@ module _ {T : Type 0} (of_service : WorkerState → T → Type 0) where
       (sym nothing ∙ all_at (λ o. o.known ≡ Some one) ways port own used.callers at))
 
   pub founds :
-      (room port : ℕ) (own : Way) (part : T) (policy : Policy) (table : TableId)
+      (room port : ℕ) (own : Way T) (part : T) (policy : Policy) (table : TableId)
       → own.known ≡ None → ((of : WorkerState) × IsNamed policy table of × of_service of part)
       → Pushes (AreOfOne of_service) room port own part
-      (λ after. KnowsName policy table after.known × (after.out ≡ false))
+      (λ after. KnowsName policy table after.known
+      × (after ≡ has_parked after.known [] [] part))
   founds room port own part policy table nothing one parts ways less held at =
       let of = one.0 in (
-        way (Some of) false,
+        has_parked (Some of) [] [] part,
         (Some of, first_comes parts ways port own of part nothing one.2 held at),
         (
           record {
@@ -101,18 +104,19 @@ module _ {T : Type 0} (of_service : WorkerState → T → Type 0) where
       )
 
   pub comes :
-      (room port : ℕ) (own : Way) (part : T) → is_some own.known ≡ true
+      (room port : ℕ) (own : Way T) (part : T) → is_some own.known ≡ true
       → FitsKnown of_service own.known part
-      → Pushes (AreOfOne of_service) room port own part (λ after. after ≡ way own.known false)
+      → Pushes (AreOfOne of_service) room port own part
+      (λ after. after ≡ has_parked own.known own.taken own.parked part)
   comes room port own part there fits parts ways less held at =
       let it = there_is own.known there in
-      let used = known_one parts ways port own it.0 it.1 held at in (
-        way own.known false,
+      let used = known_one parts ways port own it.0 it.1 held at in
+      let next = has_parked own.known own.taken own.parked part in (
+        next,
         (
           Some it.0,
           record {
-            callers = all_set (λ one. one.known ≡ Some it.0) ways port (way own.known false) it.1
-                used.callers;
+            callers = all_set (λ one. one.known ≡ Some it.0) ways port next it.1 used.callers;
             parts_of = all_end (of_service it.0) parts part used.parts_of (fits it.0 it.1);
           },
         ),
@@ -120,18 +124,19 @@ module _ {T : Type 0} (of_service : WorkerState → T → Type 0) where
       )
 
   pub goes :
-      (port : ℕ) (own : Way) → is_some own.known ≡ true
+      (port : ℕ) (own : Way T) → is_some own.known ≡ true
       → Pops (AreOfOne of_service) port own
-      (λ part after. (after ≡ way own.known true) × FitsKnown of_service own.known part)
+      (λ part after. (after ≡ has_taken own.known own.taken own.parked part)
+      × FitsKnown of_service own.known part)
   goes port own there part parts ways held at =
       let it = there_is own.known there in
-      let used = known_one (part ∷ parts) ways port own it.0 it.1 held at in (
-        way own.known true,
+      let used = known_one (part ∷ parts) ways port own it.0 it.1 held at in
+      let next = has_taken own.known own.taken own.parked part in (
+        next,
         (
           Some it.0,
           record {
-            callers = all_set (λ one. one.known ≡ Some it.0) ways port (way own.known true) it.1
-                used.callers;
+            callers = all_set (λ one. one.known ≡ Some it.0) ways port next it.1 used.callers;
             parts_of = used.parts_of.1;
           },
         ),
@@ -143,15 +148,15 @@ module _ {T : Type 0} (of_service : WorkerState → T → Type 0) where
       )
 
   pub twins :
-      (port : ℕ) (own : Way) → is_some own.known ≡ true
-      → Forks (AreOfOne of_service) port own own (way own.known false)
+      (port : ℕ) (own : Way T) → is_some own.known ≡ true
+      → Forks (AreOfOne of_service) port own own (came_to own.known)
   twins port own there parts ways held at =
       let it = there_is own.known there in
       let used = known_one parts ways port own it.0 it.1 held at in (
         Some it.0,
         record {
           callers = all_end (λ one. one.known ≡ Some it.0) (set ways port own)
-              (way own.known false)
+              (came_to own.known)
               (all_set (λ one. one.known ≡ Some it.0) ways port own it.1 used.callers) it.1;
           parts_of = used.parts_of;
         },

@@ -1,9 +1,11 @@
 -- Calls that do nothing, and what is parked again.
-use Rattle.std.proofs.Common.{◌≡◌, ℕ, zero, suc, true, false, List, [], ◌∷◌, slice_get, slice_set, Option, None, Some, Result, Ok, Err, IfSome, IfNone, MatchOption, MatchResult, option_map, sym, ap, subst, refl, ◌∙◌}
+use Rattle.std.proofs.Common.{◌≡◌, ◌<◌, ℕ, zero, suc, true, false, List, [], ◌∷◌, slice_get, slice_set, Option, None, Some, Result, Ok, Err, IfSome, IfNone, MatchOption, MatchResult, option_map, sym, ap, subst, refl, arith, ◌∙◌}
 use Rattle.std.proofs.lemmas.Option.{none-some, same_Some}
 use Rattle.hg_machine.specs.declared.Answer.{Answer}
 use Rattle.hg_machine.specs.declared.Answer.TheVariants as answer
 use Rattle.hg_heap.specs.Held.{is_held}
+use Rattle.hg_heap.specs.Policies.{AreOf}
+use Rattle.hg_machine.specs.Policy.{Policy}
 use Rattle.hg_machine.specs.declared.Event.{Event}
 use Rattle.hg_place.specs.declared.Handle.{Handle}
 use Rattle.hg_service.proofs.Behind.{abandons_nothing, delivers_nothing, takes_nothing}
@@ -13,8 +15,8 @@ use Rattle.hg_worker.specs.Seats.{number_in, records_in, seat_shows, seat_steps}
 use Rattle.hg_worker.specs.declared.state.WorkerState.{WorkerState}
 use Rattle.hg_hosted.specs.declared.of_service.Way.{Way}
 use Rattle.hg_hosted.specs.declared.worker.HostedWorker.{HostedWorker}
-use Rattle.hg_hosted.specs.Behind.{GivesUp, Sends, Stays, TakesIn}
-use Rattle.hg_hosted.specs.Parking.{FitsKept, FitsKnown, IsHome}
+use Rattle.hg_hosted.specs.Behind.{GivesUp, Sends, Stays, TakesIn, TakesOne}
+use Rattle.hg_hosted.specs.Parking.{FitsKept, FitsKnown, HasTaken, IsHome}
 use Rattle.hg_hosted.specs.Serving.{Serves}
 use Rattle.hg_hosted.specs.Waiting.{Waits}
 use Rattle.hg_hosted.specs.States.{LeavesLives}
@@ -58,6 +60,28 @@ takes_in_nothing state segment away = record {
   rest = record { policy = refl; number = refl; hand = refl };
 }
 
+no_segments : (policy : Policy) → AreOf number_in policy []
+no_segments policy = record {
+  arena = λ k there. let low : there.0 < 0 = there.1 in absurd (omega (arith, low));
+  greatest = λ k there. let low : there.0 < 0 = there.1 in absurd (omega (arith, low));
+}
+
+-- from where there is no segment, none comes
+pub takes_no_segment :
+    (state : WorkerState) (arena : ℕ) → TakesOne arena answer.NoSegment state state
+takes_no_segment state arena = record {
+  refilled = record {
+    old = record { orphans = []; fresh = [] };
+    new = record { orphans = []; fresh = [] };
+    of = no_segments state.policy;
+    refilled = (refl, refl, refl);
+  };
+  came = λ segment told. absurd (cc);
+  lives = stay_lives state;
+  home = stay_goes number_in records_in state.heap.segments;
+  rest = record { policy = refl; number = refl; hand = refl };
+}
+
 pub gives_up_nothing :
     (state : WorkerState) (segment : ℕ) → is_held number_in state.heap.segments segment ≡ false
     → GivesUp segment answer.NotHeld state state
@@ -72,6 +96,15 @@ gives_up_nothing state segment away = record {
   rest = record { policy = refl; number = refl; hand = refl };
 }
 
+-- what was taken, by another name
+pub taken_as :
+    {T : Type 0} (result there kept : Option T) (old : List T) {new after : List T}
+    → result ≡ there → after ≡ new → HasTaken result kept old new
+    → HasTaken there kept old after
+taken_as {T = T} result there kept old {new = new} {after = after} is same taken =
+    subst (λ (o : Option T). HasTaken o kept old after) is
+    (subst (λ (xs : List T). HasTaken result kept old xs) (sym same) taken)
+
 -- what is kept of a part that was put is that part
 pub kept_fits :
     {T : Type 0} (of_service : WorkerState → T → Type 0) {known : Option WorkerState} {part : T}
@@ -83,7 +116,7 @@ kept_fits of_service {known = known} Out (Some kept) same fits one is =
 
 -- and a part that was out is home once it was put, or kept
 pub put_home :
-    {T : Type 0} (part : T) (before after : Way) (kept : Option T)
+    {T : Type 0} (part : T) (before after : Way T) (kept : Option T)
     → IfSome kept (λ one. (one ≡ part) × (after.out ≡ before.out))
     → IfNone kept (after.out ≡ false) → before.out ≡ true → IsHome after kept
 put_home part before after None same none out = none

@@ -7,6 +7,9 @@ pub mod Shared
 pub mod Places
 pub mod New
 pub mod Leaving
+pub mod Coming
+pub mod Has
+pub mod Departing
 pub mod Serving
 pub mod Closing
 pub mod Steps

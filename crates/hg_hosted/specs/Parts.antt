@@ -7,6 +7,7 @@ use Rattle.hg_table.specs.declared.segment.UnnamedSegment.{UnnamedSegment}
 use Rattle.hg_worker.specs.declared.state.WorkerState.{WorkerState}
 use Rattle.hg_worker.specs.Seats.{number_in, AreOnTable}
 use Rattle.hg_worker.specs.States.{IsNamed}
+use Rattle.hg_hosted.specs.Leaving.{IsIdle}
 use Rattle.hg_hosted.specs.declared.parts.Left.{Left}
 use Rattle.hg_hosted.specs.declared.parts.Segments.{Segments}
 
@@ -23,6 +24,7 @@ IsOfOne of state = IsNamed of.policy (table_of_worker of.seat) state
 abbrev pub HasSegments : WorkerState → Segments → Type 0
 HasSegments of segments = ArePooled of segments.pool
 
--- and this worker, if it is one
+-- and this worker, if it is one, which holds nothing and has nothing in hand
 abbrev pub HasLeft : WorkerState → Left → Type 0
-HasLeft of left = (own : _) → left.state ≡ Some own → IsOfOne of own.value
+HasLeft of left =
+    (own : _) → left.state ≡ Some own → IsOfOne of own.value × IsIdle own.value

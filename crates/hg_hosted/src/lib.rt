@@ -19,5 +19,6 @@ mod stepping;
 mod worker;
 
 pub use closing::HostedUnclosed;
+pub use leaving::Departed;
 pub use service::HostedService;
 pub use worker::HostedWorker;

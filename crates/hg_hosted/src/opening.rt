@@ -1,6 +1,6 @@
 //! A service opens.
 
-ghost use Rattle.std.specs.Prelude.{◌≡◌, length, Some, IfOk};
+ghost use Rattle.std.specs.Prelude.{◌≡◌, [], length, Some, IfOk};
 ghost use Rattle.crossbeam_queue.specs.Passes.{view};
 ghost use Rattle.hg_table.specs.Named.{table_of};
 ghost use Rattle.hg_service.specs.New.{AreNew};
@@ -56,7 +56,7 @@ fn opened<N: ServiceName>(
         pool,
     } = parts;
     let mut shared = shared_parts(alloc, &policy, &workers, lists, pool)?;
-    let came = Vec::from_elem(alloc, false, workers.len())?;
+    let came = Vec::with_capacity(alloc, workers.len())?;
     let workers = hosted(alloc, workers, &mut shared)?;
     Ok((HostedService::made::<N>(policy, shared, came), workers))
 }
@@ -72,6 +72,7 @@ fn shared_parts<N: ServiceName>(
     requires all { length lists.items ≡ length N.policy.segments }
     ensures of { IfOk result (AreOfService N.policy N.table) }
     ensures home { IfOk result AreParked }
+    ensures taken { IfOk result (λ shared. (view shared.left.pass).taken ≡ []) }
 {
     // a policy has a worker
     let Some(one) = workers.first() else {
@@ -128,6 +129,7 @@ fn hosted<N: ServiceName>(
     requires new { AreNew N.policy.workers workers.items }
     ensures of { AreOfService N.policy N.table shared.new }
     ensures home { AreParked shared.new }
+    ensures taken { (view shared.new.left.pass).taken ≡ (view shared.old.left.pass).taken }
     ensures new { IfOk result (λ hosted. AreNewHosted N.policy N.table hosted.items) }
     ensures own_places { HaveSamePlaces shared.old shared.new }
     ensures places { IfOk result (λ hosted. ShareAll shared.old hosted.items) }
@@ -148,6 +150,7 @@ fn hosted_one<N: ServiceName>(
     requires home { AreParked shared.old }
     ensures of { AreOfService N.policy N.table shared.new }
     ensures home { AreParked shared.new }
+    ensures taken { (view shared.new.left.pass).taken ≡ (view shared.old.left.pass).taken }
     ensures own { IfOk result (λ hosted. hosted.state ≡ Some worker.inner) }
     ensures own_places { HaveSamePlaces shared.old shared.new }
     ensures places { IfOk result (λ hosted. HaveSamePlaces shared.old hosted.shared) }

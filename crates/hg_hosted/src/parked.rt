@@ -1,10 +1,12 @@
 //! Where parts of a service stand parked between two calls.
 
-ghost use Rattle.std.specs.Prelude.{◌≡◌, ◌<◌, None, true, false, is_some, is_none, IfNone, IfOk, IfSome};
+ghost use Rattle.std.specs.Prelude.{◌≡◌, ◌<◌, [], None, true, false, is_some, is_none};
+ghost use Rattle.std.specs.Prelude.{IfNone, IfOk, IfSome};
 ghost use Rattle.std.specs.Arc.{arc_value};
 ghost use Rattle.crossbeam_queue.specs.Passes.{view, IsPassOf};
 ghost use Rattle.hg_worker.specs.States.{IsNamed};
-ghost use Rattle.hg_hosted.specs.Parking.{FitsKept, FitsKnown, IsHome, KnowsName, way};
+ghost use Rattle.hg_hosted.specs.Parking.{FitsKept, FitsKnown, HasTaken, IsHome, KnowsName};
+ghost use Rattle.hg_hosted.specs.Parking.{came_to, has_parked};
 
 use crate::of_service::{Comes, Founds, Goes, OfService, OneService, Twins, Way};
 use crossbeam_queue::{Pass, RuledArrayQueue};
@@ -16,8 +18,8 @@ use std::sync::Arc;
 /// part is with one of them at a time, or stands parked.
 #[derive(Drop)]
 pub(crate) struct Parked<T: OfService> {
-    pub(crate) place: Arc<RuledArrayQueue<T, Way, OneService>, Global>,
-    pub(crate) pass: Pass<T, Way>,
+    pub(crate) place: Arc<RuledArrayQueue<T, Way<T>, OneService>, Global>,
+    pub(crate) pass: Pass<T, Way<T>>,
     /// A part that found no room when it was put back, and is kept here until it is taken again.
     pub(crate) kept: Option<T>,
     ghost at: { IsPassOf (arc_value place) pass },
@@ -36,6 +38,7 @@ impl<T: OfService + Drop> Parked<T> {
         ensures known { IfOk result (λ parked. KnowsName N.policy N.table (view parked.pass).known) }
         ensures home { IfOk result (λ parked. ((view parked.pass).out ≡ false)
             × (parked.kept ≡ None)) }
+        ensures taken { IfOk result (λ parked. (view parked.pass).taken ≡ []) }
     {
         let (place, mut pass) = RuledArrayQueue::ruled(alloc, room)?;
         if place.try_push_as::<Founds<N>>(&mut pass, first).is_err() {
@@ -53,7 +56,8 @@ impl<T: OfService + Drop> Parked<T> {
         ensures own { view self.new.pass ≡ view self.old.pass }
         ensures own_kept { self.new.kept ≡ self.old.kept }
         ensures own_place { self.new.pass.table_id ≡ self.old.pass.table_id }
-        ensures other { IfOk result (λ other. view other.pass ≡ way (view self.old.pass).known false) }
+        ensures other { IfOk result (λ other. view other.pass
+            ≡ came_to (view self.old.pass).known) }
         ensures other_kept { IfOk result (λ other. other.kept ≡ None) }
         ensures other_place { IfOk result (λ other. other.pass.table_id
             ≡ self.old.pass.table_id) }
@@ -74,6 +78,8 @@ impl<T: OfService + Drop> Parked<T> {
         ensures kept { self.new.kept ≡ None }
         ensures part { IfSome result (FitsKnown T.of_service (view self.old.pass).known) }
         ensures out { IsHome (view self.old.pass) self.old.kept → IsHome (view self.new.pass) result }
+        ensures taken { HasTaken result self.old.kept (view self.old.pass).taken
+            (view self.new.pass).taken }
         ensures place { self.new.pass.table_id ≡ self.old.pass.table_id }
     {
         if let Some(part) = self.kept.take() {
@@ -91,6 +97,10 @@ impl<T: OfService + Drop> Parked<T> {
         ensures kept { IfSome self.new.kept (λ kept. (kept ≡ part)
             × ((view self.new.pass).out ≡ (view self.old.pass).out)) }
         ensures home { IfNone self.new.kept ((view self.new.pass).out ≡ false) }
+        ensures parked { IfNone self.new.kept (view self.new.pass
+            ≡ has_parked (view self.old.pass).known (view self.old.pass).taken
+            (view self.old.pass).parked part) }
+        ensures taken { (view self.new.pass).taken ≡ (view self.old.pass).taken }
         ensures place { self.new.pass.table_id ≡ self.old.pass.table_id }
     {
         if let Err(part) = self.place.try_push_as::<Comes>(&mut self.pass, part) {
@@ -106,6 +116,8 @@ impl<T: OfService + Drop> Parked<T> {
         ensures home { IsHome (view self.old.pass) self.old.kept
             → IsHome (view self.new.pass) self.new.kept }
         ensures settled { result ≡ is_none self.new.kept }
+        ensures alone { self.old.kept ≡ None → view self.new.pass ≡ view self.old.pass }
+        ensures taken { (view self.new.pass).taken ≡ (view self.old.pass).taken }
         ensures place { self.new.pass.table_id ≡ self.old.pass.table_id }
     {
         if let Some(part) = self.kept.take() {

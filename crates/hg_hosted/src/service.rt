@@ -3,22 +3,26 @@
 ghost use Rattle.std.specs.Prelude.{◌≡◌, Some};
 ghost use Rattle.crossbeam_queue.specs.Passes.{view};
 ghost use Rattle.hg_table.specs.Named.{table_of_worker};
-ghost use Rattle.hg_hosted.specs.Shared.{AreOfService, AreParked};
+ghost use Rattle.hg_hosted.specs.Coming.{AreNoted, HaveLeft};
+ghost use Rattle.hg_hosted.specs.Shared.{AreOfService, AreParked, table_of_shared};
 
 use crate::shared::Shared;
 use hg_policy::Policy;
-use hg_worker::ServiceName;
+use hg_worker::{ServiceName, WorkerState};
+use std::alloc::Global;
 
 /// What there is of a service beside its workers.
 #[derive(Drop)]
 pub struct HostedService {
     pub(crate) policy: Policy,
     pub(crate) shared: Shared,
-    /// By number, whether the worker is known to have left.
-    pub(crate) came: Vec<bool>,
+    /// The workers that have come, as they left. There is room for each.
+    pub(crate) came: Vec<Box<WorkerState, Global>>,
     ghost of: { (one : _) → (view shared.left.pass).known ≡ Some one
         → AreOfService policy (table_of_worker one.seat) shared },
     ghost home: { AreParked shared },
+    ghost left: { HaveLeft policy (table_of_shared shared) came.items },
+    ghost noted: { AreNoted (view shared.left.pass).taken came.items },
 }
 
 impl HostedService {
@@ -26,11 +30,13 @@ impl HostedService {
     pub(crate) fn made<N: ServiceName>(
         policy: Policy,
         shared: Shared,
-        came: Vec<bool>,
+        came: Vec<Box<WorkerState, Global>>,
     ) -> HostedService
         requires policy { policy ≡ N.policy }
         requires of { AreOfService N.policy N.table shared }
         requires home { AreParked shared }
+        requires left { HaveLeft N.policy N.table came.items }
+        requires noted { AreNoted (view shared.left.pass).taken came.items }
         ensures policy { result.policy ≡ policy }
         ensures shared { result.shared ≡ shared }
         ensures came { result.came ≡ came }

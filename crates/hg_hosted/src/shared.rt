@@ -1,7 +1,8 @@
 //! What the workers of a service share.
 
-ghost use Rattle.std.specs.Prelude.{◌≡◌, length, map, IfOk, IsFalse, IsTrue};
+ghost use Rattle.std.specs.Prelude.{◌≡◌, None, length, map, IfOk, IsFalse, IsTrue};
 ghost use Rattle.atomic_table.specs.Seated.{TableId};
+ghost use Rattle.crossbeam_queue.specs.Passes.{view};
 ghost use Rattle.hg_machine.specs.Policy.{Policy};
 ghost use Rattle.hg_hosted.specs.Places.{HaveSamePlaces, list_place};
 ghost use Rattle.hg_hosted.specs.Shared.{AreHome, AreListsHome, AreListsSettled, AreOfService};
@@ -30,6 +31,7 @@ impl Shared {
         ensures other { IfOk result (λ other. (policy : Policy) (table : TableId)
             → AreOfService policy table self.old → AreOfService policy table other) }
         ensures own_home { AreParked self.old → AreParked self.new }
+        ensures own_taken { (view self.new.left.pass).taken ≡ (view self.old.left.pass).taken }
         ensures home { IfOk result AreHome }
         ensures own_places { HaveSamePlaces self.old self.new }
         ensures places { IfOk result (HaveSamePlaces self.old) }
@@ -52,6 +54,8 @@ impl Shared {
         ensures home { AreHome self.old → AreHome self.new }
         ensures settled { IsTrue result → IsSettled self.new }
         ensures unsettled { IsFalse result → ¬ (IsSettled self.new) }
+        ensures left { self.old.left.kept ≡ None
+            → view self.new.left.pass ≡ view self.old.left.pass }
         ensures places { HaveSamePlaces self.old self.new }
     {
         let segments = self.segments.settle();

@@ -14,6 +14,7 @@ use crate::parts::Segments;
 use crate::shared::Shared;
 use crate::worker::HostedWorker;
 use hg_machine::Answer;
+use hg_queue::ARENAS;
 use hg_worker::{KeptPool, ServiceName, Worker, WorkerState};
 use std::alloc::Global;
 use std::marker::Brand;
@@ -95,6 +96,9 @@ fn refill_by<N: ServiceName>(
     ensures places { HaveSamePlaces shared.old shared.new }
 {
     let mut worker = Worker::<N>::with_name(state);
+    if arena >= ARENAS {
+        return (Some(Answer::NoSegment), worker.without_name());
+    }
     let Some(segments) = shared.segments.take() else {
         return (None, worker.without_name());
     };
@@ -171,7 +175,8 @@ impl HostedWorker {
     }
 
     /// Takes the oldest orphan of the arena, or else its lowest fresh segment; `NoSegment` where
-    /// there is neither. `None`, and nothing is done, where another call has the segments.
+    /// there is neither, and at once of an arena that no policy has, from 16 on. `None`, and nothing
+    /// is done, where another call has the segments.
     pub fn refill(&mut self, arena: u8) -> Option<Answer>
         ensures served { MatchOption result (Serves (Waits (event.Refill arena)) self.old self.new)
             (λ answer. Serves (TakesOne arena answer) self.old self.new) }

@@ -12,7 +12,7 @@ use hg_machine::{Answer, Event};
 impl HostedWorker {
     /// Serves an event by the call of its name. `None`, and nothing is done, where another call has
     /// what it needs; that may be so of a Deliver with a block in hand, a Take or an Abandon of a
-    /// segment that the worker holds, and a Refill.
+    /// segment that the worker holds, and a Refill of an arena below 16.
     pub fn step(&mut self, event: Event) -> Option<Answer>
         ensures served { MatchOption result (Serves (Waits event) self.old self.new)
             (λ answer. Serves (Does event answer) self.old self.new) }

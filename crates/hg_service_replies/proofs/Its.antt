@@ -5,13 +5,13 @@ use Rattle.atomic_table.specs.Seated.{TableId}
 use Rattle.hg_machine.specs.Policy.{Policy}
 use Rattle.hg_worker.specs.States.{IsNamed}
 use Rattle.hg_hosted.proofs.Reaching.{places_back, places_then}
+use Rattle.hg_hosted.specs.Departing.{IsBack}
 use Rattle.hg_hosted.specs.New.{IsOpened}
 use Rattle.hg_hosted.specs.Places.{HaveSamePlaces}
 use Rattle.hg_hosted.specs.Shared.{table_of_shared}
 use Rattle.hg_hosted.specs.declared.service.HostedService.{HostedService}
 use Rattle.hg_hosted.specs.declared.worker.HostedWorker.{HostedWorker}
 use Rattle.hg_service_replies.specs.Closing.{AreLetLeave, PlaceLeaves}
-use Rattle.hg_service_replies.specs.Leaving.{IsBack}
 use Rattle.hg_service_replies.specs.Owned.{AreItsWorkers, IsItsWorker}
 use Rattle.hg_service_replies.specs.Taking.{IsNone, IsTaken}
 
@@ -23,7 +23,7 @@ some_of_map (y ∷ ys) (suc k) x e = some_of_map ys k x e
 -- those that a service begins with
 pub its_new : {policy : Policy} (service : HostedService) (workers : List HostedWorker) → IsOpened policy service workers → AreItsWorkers service (map Some workers)
 its_new service workers opened number worker there = let at = some_of_map workers number worker there in record {
-  number_is = λ own is. (opened.new.each number worker at own is).number_is;
+  new = opened.new.each number worker at;
   of = λ own is. subst (λ (p : Policy). IsNamed p (table_of_shared service.shared) own.value) (sym opened.serves) (opened.new.named number worker at own is);
   places = opened.places number worker at;
 }
@@ -48,7 +48,7 @@ its_taken service old new number (Some worker) taken its = subst (AreItsWorkers 
 
 same_its : (service : HostedService) (number : ℕ) (worker back : HostedWorker) → IsBack worker back → IsItsWorker service number worker → IsItsWorker service number back
 same_its service number worker back same its = record {
-  number_is = λ own at. its.number_is own (sym same.state ∙ at);
+  new = λ own at. its.new own (sym same.state ∙ at);
   of = λ own at. its.of own (sym same.state ∙ at);
   places = places_then its.places same.places;
 }
@@ -68,7 +68,7 @@ its_left service old new leave its number back there =
 -- and those of a service that goes on
 pub its_still : (old new : HostedService) (workers : List (Option HostedWorker)) → new.policy ≡ old.policy → table_of_shared new.shared ≡ table_of_shared old.shared → HaveSamePlaces old.shared new.shared → AreItsWorkers old workers → AreItsWorkers new workers
 its_still old new workers policy table places its number worker there = let it = its number worker there in record {
-  number_is = it.number_is;
+  new = it.new;
   of = λ own at. subst (λ (t : TableId). IsNamed new.policy t own.value) (sym table)
       (subst (λ (p : Policy). IsNamed p (table_of_shared old.shared) own.value) (sym policy) (it.of own at));
   places = places_then (places_back places) it.places;

@@ -5,8 +5,10 @@ use Rattle.hg_place.specs.declared.Place.{Place}
 use Rattle.hg_reply.specs.declared.reply.Reply.{Reply}
 use Rattle.hg_reply.specs.Replies.{again, plain, valued}
 use Rattle.hg_hosted.specs.declared.worker.HostedWorker.{HostedWorker}
-use Rattle.hg_service_replies.specs.Has.{Has}
-use Rattle.hg_service_replies.specs.Leaving.{HoldsFirst, HoldsNone, IsBack, StaysFor}
+use Rattle.hg_hosted.specs.Departing.{IsBack}
+use Rattle.hg_hosted.specs.Has.{Has}
+use Rattle.hg_hosted.specs.Leaving.{HoldsFirst, HoldsNone}
+use Rattle.hg_service_replies.specs.Leaving.{StaysFor}
 
 both_ways : {X : Type 0} {b : Bool} → b ≡ true → b ≡ false → X
 both_ways is isnt = absurd (subst T (sym is ∙ isnt) tt)

@@ -10,7 +10,7 @@ use Rattle.hg_worker.specs.declared.state.WorkerState.{WorkerState}
 use Rattle.hg_reply.specs.declared.reply.Reply.{Reply}
 use Rattle.hg_reply.specs.Replies.{closed, plain, valued}
 use Rattle.hg_reply.specs.Naming.{named, nobody}
-use Rattle.hg_service_replies.specs.Has.{Has}
+use Rattle.hg_hosted.specs.Has.{Has}
 use Rattle.hg_service_replies.specs.declared.asking.PartQuestion.{PartQuestion}
 use Rattle.hg_service_replies.specs.declared.asking.PartQuestion.TheVariants as question
 use Rattle.hg_service_replies.specs.declared.part.HostedPart.{HostedPart}

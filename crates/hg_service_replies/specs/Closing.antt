@@ -6,6 +6,8 @@ use Rattle.hg_audit.specs.declared.parts.Parts.{Parts}
 use Rattle.hg_place.specs.declared.Place.{Place}
 use Rattle.hg_place.specs.Places.{number_of}
 use Rattle.hg_hosted.specs.Closing as hosted
+use Rattle.hg_hosted.specs.Departing.{IsBack}
+use Rattle.hg_hosted.specs.Has.{Has}
 use Rattle.hg_hosted.specs.Leaving.{IsIdle}
 use Rattle.hg_hosted.specs.declared.worker.HostedWorker.{HostedWorker}
 use Rattle.hg_machine.specs.Lists.{Kept}
@@ -15,8 +17,6 @@ use Rattle.hg_close.specs.declared.fault.CloseFault.{CloseFault}
 use Rattle.hg_close.specs.declared.fault.CloseFault.TheVariants as fault
 use Rattle.hg_reply.specs.declared.reply.Reply.{Reply}
 use Rattle.hg_reply.specs.Replies.{again, no_memory, valued}
-use Rattle.hg_service_replies.specs.Has.{Has}
-use Rattle.hg_service_replies.specs.Leaving.{IsBack}
 use Rattle.hg_service_replies.specs.declared.part.HostedPart.{HostedPart}
 use Rattle.hg_service_replies.specs.declared.part.HostedPart.TheVariants as part
 use Rattle.hg_service_replies.specs.declared.part.OpenService.{OpenService}

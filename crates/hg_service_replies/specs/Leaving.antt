@@ -1,28 +1,16 @@
 -- How a worker leaves its service.
-use Rattle.std.specs.Prelude.{◌≡◌, ◌≢◌, ℕ, ◌<◌, true, Option, None, Result}
+use Rattle.std.specs.Prelude.{◌≡◌, ◌≢◌, ℕ, Option, None, Result}
 use Rattle.std.specs.Prelude.{MatchOption, MatchResult}
-use Rattle.hg_place.specs.declared.geometry.TheConstants.{MAX_SEGMENTS}
-use Rattle.hg_heap.specs.Held.{is_held}
-use Rattle.hg_worker.specs.Seats.{number_in}
-use Rattle.hg_worker.specs.declared.state.WorkerState.{WorkerState}
 use Rattle.hg_hosted.specs.declared.worker.HostedWorker.{HostedWorker}
-use Rattle.hg_hosted.specs.Leaving.{HoldsNoneBelow, IsIdle}
-use Rattle.hg_hosted.specs.Places.{HaveSamePlaces}
+use Rattle.hg_hosted.specs.Departing.{IsBack, IsGone}
+use Rattle.hg_hosted.specs.Has.{Has}
+use Rattle.hg_hosted.specs.Leaving.{HoldsFirst, HoldsNone, IsIdle}
+use Rattle.hg_hosted.specs.declared.leaving.Departed.{Departed}
 use Rattle.hg_reply.specs.declared.reply.Reply.{Reply}
 use Rattle.hg_reply.specs.Replies.{again, plain, valued}
-use Rattle.hg_service_replies.specs.Has.{Has}
 use Rattle.hg_service_replies.specs.declared.part.HostedPart.{HostedPart}
 use Rattle.hg_service_replies.specs.declared.part.HostedPart.TheVariants as part
 use Rattle.hg_service_replies.specs.Serving.{IsOther}
-
--- the segment is the lowest that it holds
-pub record HoldsFirst (segment : ℕ) (state : WorkerState) : Type 0 where
-  pub below : segment < MAX_SEGMENTS
-  pub held : is_held number_in state.heap.segments segment ≡ true
-  pub lower : HoldsNoneBelow state segment
-
-abbrev pub HoldsNone : WorkerState → Type 0
-HoldsNone state = HoldsNoneBelow state MAX_SEGMENTS
 
 -- why it stays, by the first that is so: a block in hand, the lowest segment that it holds, or that
 -- another call has what it has to put back
@@ -33,15 +21,10 @@ pub record StaysFor (worker : HostedWorker) (reply : Reply) : Type 0 where
       → (segment : ℕ) × Has (HoldsFirst segment) worker × (reply ≡ valued 27 segment)
   pub shared : Has IsIdle worker → reply ≡ again
 
--- it comes back in its state, and its ways lead where they led
-pub record IsBack (old new : HostedWorker) : Type 0 where
-  pub state : new.state ≡ old.state
-  pub places : HaveSamePlaces old.shared new.shared
-
--- it is idle and left, or comes back with the reason
-abbrev pub Leaves : HostedWorker → Result (Unit {0}) (HostedWorker × Reply) → Type 0
+-- it was idle and has left, by this receipt, or comes back with the reason
+abbrev pub Leaves : HostedWorker → Result Departed (HostedWorker × Reply) → Type 0
 Leaves worker result =
-    MatchResult result (λ left. Has IsIdle worker)
+    MatchResult result (λ gone. Has IsIdle worker × IsGone worker gone)
     (λ back. IsBack worker back.0 × StaysFor worker back.1)
 
 -- a worker leaves and is gone, or stays; any other part is answered as closed, and stays

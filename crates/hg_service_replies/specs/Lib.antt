@@ -1,4 +1,3 @@
-pub mod Has
 pub mod Owned
 pub mod Opening
 pub mod Serving

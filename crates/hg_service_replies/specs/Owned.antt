@@ -1,16 +1,15 @@
 -- The workers that a service keeps until threads have them.
 use Rattle.std.specs.Prelude.{◌≡◌, ℕ, List, Option, Some, slice_get}
-use Rattle.hg_hosted.specs.New.{IsWorkerOf}
+use Rattle.hg_hosted.specs.New.{IsNewHosted, IsWorkerOf}
 use Rattle.hg_hosted.specs.Places.{HaveSamePlaces}
 use Rattle.hg_hosted.specs.Shared.{table_of_shared}
 use Rattle.hg_hosted.specs.declared.service.HostedService.{HostedService}
 use Rattle.hg_hosted.specs.declared.worker.HostedWorker.{HostedWorker}
-use Rattle.hg_service_replies.specs.Has.{Has}
 
--- a worker of this service, of this number, with ways to what that shares
+-- a new worker of this service, of this number, with ways to what that shares
 pub record IsItsWorker (service : HostedService) (number : ℕ) (worker : HostedWorker)
     : Type 0 where
-  pub number_is : Has (λ state. state.number ≡ number) worker
+  pub new : IsNewHosted number worker
   pub of : IsWorkerOf service.policy (table_of_shared service.shared) worker
   pub places : HaveSamePlaces service.shared worker.shared
 

@@ -3,7 +3,7 @@
 ghost use Rattle.std.specs.Prelude.{◌≡◌};
 ghost use Rattle.hg_reply.specs.Naming.{number_of};
 ghost use Rattle.hg_service_replies.specs.Asking.{PartFinds, PartTells, policy_tells, state_tells};
-ghost use Rattle.hg_service_replies.specs.Has.{Has};
+ghost use Rattle.hg_hosted.specs.Has.{Has};
 
 use crate::part::HostedPart;
 use hg_hosted::{HostedService, HostedWorker};

@@ -17,10 +17,11 @@ use std::alloc::Global;
 use std::mem;
 
 /// The core that a service becomes, once each worker that a thread had has left. Else the service
-/// goes on: `STILL_OUT` with the lowest worker that hasn't left, `STILL_HELD` with the lowest
-/// segment that is held, `AGAIN` where another call has what one that no thread had puts back, or
-/// `NO_MEMORY`. `LOST` with the lowest place that isn't accounted for, as one whose block was in the
-/// hand of a worker that was dropped: then the service is gone. Any other part is answered `CLOSED`.
+/// goes on: `STILL_OUT` with the lowest worker that hasn't come to it, as one that hasn't left or was
+/// dropped; `STILL_HELD` with the lowest segment that isn't among those that nobody holds, or 0 where
+/// another call has these; `AGAIN` where another call has what one that no thread had puts back; or
+/// `NO_MEMORY`. `LOST` with the lowest place that isn't accounted for: then the service is gone. Any
+/// other part is answered `CLOSED`.
 pub fn close(alloc: Global, part: &mut HostedPart) -> Result<Core, Reply>
     ensures closes { PartCloses part.old result part.new }
     ensures refused { IfErr result (λ why. why.status ≢ 2) }

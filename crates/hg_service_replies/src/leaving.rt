@@ -1,12 +1,9 @@
 //! A worker leaves its service.
 
-ghost use Rattle.std.specs.Prelude.{◌≡◌, MatchOption};
-ghost use Rattle.hg_service_replies.specs.Has.{Has};
-ghost use Rattle.hg_service_replies.specs.Leaving.{HoldsFirst, HoldsNone, Leaves, PartLeaves};
+ghost use Rattle.hg_service_replies.specs.Leaving.{Leaves, PartLeaves};
 
 use crate::part::HostedPart;
-use hg_hosted::HostedWorker;
-use hg_place::MAX_SEGMENTS;
+use hg_hosted::{Departed, HostedWorker};
 use hg_reply::Reply;
 use hg_reply::status::{AGAIN, BUSY, CLOSED, DONE, STILL_HELD};
 use std::mem;
@@ -19,7 +16,7 @@ pub fn leave(part: &mut HostedPart) -> Reply
 {
     match mem::replace(part, HostedPart::Gone) {
         HostedPart::Worker(worker) => match leave_one(worker) {
-            Ok(()) => Reply::plain(DONE),
+            Ok(_gone) => Reply::plain(DONE),
             Err((back, why)) => {
                 *part = HostedPart::Worker(back);
                 why
@@ -33,30 +30,17 @@ pub fn leave(part: &mut HostedPart) -> Reply
 }
 
 /// A worker leaves, or comes back with the reason.
-pub(crate) fn leave_one(worker: HostedWorker) -> Result<(), (HostedWorker, Reply)>
+pub(crate) fn leave_one(worker: HostedWorker) -> Result<Departed, (HostedWorker, Reply)>
     ensures { Leaves worker result }
 {
     if worker.hand().is_some() {
         return Err((worker, Reply::plain(BUSY)));
     }
-    if let Some(segment) = first_held(&worker) {
+    if let Some(segment) = worker.first_held() {
         return Err((worker, Reply::valued(STILL_HELD, u64::from(segment))));
     }
     match worker.leave() {
-        Ok(()) => Ok(()),
+        Ok(gone) => Ok(gone),
         Err(back) => Err((back, Reply::plain(AGAIN))),
     }
-}
-
-/// The lowest segment that the worker holds.
-fn first_held(worker: &HostedWorker) -> Option<u8>
-    ensures { MatchOption result (Has HoldsNone worker.now)
-        (λ segment. Has (HoldsFirst segment) worker.now) }
-{
-    for segment in 0..MAX_SEGMENTS as u8 {
-        if worker.holds(segment) {
-            return Some(segment);
-        }
-    }
-    None
 }

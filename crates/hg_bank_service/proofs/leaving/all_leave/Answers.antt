@@ -2,7 +2,8 @@ use Rattle.std.proofs.Common.{◌≤◌, length, sym, subst}
 use Rattle.hg_hosted.specs.declared.worker.HostedWorker.{HostedWorker}
 use Rattle.std.specs.Prelude.{List}
 use Rattle.hg_bank_service.specs.Idle.{AreIdleFrom}
-use Rattle.hg_bank_service.specs.Leaving.{AreLeft, IsBack}
+use Rattle.hg_hosted.specs.Departing.{IsBack}
+use Rattle.hg_bank_service.specs.Leaving.{AreLeft}
 use Rattle.hg_bank_service.proofs.Departures.{IsPopped, one_back, still_few, still_idle}
 use Rattle.hg_bank_service.proofs.leaving.all_leave.Goals as goal
 

@@ -2,7 +2,7 @@ use Rattle.std.proofs.Common.{◌≡◌, inl, inr, Some, slice_get, sym, ap, sub
 use Rattle.std.proofs.lemmas.Bool.{cases_eq}
 use Rattle.std.proofs.lemmas.Option.{same_Some, slice_get-get_or, slice_get_within}
 use Rattle.hg_hosted.specs.Leaving.{IsIdle}
-use Rattle.hg_bank_service.specs.Has.{Has}
+use Rattle.hg_hosted.specs.Has.{Has}
 use Rattle.hg_bank_service.proofs.leaving.first_busy.Goals as goal
 
 pub returns-then-not-is_idle-clause-some : goal.returns-then-not-is_idle-clause-some

@@ -1,6 +1,6 @@
 use Rattle.std.proofs.Common.{◌≡◌, ℕ, ◌<◌, Some, slice_get}
 use Rattle.hg_hosted.specs.Leaving.{IsIdle}
-use Rattle.hg_bank_service.specs.Has.{Has}
+use Rattle.hg_hosted.specs.Has.{Has}
 use Rattle.hg_bank_service.proofs.leaving.first_busy.Given as goal
 
 abbrev pub invariant-loop-core : goal.invariant-loop-core

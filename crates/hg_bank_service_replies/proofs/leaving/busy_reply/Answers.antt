@@ -20,13 +20,13 @@ returns c = record {
   told = λ own at.
       let hand = of_there _ _ (slice_get c.args.worker.now.workers.items c.args.core) c.requires.worker c.requires.there c.hand.ensures own at in
       by_none _ _ own.value.hand c.hand.result hand (sym c.is_some.ensures ∙ c.if-is_some.false)
-      (c.in-Some.segment, c.in-Some.ensures c.requires.worker c.requires.there own at, c.placed-in-Some.ensures ∙ ap (placed 27 c.args.core) (search rules));
+      (c.in-Some.segment, of_there _ _ (slice_get c.args.worker.now.workers.items c.args.core) c.requires.worker c.requires.there c.in-Some.ensures own at, c.placed-in-Some.ensures ∙ ap (placed 27 c.args.core) (search rules));
 }
 
 pub unreachable-requires : goal.unreachable-requires
 unreachable-requires c = absurd (c.requires.busy (λ own at.
     let hand = of_there _ _ (slice_get c.args.worker.now.workers.items c.args.core) c.requires.worker c.requires.there c.hand.ensures own at in
     record {
-      holds = c.in-None.ensures c.requires.worker c.requires.there own at;
+      holds = of_there _ _ (slice_get c.args.worker.now.workers.items c.args.core) c.requires.worker c.requires.there c.in-None.ensures own at;
       hand = has_none own.value.hand c.hand.result hand (sym c.is_some.ensures ∙ c.if-is_some.false);
     }))

@@ -1,5 +1,5 @@
 use Rattle.std.proofs.Common.{◌≡◌, ℕ, ◌<◌, true}
-use Rattle.hg_hosted.specs.Closing.{has_come}
+use Rattle.hg_hosted.specs.Coming.{has_come}
 use Rattle.hg_hosted.proofs.closing.first_out.Given as goal
 
 abbrev pub invariant-loop-number : goal.invariant-loop-number

@@ -21,6 +21,7 @@ loop-worker-preserved g c =
     record {
       of = c.hosted_one.ensures.of;
       home = c.hosted_one.ensures.home;
+      taken = c.hosted_one.ensures.taken ∙ before.taken;
       own_places = places_then before.own_places c.hosted_one.ensures.own_places;
       places = subst
           (λ xs. (k : ℕ) (one : _) → slice_get xs k ≡ Some one → HaveSamePlaces c.args.shared.now one.shared)

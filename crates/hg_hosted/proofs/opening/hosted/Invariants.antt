@@ -1,5 +1,6 @@
 use Rattle.std.proofs.Common.{◌≡◌, ℕ, ◌+◌, Some, length, slice_get}
 use Rattle.std.specs.Vec.Iter.{into_iter_items, into_iter_len}
+use Rattle.crossbeam_queue.specs.Passes.{view}
 use Rattle.hg_service.specs.New.{IsNew}
 use Rattle.hg_hosted.specs.New.{IsNewHosted, IsWorkerOf}
 use Rattle.hg_hosted.specs.Places.{HaveSamePlaces}
@@ -16,6 +17,7 @@ invariant-loop-worker g l = record {
       (k : ℕ) (own : _) → slice_get (into_iter_items l.worker-iterator) k ≡ Some own
       → IsNew (length l.hosted.items + k) own;
   new : (k : ℕ) (one : _) → slice_get l.hosted.items k ≡ Some one → IsNewHosted k one;
+  taken : (view l.shared.left.pass).taken ≡ (view l.fn.shared.left.pass).taken;
   own_places : HaveSamePlaces l.fn.shared l.shared;
   places :
       (k : ℕ) (one : _) → slice_get l.hosted.items k ≡ Some one

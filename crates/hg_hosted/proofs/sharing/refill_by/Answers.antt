@@ -1,6 +1,7 @@
-use Rattle.std.proofs.Common.{◌++◌, sym, subst}
+use Rattle.std.proofs.Common.{◌++◌, sym, subst, arith}
 use Rattle.crossbeam_queue.specs.Passes.{view}
 use Rattle.hg_heap.specs.Policies.{AreOf}
+use Rattle.hg_machine.specs.declared.Answer.TheVariants as answer
 use Rattle.hg_service.proofs.Behind.{came}
 use Rattle.hg_worker.specs.Seats.{number_in, records_in, part_of_seat}
 use Rattle.hg_worker.specs.Workers.{had_in}
@@ -9,8 +10,23 @@ use Rattle.hg_hosted.specs.Parking.{FitsKnown, KnowsName}
 use Rattle.hg_hosted.specs.Parts.{HasSegments}
 use Rattle.hg_hosted.specs.declared.parts.Segments.{Segments}
 use Rattle.hg_hosted.proofs.Named.{put_of, taken_of}
-use Rattle.hg_hosted.proofs.Undone.{kept_fits, put_home}
+use Rattle.hg_hosted.proofs.Undone.{kept_fits, put_home, takes_no_segment}
 use Rattle.hg_hosted.proofs.sharing.refill_by.Goals as goal
+
+pub returns-then-arena-ge-ARENAS-clause-done : goal.returns-then-arena-ge-ARENAS-clause-done
+returns-then-arena-ge-ARENAS-clause-done g c =
+    let before = c.with_name-worker.result.inner in
+    subst (λ own. TakesOne c.args.arena answer.NoSegment own.value c.without_name.result.value)
+    c.with_name-worker.ensures
+    (subst (λ own. TakesOne c.args.arena answer.NoSegment before.value own.value)
+    (sym c.without_name.ensures) (takes_no_segment before.value c.args.arena))
+
+pub returns-in_default-clause-alone : goal.returns-in_default-clause-alone
+returns-in_default-clause-alone g c =
+    λ high. absurd (high (omega (arith, c.if-arena-ge-ARENAS.false)))
+
+pub returns-clause-alone : goal.returns-clause-alone
+returns-clause-alone g c = λ high. absurd (high (omega (arith, c.if-arena-ge-ARENAS.false)))
 
 pub with_name-pool-requires-clause-named : goal.with_name-pool-requires-clause-named
 with_name-pool-requires-clause-named g c =
