@@ -97,12 +97,13 @@ HG_MUST_USE hg_reply hg_service_worker(hg_service *service, uint32_t number, hg_
 /* The service becomes a core, in which nobody holds a segment and no hand has a block: HG_DONE, once
  * each worker that was given has left. Else it goes on: HG_STILL_OUT with the lowest worker that
  * hasn't left, or that is leaving just then, HG_STILL_HELD with the lowest segment that isn't among
- * those that nobody holds, or 0 where another call has these, HG_AGAIN, or HG_HELD where a core is open in `core`. After HG_NO_MEMORY it is to be closed again
- * before all else: its core may wait there for memory, and what is asked of the service is answered
- * HG_CLOSED then, but for hg_service_open (HG_HELD) and hg_service_drop, which gives the core up.
- * Workers that weren't given leave by the first closing, and aren't given any more. A worker that was
- * dropped keeps its service from closing: HG_STILL_OUT. HG_LOST with the number of the lowest place
- * that isn't accounted for, which none of these calls is meant to bring: then the service is gone. */
+ * those that nobody holds, or 0 where another call has these, HG_AGAIN, or HG_HELD where a core is
+ * open in `core`. After HG_NO_MEMORY it is to be closed again before all else: its core may wait there
+ * for memory, and what is asked of the service is answered HG_CLOSED then, but for hg_service_open
+ * (HG_HELD) and hg_service_drop, which gives the core up. Workers that weren't given leave by the
+ * first closing, and aren't given any more. A worker that was dropped keeps its service from closing:
+ * HG_STILL_OUT. HG_LOST with the number of the lowest place that isn't accounted for, which none of
+ * these calls is meant to bring: then the service is gone. */
 HG_MUST_USE hg_reply hg_service_close(hg_service *service, hg_core *core);
 
 /* Gives a service up, or the core that waits there, and frees what no worker has: HG_DONE. Its workers
