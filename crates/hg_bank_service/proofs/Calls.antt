@@ -1,12 +1,13 @@
 -- Calls that name their core.
-use Rattle.std.proofs.Common.{◌≡◌, ℕ, ◌<◌, ◌≤◌, List, length, Option, None, Some, MatchOption}
-use Rattle.std.proofs.Common.{slice_get, slice_index, slice_set, sym, subst, arith}
+use Rattle.std.proofs.Common.{◌≡◌, ℕ, ◌<◌, ◌≤◌, List, [], length, Option, None, Some, MatchOption}
+use Rattle.std.proofs.Common.{Vec, Global, vec_capacity, slice_get, slice_index, slice_set, sym, subst, arith}
 use Rattle.std.proofs.lemmas.List.{length-set}
 use Rattle.std.proofs.lemmas.Option.{none-some}
 use Rattle.hg_machine.specs.declared.Answer.{Answer}
 use Rattle.hg_machine.specs.declared.Event.{Event}
 use Rattle.hg_machine.specs.Policy.{Policy}
 use Rattle.hg_worker.specs.declared.state.WorkerState.{WorkerState}
+use Rattle.hg_hosted.specs.declared.leaving.Departed.{Departed}
 use Rattle.hg_hosted.specs.declared.worker.HostedWorker.{HostedWorker}
 use Rattle.hg_hosted.specs.Waiting.{NeedsShared}
 use Rattle.hg_hosted.proofs.Undone.{each_set}
@@ -46,15 +47,17 @@ module _ (core : ℕ) (event : Event) (old new : BankWorker) where
 
 -- what a bank worker keeps
 pub record Keeps (policy : Policy) (number : ℕ) (workers : List HostedWorker)
-    (currents sums : List ℕ) : Type 0 where
+    (currents sums : List ℕ) (gone : Vec Departed Global) : Type 0 where
   pub below : number < policy.workers
   pub some : 1 ≤ length workers
   pub most : length workers ≤ 16384
   pub of : AreNumbered policy number workers
   pub there : (arena : ℕ) → slice_index currents arena < length workers
   pub counted : AreSums (length policy.tenants) sums workers
+  pub here : gone.items ≡ []
+  pub room : length workers ≤ vec_capacity gone
 
-pub keeps_of : (w : BankWorker) → Keeps w.policy w.number w.workers.items w.currents w.sums
+pub keeps_of : (w : BankWorker) → Keeps w.policy w.number w.workers.items w.currents w.sums w.gone
 keeps_of w = record {
   below = w.below;
   some = w.some;
@@ -62,14 +65,16 @@ keeps_of w = record {
   of = w.of;
   there = w.there;
   counted = w.counted;
+  here = w.here;
+  room = w.room;
 }
 
 -- one core's worker is another now, of the same policy and number, and the sums are those of all
 pub keeps_after : {policy : Policy} {number : ℕ} {workers : List HostedWorker}
-    {currents sums sums' : List ℕ} (core : ℕ) (next : HostedWorker)
-    → Keeps policy number workers currents sums → Has (IsNumbered policy number) next
+    {currents sums sums' : List ℕ} {gone : Vec Departed Global} (core : ℕ) (next : HostedWorker)
+    → Keeps policy number workers currents sums gone → Has (IsNumbered policy number) next
     → AreSums (length policy.tenants) sums' (slice_set workers core next)
-    → Keeps policy number (slice_set workers core next) currents sums'
+    → Keeps policy number (slice_set workers core next) currents sums' gone
 keeps_after {policy} {number} {workers} {currents} core next kept it counted =
     let long = length-set workers core next in
     record {
@@ -79,16 +84,19 @@ keeps_after {policy} {number} {workers} {currents} core next kept it counted =
       of = each_set (Has (IsNumbered policy number)) workers core next kept.of it;
       there = λ arena. let there = kept.there arena in omega arith;
       counted = counted;
+      here = kept.here;
+      room = let room = kept.room in omega arith;
     }
 
 -- as it is behind a call of one core's worker
 pub keeps_at : {policy : Policy} {number : ℕ} {workers new : List HostedWorker}
-    {currents sums sums' : List ℕ} {core : ℕ} {event : Event} {result : Option Answer}
-    → Keeps policy number workers currents sums → ServesAt core event result workers new
-    → AreSums (length policy.tenants) sums' new → Keeps policy number new currents sums'
-keeps_at {policy} {number} {currents = currents} {sums' = sums'} {core} {event} {result} kept at
-    counted =
-    subst (λ xs. Keeps policy number xs currents sums') (sym at.after)
+    {currents sums sums' : List ℕ} {gone : Vec Departed Global} {core : ℕ} {event : Event}
+    {result : Option Answer}
+    → Keeps policy number workers currents sums gone → ServesAt core event result workers new
+    → AreSums (length policy.tenants) sums' new → Keeps policy number new currents sums' gone
+keeps_at {policy} {number} {currents = currents} {sums' = sums'} {gone} {core} {event} {result} kept
+    at counted =
+    subst (λ xs. Keeps policy number xs currents sums' gone) (sym at.after)
     (keeps_after core at.next kept
     (answered_keep event result at.was at.next policy number at.served
     (kept.of core at.was at.there))

@@ -122,11 +122,13 @@ fn bank_worker(
     ensures workers { IfOk result (λ made. made.workers.items ≡ workers.items) }
 {
     let own = policy.copy(alloc)?;
+    let gone = Vec::with_capacity(alloc, workers.len())?;
     Ok(BankWorker {
         policy: own,
         number,
         workers,
         currents: [0; ARENAS],
         sums: [0; TENANTS],
+        gone,
     })
 }

@@ -1,7 +1,8 @@
 //! A bank worker: what it has.
 
 ghost use Rattle.std.specs.Prelude.{◌≡◌, ◌<◌, ◌≤◌, ◌&&◌, ℕ, if◌then◌else◌, length, slice_index};
-ghost use Rattle.std.specs.Prelude.{nat_lt, Some, None, MatchOption, option_map, slice_get, false};
+ghost use Rattle.std.specs.Prelude.{[], nat_lt, Some, None, MatchOption, option_map, slice_get};
+ghost use Rattle.std.specs.Prelude.{vec_capacity, false};
 ghost use Rattle.hg_machine.specs.Policy.{is_tenant};
 ghost use Rattle.hg_bank.specs.declared.bank.TheConstants.{MAX_CORES};
 ghost use Rattle.hg_heap.specs.Held.{is_held};
@@ -12,7 +13,7 @@ ghost use Rattle.hg_bank_service.specs.Idle.{HasFirst};
 ghost use Rattle.hg_bank_service.specs.Sums.{AreSums, charge_over};
 
 use hg_bank::BankSegment;
-use hg_hosted::HostedWorker;
+use hg_hosted::{Departed, HostedWorker};
 use hg_place::Place;
 use hg_policy::Policy;
 use hg_segment::TENANTS;
@@ -34,12 +35,16 @@ pub struct BankWorker {
     pub(crate) currents: [u16; ARENAS],
     /// By tenant, the sum of the charges of all cores, in bytes.
     pub(crate) sums: [u64; TENANTS],
+    /// Room for what is left of each where it leaves, which takes no memory then.
+    pub(crate) gone: Vec<Departed>,
     ghost below: { number < policy.workers },
     ghost some: { 1 ≤ length workers.items },
     ghost most: { length workers.items ≤ MAX_CORES },
     ghost of: { AreNumbered policy number workers.items },
     ghost there: { (arena : ℕ) → slice_index currents arena < length workers.items },
     ghost counted: { AreSums (length policy.tenants) sums workers.items },
+    ghost here: { gone.items ≡ [] },
+    ghost room: { length workers.items ≤ vec_capacity gone },
 }
 
 impl BankWorker {

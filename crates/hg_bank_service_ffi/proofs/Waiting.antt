@@ -11,4 +11,5 @@ closes_gone (part.Service opened) bank new closes = (refl, closes.1)
 closes_gone (part.Bank old) bank new closes = (refl, closes.1)
 closes_gone (part.Worker worker) bank new closes = absurd closes
 closes_gone (part.Leaving left) bank new closes = absurd closes
+closes_gone (part.Left gone) bank new closes = absurd closes
 closes_gone part.Gone bank new closes = absurd closes

@@ -31,12 +31,13 @@ IsSame old new = (new.mark ≡ old.mark) × (new.part ≡ old.part)
 abbrev pub IsOpen : HostBankPart → BankPart → Type 0
 IsOpen host part = (host.mark ≡ bank_part_mark) × (host.part ≡ Some part)
 
--- it is open with what there is, and closed where that is nothing any more
+-- it is open with what there is, and closed where that is a worker that has left or nothing any more
 abbrev pub Keeps : BankPart → HostBankPart → Type 0
 Keeps (part.Worker worker) host = IsOpen host (part.Worker worker)
 Keeps (part.Leaving left) host = IsOpen host (part.Leaving left)
 Keeps (part.Service opened) host = IsOpen host (part.Service opened)
 Keeps (part.Bank bank) host = IsOpen host (part.Bank bank)
+Keeps (part.Left gone) host = host.mark ≢ bank_part_mark
 Keeps part.Gone host = host.mark ≢ bank_part_mark
 
 -- what an open one has changes so

@@ -36,12 +36,13 @@ pub fn taken_part(alloc: Global, host: &mut HostBankPart) -> Option<Box<BankPart
     }
 }
 
-/// An open one, of what there is; of nothing any more, a closed one.
+/// An open one, of what there is; of a worker that has left or nothing any more, a closed one.
 #[inline(always)]
 pub fn kept(part: Box<BankPart, Global>) -> HostBankPart
     ensures { Keeps part.value result }
 {
     match &*part {
+        BankPart::Left(_gone) => HostBankPart::closed(),
         BankPart::Gone => HostBankPart::closed(),
         _ => HostBankPart::of(part),
     }

@@ -1,7 +1,7 @@
 -- The bank workers that a bank of services keeps, as they come, go and stay.
 use Rattle.std.proofs.Common.{◌≡◌, ◌<◌, ◌+◌, ℕ, List, [], ◌∷◌, ◌++◌, map, length, Option, Some, None, MatchOption, get_or, slice_get, slice_set, arith, refl, sym, ap, subst, ◌∙◌}
 use Rattle.std.proofs.lemmas.List.{length-append}
-use Rattle.std.proofs.lemmas.Option.{none-some, same_Some, slice_get-get_or, slice_get_within}
+use Rattle.std.proofs.lemmas.Option.{none-some, slice_get-get_or, slice_get_within}
 use Rattle.atomic_table.specs.Seated.{TableId}
 use Rattle.hg_machine.specs.Policy.{Policy}
 use Rattle.hg_worker.specs.States.{IsNamed}
@@ -16,7 +16,9 @@ use Rattle.hg_bank_service.specs.Closing.{HaveClosed, KeepsAllClosed, StopsAt}
 use Rattle.hg_bank_service.specs.New.{IsOpenedBank}
 use Rattle.hg_bank_service.specs.State.{ServicesState}
 use Rattle.hg_bank_service.specs.declared.worker.BankWorker.{BankWorker}
-use Rattle.hg_bank_service_replies.proofs.Rows.{each_but_last, of_map, of_set, to_map}
+use Rattle.hg_service_replies.proofs.Its.{of_set}
+use Rattle.hg_bank_service_replies.proofs.Taken.{gone_not}
+use Rattle.hg_bank_service_replies.proofs.Rows.{each_but_last, of_map, to_map}
 use Rattle.hg_bank_service_replies.specs.Closing.{AreLetLeave, PlaceLeaves}
 use Rattle.hg_bank_service_replies.specs.Opening.{ready}
 use Rattle.hg_bank_service_replies.specs.Owned.{AreItsWorkers, AreOfByCore, IsItsWorker, IsOf, cores_of}
@@ -28,6 +30,7 @@ abbrev worker_in : BankWorker → Option Ungiven → BankWorker
 worker_in other None = other
 worker_in other (Some (ungiven.Ready worker)) = worker
 worker_in other (Some (ungiven.Leaving left)) = other
+worker_in other (Some (ungiven.Gone gone)) = other
 
 ready_there : (workers : List BankWorker) (number : ℕ) (worker : BankWorker) → slice_get (map ready workers) number ≡ Some (ready worker) → slice_get workers number ≡ Some worker
 ready_there workers number worker there =
@@ -88,6 +91,7 @@ stayed_its : (service : ServicesState) (number : ℕ) (was : Option Ungiven) (ba
 stayed_its service number None back its leaves = absurd (none-some _ (sym leaves))
 stayed_its service number (Some (ungiven.Ready worker)) back its leaves = subst (IsItsWorker service number) (sym leaves.2) (its worker refl)
 stayed_its service number (Some (ungiven.Leaving left)) back its leaves = absurd leaves
+stayed_its service number (Some (ungiven.Gone gone)) back its leaves = absurd (gone_not gone back (sym leaves))
 
 -- those that stay where all are let leave
 pub its_left : (service : ServicesState) (old new : List (Option Ungiven)) → AreLetLeave old new → AreItsWorkers service old → AreItsWorkers service new

@@ -1,5 +1,4 @@
 mod Rows
-mod LetLeave
 mod Its
 mod Taken
 mod Staying

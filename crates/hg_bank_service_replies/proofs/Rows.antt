@@ -1,5 +1,5 @@
 -- What stands where in a list.
-use Rattle.std.proofs.Common.{◌≡◌, ℕ, zero, suc, List, [], ◌∷◌, ◌++◌, map, Option, Some, None, MatchOption, slice_get, slice_set, refl, ap, subst}
+use Rattle.std.proofs.Common.{◌≡◌, ℕ, zero, suc, List, [], ◌∷◌, ◌++◌, map, Option, Some, None, MatchOption, slice_get, refl, ap, subst}
 use Rattle.std.proofs.lemmas.Option.{none-some, same_Some}
 
 -- what stands in a mapped list is of what stands there
@@ -12,14 +12,6 @@ pub to_map : {X Y : Type 0} (f : X → Y) (xs : List X) (k : ℕ) (x : X) → sl
 to_map f [] k x e = absurd (none-some _ e)
 to_map f (z ∷ zs) zero x e = ap (λ w. Some (f w)) (same_Some z x e)
 to_map f (z ∷ zs) (suc k) x e = to_map f zs k x e
-
--- where one goes, each that is left was there
-pub of_set : {X : Type 0} (xs : List (Option X)) (i k : ℕ) (x : X) → slice_get (slice_set xs i None) k ≡ Some (Some x) → slice_get xs k ≡ Some (Some x)
-of_set [] i k x e = e
-of_set (z ∷ zs) zero zero x e = absurd (none-some x (same_Some None (Some x) e))
-of_set (z ∷ zs) zero (suc k) x e = e
-of_set (z ∷ zs) (suc i) zero x e = e
-of_set (z ∷ zs) (suc i) (suc k) x e = of_set zs i k x e
 
 -- what is said of what is there, by what it is
 pub of_there : {X : Type 0} (No : Type 0) (Has : X → Type 0) (o : Option X) (x : X) → o ≡ Some x → MatchOption o No Has → Has x

@@ -65,6 +65,7 @@ PartTells (part.Worker worker) question reply = WorkerTells worker question repl
 PartTells (part.Service opened) question reply = reply ≡ service_tells opened.service question
 PartTells (part.Leaving left) question reply = reply ≡ closed
 PartTells (part.Bank bank) question reply = reply ≡ closed
+PartTells (part.Left gone) question reply = reply ≡ closed
 PartTells part.Gone question reply = reply ≡ closed
 
 -- the number that goes by a name in the policy of a bank of services; any other part is answered as
@@ -74,4 +75,5 @@ PartFinds (part.Service opened) number reply = reply ≡ named (number opened.se
 PartFinds (part.Worker worker) number reply = reply ≡ valued 64 nobody
 PartFinds (part.Leaving left) number reply = reply ≡ valued 64 nobody
 PartFinds (part.Bank bank) number reply = reply ≡ valued 64 nobody
+PartFinds (part.Left gone) number reply = reply ≡ valued 64 nobody
 PartFinds part.Gone number reply = reply ≡ valued 64 nobody

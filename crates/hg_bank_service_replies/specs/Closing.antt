@@ -1,6 +1,6 @@
 -- How a bank of services becomes a bank.
-use Rattle.std.specs.Prelude.{◌≡◌, ℕ, true, false, List, length, slice_get}
-use Rattle.std.specs.Prelude.{Option, None, Some, is_none, MatchOption, Result, MatchResult}
+use Rattle.std.specs.Prelude.{◌≡◌, ℕ, Bool, true, false, List, [], length, slice_get}
+use Rattle.std.specs.Prelude.{Option, None, Some, MatchOption, Result, MatchResult}
 use Rattle.std.specs.List.{list_all}
 use Rattle.hg_place.specs.Places.{number_of}
 use Rattle.hg_bank.specs.Sound.{IsSoundBank}
@@ -12,7 +12,7 @@ use Rattle.hg_reply.specs.Replies.{again, no_memory}
 use Rattle.hg_bank_replies.specs.Replies.{placed}
 use Rattle.hg_bank_service.specs.Closing.{IsClosedBank, KeepsAllClosed, LosesOne, StopsAt}
 use Rattle.hg_bank_service.specs.Idle.{AreIdleFrom}
-use Rattle.hg_bank_service.specs.Leaving.{AreLeft, IsFirstBusy}
+use Rattle.hg_bank_service.specs.Leaving.{AreLeft, GoesOnLeaving, IsFirstBusy}
 use Rattle.hg_bank_service.specs.declared.closing.LostCore.{LostCore}
 use Rattle.hg_bank_service.specs.State.{ServicesState}
 use Rattle.hg_bank_service.specs.declared.unleft.Leaving.{Leaving}
@@ -45,25 +45,39 @@ abbrev pub told_why : Option (Option (ℕ × CloseFault)) → Reply
 told_why None = again
 told_why (Some stop) = told_stop stop
 
--- a worker that no thread has leaves, or stays as it was for a core where it is busy, or is leaving
+-- a worker that stands ready leaves, by a receipt of each core, or stays as it was for a core where it
+-- is busy, or is leaving
 abbrev pub ReadyLeaves : BankWorker → Option Ungiven → Type 0
-ReadyLeaves worker None = AreIdleFrom 0 worker.workers.items
+ReadyLeaves worker None = ⊥
+ReadyLeaves worker (Some (ungiven.Gone gone)) =
+    AreIdleFrom 0 worker.workers.items × AreLeft worker.workers.items [] [] gone.items
 ReadyLeaves worker (Some (ungiven.Ready back)) =
     (core : ℕ) × IsFirstBusy worker.workers.items core × (back ≡ worker)
 ReadyLeaves worker (Some (ungiven.Leaving left)) =
-    AreIdleFrom 0 worker.workers.items × AreLeft worker.workers.items left.workers.items
+    AreIdleFrom 0 worker.workers.items × GoesOnLeaving worker.workers.items [] left
 
 -- one that is leaving goes on
 abbrev pub LeavingLeaves : Leaving → Option Ungiven → Type 0
-LeavingLeaves old None = Unit {0}
+LeavingLeaves old None = ⊥
 LeavingLeaves old (Some (ungiven.Ready worker)) = ⊥
 LeavingLeaves old (Some (ungiven.Leaving left)) =
-    AreLeft old.workers.items left.workers.items
+    GoesOnLeaving old.workers.items old.gone.items left
+LeavingLeaves old (Some (ungiven.Gone gone)) =
+    AreLeft old.workers.items old.gone.items [] gone.items
 
+-- and where there is none, or it has left, there is what there was
 abbrev pub PlaceLeaves : Option Ungiven → Option Ungiven → Type 0
 PlaceLeaves None new = new ≡ None
 PlaceLeaves (Some (ungiven.Ready worker)) new = ReadyLeaves worker new
 PlaceLeaves (Some (ungiven.Leaving left)) new = LeavingLeaves left new
+PlaceLeaves (Some (ungiven.Gone gone)) new = new ≡ Some (ungiven.Gone gone)
+
+-- no worker stands there that is still to leave: it was given to a thread, or it has left
+abbrev pub is_over : Option Ungiven → Bool
+is_over None = true
+is_over (Some (ungiven.Ready worker)) = false
+is_over (Some (ungiven.Leaving left)) = false
+is_over (Some (ungiven.Gone gone)) = true
 
 -- each of them does so
 pub record AreLetLeave (old new : List (Option Ungiven)) : Type 0 where
@@ -79,8 +93,8 @@ pub record GoesOn (old : OpenBank) (reply : Reply) (new : OpenBank) : Type 0 whe
   pub told : reply ≡ told_why why
   pub still :
       MatchOption why
-      ((new.service ≡ old.service) × (list_all is_none new.workers.items ≡ false))
-      (λ stop. Stops old.service new.service stop × (list_all is_none new.workers.items ≡ true))
+      ((new.service ≡ old.service) × (list_all is_over new.workers.items ≡ false))
+      (λ stop. Stops old.service new.service stop × (list_all is_over new.workers.items ≡ true))
 
 -- a place of parts of a core is lost
 abbrev pub IsLost : ServicesState → Reply → Type 0
@@ -94,6 +108,7 @@ IsUnclosed old part.Gone reply = IsLost old.service reply
 IsUnclosed old (part.Worker worker) reply = ⊥
 IsUnclosed old (part.Leaving left) reply = ⊥
 IsUnclosed old (part.Bank bank) reply = ⊥
+IsUnclosed old (part.Left gone) reply = ⊥
 
 -- all services have closed, and the bank is made of their cores, by number, and is sound
 abbrev pub IsMadeBank : ServicesState → BankState → Type 0
@@ -112,5 +127,7 @@ PartCloses (part.Worker worker) result new =
     MatchResult result (λ bank. ⊥) (λ reply. IsOther (part.Worker worker) reply new)
 PartCloses (part.Leaving left) result new =
     MatchResult result (λ bank. ⊥) (λ reply. IsOther (part.Leaving left) reply new)
+PartCloses (part.Left gone) result new =
+    MatchResult result (λ bank. ⊥) (λ reply. IsOther (part.Left gone) reply new)
 PartCloses part.Gone result new =
     MatchResult result (λ bank. ⊥) (λ reply. IsOther part.Gone reply new)

@@ -16,6 +16,7 @@ DropsWorker (part.Worker worker) reply new = Goes reply new
 DropsWorker (part.Leaving left) reply new = Goes reply new
 DropsWorker (part.Service opened) reply new = IsOther (part.Service opened) reply new
 DropsWorker (part.Bank bank) reply new = IsOther (part.Bank bank) reply new
+DropsWorker (part.Left gone) reply new = IsOther (part.Left gone) reply new
 DropsWorker part.Gone reply new = IsOther part.Gone reply new
 
 -- a bank of services is, or the bank that it became; any other part is answered as closed, and stays
@@ -24,4 +25,5 @@ DropsService (part.Worker worker) reply new = IsOther (part.Worker worker) reply
 DropsService (part.Leaving left) reply new = IsOther (part.Leaving left) reply new
 DropsService (part.Service opened) reply new = Goes reply new
 DropsService (part.Bank bank) reply new = Goes reply new
+DropsService (part.Left gone) reply new = IsOther (part.Left gone) reply new
 DropsService part.Gone reply new = IsOther part.Gone reply new

@@ -33,4 +33,6 @@ PartLists (part.Service opened) core actor room reply new told =
     IsOther (part.Service opened) reply new × (told ≡ room)
 PartLists (part.Bank bank) core actor room reply new told =
     IsOther (part.Bank bank) reply new × (told ≡ room)
+PartLists (part.Left gone) core actor room reply new told =
+    IsOther (part.Left gone) reply new × (told ≡ room)
 PartLists part.Gone core actor room reply new told = IsOther part.Gone reply new × (told ≡ room)

@@ -28,4 +28,5 @@ IsOpening text cores (part.Worker worker) = ⊥
 IsOpening text cores (part.Leaving left) = ⊥
 IsOpening text cores (part.Service opened) = IsNewBank text cores opened
 IsOpening text cores (part.Bank bank) = ⊥
+IsOpening text cores (part.Left gone) = ⊥
 IsOpening text cores part.Gone = ⊥

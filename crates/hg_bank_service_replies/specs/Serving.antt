@@ -79,4 +79,5 @@ PartServes (part.Worker old) core event reply new =
 PartServes (part.Leaving left) core event reply new = IsOther (part.Leaving left) reply new
 PartServes (part.Service opened) core event reply new = IsOther (part.Service opened) reply new
 PartServes (part.Bank bank) core event reply new = IsOther (part.Bank bank) reply new
+PartServes (part.Left gone) core event reply new = IsOther (part.Left gone) reply new
 PartServes part.Gone core event reply new = IsOther part.Gone reply new

@@ -53,5 +53,7 @@ GivesWorker (part.Leaving left) number result new =
     MatchResult result (λ given. ⊥) (λ reply. IsOther (part.Leaving left) reply new)
 GivesWorker (part.Bank bank) number result new =
     MatchResult result (λ given. ⊥) (λ reply. IsOther (part.Bank bank) reply new)
+GivesWorker (part.Left gone) number result new =
+    MatchResult result (λ given. ⊥) (λ reply. IsOther (part.Left gone) reply new)
 GivesWorker part.Gone number result new =
     MatchResult result (λ given. ⊥) (λ reply. IsOther part.Gone reply new)

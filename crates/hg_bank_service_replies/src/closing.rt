@@ -1,9 +1,9 @@
 //! A bank of services becomes a bank.
 
-ghost use Rattle.std.specs.Prelude.{◌≡◌, ◌≢◌, is_none, IfErr, MatchResult};
+ghost use Rattle.std.specs.Prelude.{◌≡◌, ◌≢◌, IfErr, MatchResult};
 ghost use Rattle.std.specs.List.{list_all};
 ghost use Rattle.hg_bank_service_replies.specs.Closing.{AreLetLeave, IsMadeBank, IsUnclosed};
-ghost use Rattle.hg_bank_service_replies.specs.Closing.{PartCloses, PlaceLeaves, told_fault};
+ghost use Rattle.hg_bank_service_replies.specs.Closing.{PartCloses, PlaceLeaves, is_over, told_fault};
 
 use crate::part::{BankPart, OpenBank, Ungiven};
 use hg_bank::Bank;
@@ -76,36 +76,47 @@ fn close_open(alloc: Global, opened: OpenBank) -> Result<Bank, (BankPart, Reply)
 /// The workers that no thread has leave. Whether all did.
 fn let_leave(workers: &mut Vec<Option<Ungiven>>) -> bool
     ensures leave { AreLetLeave workers.old.items workers.new.items }
-    ensures all { result ≡ list_all is_none workers.new.items }
+    ensures all { result ≡ list_all is_over workers.new.items }
 {
     for at in 0..workers.len() {
         let_one_leave(&mut workers[at]);
     }
-    workers.iter().all(|worker| worker.is_none())
+    workers.iter().all(is_over)
 }
 
-/// The worker leaves, if there is one.
+/// The worker leaves, unless it has left.
 fn let_one_leave(place: &mut Option<Ungiven>)
     ensures { PlaceLeaves place.old place.new }
 {
     *place = left_of(place.take());
 }
 
-/// What is left of a worker that is to leave, if there is one.
+/// What is left of a worker that is to leave, unless it has left.
 fn left_of(waiting: Option<Ungiven>) -> Option<Ungiven>
     ensures { PlaceLeaves waiting result }
 {
     match waiting {
-        None => None,
         Some(Ungiven::Ready(worker)) => match worker.leave() {
-            Ok(()) => None,
+            Ok(gone) => Some(Ungiven::Gone(gone)),
             Err(Unleft::Busy(back, _core)) => Some(Ungiven::Ready(back)),
             Err(Unleft::Leaving(left)) => Some(Ungiven::Leaving(left)),
         },
         Some(Ungiven::Leaving(leaving)) => match leaving.leave() {
-            Ok(()) => None,
+            Ok(gone) => Some(Ungiven::Gone(gone)),
             Err(left) => Some(Ungiven::Leaving(left)),
         },
+        other => other,
+    }
+}
+
+/// Whether no worker stands there that is still to leave: it was given to a thread, or it has left.
+fn is_over(place: &Option<Ungiven>) -> bool
+    ensures { result ≡ is_over place.now }
+{
+    match place {
+        Some(Ungiven::Ready(_worker)) => false,
+        Some(Ungiven::Leaving(_left)) => false,
+        _ => true,
     }
 }
 

@@ -1,7 +1,7 @@
 //! A bank worker leaves its bank of services.
 
 ghost use Rattle.hg_bank_service.specs.Leaving.{IsFirstBusy};
-ghost use Rattle.hg_bank_service_replies.specs.Leaving.{GoesOnLeaving, PartLeaves, StaysFor};
+ghost use Rattle.hg_bank_service_replies.specs.Leaving.{LeavingGoesOn, PartLeaves, StaysFor};
 ghost use Rattle.hg_bank_service_replies.specs.Leaving.{WorkerLeaves};
 
 use crate::part::BankPart;
@@ -11,11 +11,12 @@ use hg_reply::Reply;
 use hg_reply::status::{AGAIN, BUSY, CLOSED, DONE, STILL_HELD};
 use std::mem;
 
-/// Gives a worker back to its bank of services: `DONE`, and the part is gone. Where it has something
-/// in some core, it stays as it was, and the reply has the number of the lowest such core: `BUSY` where
-/// it has a block in hand there, or `STILL_HELD` with the lowest segment that it holds there. `AGAIN`
-/// where another call has what it has to put back in a core, or another worker leaves that core just
-/// then: then it is leaving, and only leaves, when it is asked again, or is dropped. Any other part is answered `CLOSED`.
+/// Gives a worker back to its bank of services: `DONE`, and the part is what is left of it. Where it
+/// has something in some core, it stays as it was, and the reply has the number of the lowest such
+/// core: `BUSY` where it has a block in hand there, or `STILL_HELD` with the lowest segment that it
+/// holds there. `AGAIN` where another call has what it has to put back in a core, or another worker
+/// leaves that core just then: then it is leaving, and only leaves, when it is asked again, or is
+/// dropped. Any other part is answered `CLOSED`.
 pub fn leave(part: &mut BankPart) -> Reply
     ensures { PartLeaves part.old result part.new }
 {
@@ -42,7 +43,7 @@ fn leave_worker(worker: BankWorker) -> (BankPart, Reply)
     ensures { WorkerLeaves worker result.1 result.0 }
 {
     match worker.leave() {
-        Ok(()) => (BankPart::Gone, Reply::plain(DONE)),
+        Ok(gone) => (BankPart::Left(gone), Reply::plain(DONE)),
         Err(Unleft::Busy(back, core)) => {
             let why = busy_reply(&back, core);
             (BankPart::Worker(back), why)
@@ -53,10 +54,10 @@ fn leave_worker(worker: BankWorker) -> (BankPart, Reply)
 
 /// What is left of one that is leaving.
 fn go_on_leaving(leaving: Leaving) -> (BankPart, Reply)
-    ensures { GoesOnLeaving leaving result.1 result.0 }
+    ensures { LeavingGoesOn leaving result.1 result.0 }
 {
     match leaving.leave() {
-        Ok(()) => (BankPart::Gone, Reply::plain(DONE)),
+        Ok(gone) => (BankPart::Left(gone), Reply::plain(DONE)),
         Err(left) => (BankPart::Leaving(left), Reply::plain(AGAIN)),
     }
 }

@@ -4,6 +4,7 @@ ghost use Rattle.hg_bank_service_replies.specs.Owned.{AreItsWorkers};
 
 use hg_bank::Bank;
 use hg_bank_service::{BankService, BankWorker, Leaving};
+use hg_hosted::Departed;
 
 /// A part of a bank of services, as its host keeps it.
 #[derive(Drop)]
@@ -16,7 +17,9 @@ pub enum BankPart {
     Service(OpenBank),
     /// The bank that the services became, as long as there is no memory to hand it out.
     Bank(Bank),
-    /// Nothing any more: a worker that has left, or a bank of services that was closed.
+    /// What is left of a worker that has left, in each core.
+    Left(Vec<Departed>),
+    /// Nothing any more: what was given up, or a bank of services that was closed.
     Gone,
 }
 
@@ -24,7 +27,7 @@ pub enum BankPart {
 #[derive(Drop)]
 pub struct OpenBank {
     pub service: BankService,
-    /// By number.
+    /// By number; none where it was given to a thread.
     pub workers: Vec<Option<Ungiven>>,
     ghost own: { AreItsWorkers service workers.items },
 }
@@ -36,4 +39,6 @@ pub enum Ungiven {
     Ready(BankWorker),
     /// It is leaving: in some cores it may have left.
     Leaving(Leaving),
+    /// It has left, in each core.
+    Gone(Vec<Departed>),
 }

@@ -9,8 +9,8 @@ use hg_reply::Reply;
 use hg_reply::status::{CLOSED, NO_WORKER};
 
 /// The worker of a number, for the thread that will be it: `NO_WORKER` where the policy has none of
-/// that number, a thread has it, or it is leaving, and `CLOSED` where the part isn't a bank of
-/// services; then all stays.
+/// that number, a thread has it, or it is leaving or has left, and `CLOSED` where the part isn't a
+/// bank of services; then all stays.
 pub fn take_worker(part: &mut BankPart, number: u32) -> Result<BankWorker, Reply>
     ensures given { GivesWorker part.old number result part.new }
     ensures refused { IfErr result (λ why. why.status ≢ 2) }
@@ -41,10 +41,9 @@ fn taken_from(place: &mut Option<Ungiven>) -> Option<BankWorker>
 {
     match place.take() {
         Some(Ungiven::Ready(worker)) => Some(worker),
-        Some(Ungiven::Leaving(left)) => {
-            *place = Some(Ungiven::Leaving(left));
+        other => {
+            *place = other;
             None
         }
-        None => None,
     }
 }

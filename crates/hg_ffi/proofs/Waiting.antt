@@ -10,4 +10,5 @@ pub closes_gone : (was : HostedPart) (core : Kept) (new : HostedPart) → PartCl
 closes_gone (part.Service service) core new closes = (refl, closes.1)
 closes_gone (part.Core old) core new closes = (refl, closes.1)
 closes_gone (part.Worker worker) core new closes = absurd closes
+closes_gone (part.Left gone) core new closes = absurd closes
 closes_gone part.Gone core new closes = absurd closes

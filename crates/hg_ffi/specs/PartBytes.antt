@@ -47,6 +47,8 @@ PartReadsBytes (part.Service old) actor handle first room reply new told =
     IsOther (part.Service old) reply new × (told ≡ room)
 PartReadsBytes (part.Core old) actor handle first room reply new told =
     IsOther (part.Core old) reply new × (told ≡ room)
+PartReadsBytes (part.Left gone) actor handle first room reply new told =
+    IsOther (part.Left gone) reply new × (told ≡ room)
 PartReadsBytes part.Gone actor handle first room reply new told =
     IsOther part.Gone reply new × (told ≡ room)
 
@@ -59,6 +61,8 @@ PartWritesBytes (part.Service old) actor handle first bytes reply new =
     IsOther (part.Service old) reply new
 PartWritesBytes (part.Core old) actor handle first bytes reply new =
     IsOther (part.Core old) reply new
+PartWritesBytes (part.Left gone) actor handle first bytes reply new =
+    IsOther (part.Left gone) reply new
 PartWritesBytes part.Gone actor handle first bytes reply new = IsOther part.Gone reply new
 
 -- the same of what a host keeps

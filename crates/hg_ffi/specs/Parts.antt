@@ -30,11 +30,12 @@ IsSame old new = (new.mark ≡ old.mark) × (new.part ≡ old.part)
 abbrev pub IsOpen : HostPart → HostedPart → Type 0
 IsOpen host part = (host.mark ≡ part_mark) × (host.part ≡ Some part)
 
--- it is open with what there is, and closed where that is nothing any more
+-- it is open with what there is, and closed where that is a worker that has left or nothing any more
 abbrev pub Keeps : HostedPart → HostPart → Type 0
 Keeps (part.Worker worker) host = IsOpen host (part.Worker worker)
 Keeps (part.Service service) host = IsOpen host (part.Service service)
 Keeps (part.Core core) host = IsOpen host (part.Core core)
+Keeps (part.Left gone) host = host.mark ≢ part_mark
 Keeps part.Gone host = host.mark ≢ part_mark
 
 -- what an open one has changes so

@@ -33,12 +33,13 @@ pub fn taken_part(alloc: Global, host: &mut HostPart) -> Option<Box<HostedPart, 
     }
 }
 
-/// An open one, of what there is; of nothing any more, a closed one.
+/// An open one, of what there is; of a worker that has left or nothing any more, a closed one.
 #[inline(always)]
 pub fn kept(part: Box<HostedPart, Global>) -> HostPart
     ensures { Keeps part.value result }
 {
     match &*part {
+        HostedPart::Left(_gone) => HostPart::closed(),
         HostedPart::Gone => HostPart::closed(),
         _ => HostPart::of(part),
     }

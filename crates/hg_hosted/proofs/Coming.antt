@@ -1,42 +1,26 @@
 -- Who has come to their service.
-use Rattle.std.proofs.Common.{◌≡◌, ◌==◌, ◌||◌, ℕ, zero, suc, Bool, true, false, List, [], ◌∷◌, ◌++◌, Option, None, Some, Box, Global, option_to_list, slice_get, refl, sym, ap, subst, ◌∙◌}
-use Rattle.std.specs.List.{list_any}
-use Rattle.std.proofs.lemmas.Bool.{eq-eqb}
-use Rattle.std.proofs.lemmas.List.{append-nil}
-use Rattle.std.proofs.lemmas.List.Folds.{list_any-append}
+use Rattle.std.proofs.Common.{◌≡◌, ℕ, zero, suc, List, [], ◌∷◌, ◌++◌, Option, None, Some, Box, Global, length, option_to_list, slice_get, refl, sym, ap, subst, ◌∙◌}
+use Rattle.std.proofs.lemmas.List.{append-nil, append_assoc}
 use Rattle.std.proofs.lemmas.Option.{none-some, same_Some}
 use Rattle.atomic_table.specs.Seated.{TableId}
 use Rattle.hg_machine.specs.Policy.{Policy}
 use Rattle.hg_service.proofs.Opened.{each_more}
 use Rattle.hg_worker.specs.States.{IsNamed}
 use Rattle.hg_worker.specs.declared.state.WorkerState.{WorkerState}
-use Rattle.hg_hosted.specs.Coming.{AreNoted, Comers, HaveLeft, StayCome, has_come}
+use Rattle.hg_hosted.specs.Coming.{AreNoted, Comers, HaveLeft, IsMissing, StayCome}
 use Rattle.hg_hosted.specs.Leaving.{IsIdle}
 use Rattle.hg_hosted.specs.Parking.{HasTaken}
 use Rattle.hg_hosted.specs.declared.parts.Left.{Left}
 
-either_true : (b c : Bool) → b ≡ true → (b || c) ≡ true
-either_true true c e = refl
-either_true false c e = absurd (cc)
+-- what stands in a list stands there where more comes behind
+still_at : {X : Type 0} (xs ys : List X) (k : ℕ) (x : X) → slice_get xs k ≡ Some x → slice_get (xs ++ ys) k ≡ Some x
+still_at [] ys k x e = absurd (none-some x e)
+still_at (y ∷ xs) ys zero x e = e
+still_at (y ∷ xs) ys (suc k) x e = still_at xs ys k x e
 
-other_true : (b c : Bool) → c ≡ true → (b || c) ≡ true
-other_true true c e = refl
-other_true false c e = e
-
--- who has come is there still where one more comes, and that one is
-pub come_more : (came : Comers) (own : Box WorkerState Global) → StayCome came (came ++ own ∷ [])
-come_more came own worker e =
-    list_any-append (λ one. one.value.number == worker) came (own ∷ [])
-    ∙ either_true (has_come came worker) (has_come (own ∷ []) worker) e
-
-pub come_there :
-    (came : Comers) (own : Box WorkerState Global)
-    → has_come (came ++ own ∷ []) own.value.number ≡ true
-come_there came own =
-    list_any-append (λ one. one.value.number == own.value.number) came (own ∷ [])
-    ∙ other_true (has_come came own.value.number) (has_come (own ∷ []) own.value.number)
-    (either_true (own.value.number == own.value.number) false
-    (eq-eqb own.value.number own.value.number refl))
+at_end : {X : Type 0} (xs : List X) (x : X) → slice_get (xs ++ x ∷ []) (length xs) ≡ Some x
+at_end [] x = refl
+at_end (y ∷ xs) x = at_end xs x
 
 -- one that has left comes to others
 pub left_more :
@@ -53,12 +37,14 @@ pub noted_still :
     (taken : List Left) (old new : Comers) → StayCome old new → AreNoted taken old
     → AreNoted taken new
 noted_still taken old new stay noted k left own at is =
-    stay own.value.number (noted k left own at is)
+    λ missing. noted k left own at is (λ place there.
+    missing place
+    (subst (λ came. slice_get came place ≡ Some own) (sym stay.goes_on)
+    (still_at old stay.more place own there)))
 
 noted_one :
     (taken : List Left) (came : Comers) (part : Left)
-    → ((own : Box WorkerState Global) → part.state ≡ Some own
-    → has_come came own.value.number ≡ true)
+    → ((own : Box WorkerState Global) → part.state ≡ Some own → ¬ (IsMissing came own))
     → AreNoted taken came → AreNoted (part ∷ taken) came
 noted_one taken came part one noted zero left own at is =
     one own (ap (λ p. p.state) (same_Some part left at) ∙ is)
@@ -69,7 +55,7 @@ pub noted_more :
     (result kept : Option Left) (old new : List Left) (came : Comers)
     → HasTaken result kept old new
     → ((part : Left) (own : Box WorkerState Global) → result ≡ Some part → part.state ≡ Some own
-    → has_come came own.value.number ≡ true)
+    → ¬ (IsMissing came own))
     → AreNoted old came → AreNoted new came
 noted_more result (Some one) old new came taken each noted =
     subst (λ all. AreNoted all came) (sym taken.1) noted
@@ -97,9 +83,17 @@ none_noted taken came empty k left own at is =
 pub come_with :
     (came : Comers) (state : Option (Box WorkerState Global))
     → StayCome came (came ++ option_to_list state)
-come_with came None worker e =
-    subst (λ xs. has_come xs worker ≡ true) (sym (append-nil came)) e
-come_with came (Some own) worker e = come_more came own worker e
+come_with came state = record { more = option_to_list state; goes_on = refl }
+
+-- and where one comes to who came to others
+pub come_then :
+    (old came : Comers) (state : Option (Box WorkerState Global)) → StayCome old came
+    → StayCome old (came ++ option_to_list state)
+come_then old came state stay = record {
+  more = stay.more ++ option_to_list state;
+  goes_on = ap (λ xs. xs ++ option_to_list state) stay.goes_on
+      ∙ append_assoc old stay.more (option_to_list state);
+}
 
 pub left_with :
     {policy : Policy} {table : TableId} (came : Comers) (state : Option (Box WorkerState Global))
@@ -113,8 +107,9 @@ left_with came (Some own) left one = left_more came own left (one own refl)
 
 pub there_with :
     (came : Comers) (state : Option (Box WorkerState Global)) (own : Box WorkerState Global)
-    → state ≡ Some own → has_come (came ++ option_to_list state) own.value.number ≡ true
+    → state ≡ Some own → ¬ (IsMissing (came ++ option_to_list state) own)
 there_with came None own is = absurd (none-some own is)
-there_with came (Some one) own is =
-    subst (λ o. has_come (came ++ one ∷ []) o.value.number ≡ true) (same_Some one own is)
-    (come_there came one)
+there_with came (Some one) own is = λ missing.
+    missing (length came)
+    (subst (λ o. slice_get (came ++ one ∷ []) (length came) ≡ Some o) (same_Some one own is)
+    (at_end came one))

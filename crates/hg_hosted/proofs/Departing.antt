@@ -21,14 +21,16 @@ pub gone_of :
     → worker.state ≡ Some state → HaveSamePlaces worker.shared shared
     → (worker.shared.left.kept ≡ None
     → view shared.left.pass ≡ view worker.shared.left.pass)
+    → (view shared.left.pass).taken ≡ (view worker.shared.left.pass).taken
     → (result : Result Departed HostedWorker)
     → IfOk result (λ gone. Parks state (view shared.left.pass) (view gone.left.pass))
     → IfOk result (λ gone. gone.left.pass.table_id ≡ shared.left.pass.table_id)
     → IfOk result (IsGone worker)
-gone_of worker state shared is same way (Ok gone) parked place = record {
+gone_of worker state shared is same way taken (Ok gone) parked place = record {
   before = view shared.left.pass;
   parked = parked ∙ ap (after (view shared.left.pass)) (sym is);
+  taken = ap (λ (w : Way Left). w.taken) parked ∙ taken;
   was = way;
   place = place ∙ same.left;
 }
-gone_of worker state shared is same way (Err back) parked place = tt
+gone_of worker state shared is same way taken (Err back) parked place = tt

@@ -1,5 +1,5 @@
 -- The workers that have left and come to their service.
-use Rattle.std.specs.Prelude.{◌≡◌, ◌<◌, ◌==◌, ℕ, Bool, true, false, List, Some, Box, slice_get}
+use Rattle.std.specs.Prelude.{◌≡◌, ◌≢◌, ◌<◌, ◌==◌, ◌++◌, ℕ, Bool, true, false, List, Some, Box, slice_get}
 use Rattle.std.specs.Global.{Global}
 use Rattle.std.specs.List.{list_any}
 use Rattle.atomic_table.specs.Seated.{TableId}
@@ -27,9 +27,10 @@ pub record IsFirstOut (policy : Policy) (came : Comers) (worker : ℕ) : Type 0 
   pub out : has_come came worker ≡ false
   pub lower : (other : ℕ) → other < worker → has_come came other ≡ true
 
--- who has come is there still
-abbrev pub StayCome : Comers → Comers → Type 0
-StayCome old new = (worker : ℕ) → has_come old worker ≡ true → has_come new worker ≡ true
+-- who has come is there still, in the state in which it came, and more may stand behind
+pub record StayCome (old new : Comers) : Type 0 where
+  pub more : Comers
+  pub goes_on : new ≡ old ++ more
 
 -- each is of the service with this policy and table, and has left: it holds no segment and has
 -- nothing in hand
@@ -37,8 +38,13 @@ pub record HaveLeft (policy : Policy) (table : TableId) (came : Comers) : Type 0
   pub named : (k : ℕ) (own : _) → slice_get came k ≡ Some own → IsNamed policy table own.value
   pub idle : (k : ℕ) (own : _) → slice_get came k ≡ Some own → IsIdle own.value
 
--- each of these that is a worker is among them
+-- this state is nowhere among them
+abbrev pub IsMissing : Comers → Box WorkerState Global → Type 0
+IsMissing came own = (at : ℕ) → slice_get came at ≢ Some own
+
+-- each of these that is a worker is there, in the state in which it was taken: it isn't so that it is
+-- nowhere
 abbrev pub AreNoted : List Left → Comers → Type 0
 AreNoted taken came =
     (k : ℕ) (left : Left) (own : _) → slice_get taken k ≡ Some left → left.state ≡ Some own
-    → has_come came own.value.number ≡ true
+    → ¬ (IsMissing came own)

@@ -15,17 +15,19 @@ abbrev pub Parks : Box WorkerState Global → Way Left → Way Left → Type 0
 Parks state before after =
     after ≡ has_parked before.known before.taken before.parked (record { state = Some state })
 
--- it was parked, as it was, where its service takes in who has left, and nothing was taken or parked
--- there besides, unless this caller kept a part of that place
+-- it was parked, as it was, where its service takes in who has left, and nothing was taken there, nor
+-- parked besides, unless this caller kept a part of that place
 pub record IsGone (worker : HostedWorker) (gone : Departed) : Type 0 where
   pub before : Way Left
   pub parked :
       view gone.left.pass
       ≡ has_parked before.known before.taken before.parked (record { state = worker.state })
+  pub taken : (view gone.left.pass).taken ≡ (view worker.shared.left.pass).taken
   pub was : worker.shared.left.kept ≡ None → before ≡ view worker.shared.left.pass
   pub place : gone.left.pass.table_id ≡ worker.shared.left.pass.table_id
 
--- it comes back in its state, and its ways lead where they led
+-- it comes back in its state, its ways lead where they led, and it took nobody who has left
 pub record IsBack (old new : HostedWorker) : Type 0 where
   pub state : new.state ≡ old.state
+  pub taken : (view new.shared.left.pass).taken ≡ (view old.shared.left.pass).taken
   pub places : HaveSamePlaces old.shared new.shared

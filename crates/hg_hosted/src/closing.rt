@@ -1,6 +1,6 @@
 //! A service becomes a core.
 
-ghost use Rattle.std.specs.Prelude.{◌≡◌, ◌<◌, ◌==◌, ◌++◌, length, vec_len, vec_capacity};
+ghost use Rattle.std.specs.Prelude.{◌≡◌, ◌<◌, ◌≤◌, ◌==◌, ◌++◌, length, vec_len, vec_capacity};
 ghost use Rattle.std.specs.Prelude.{option_to_list, IfOk, IfErr, MatchOption};
 ghost use Rattle.crossbeam_queue.specs.Passes.{view};
 ghost use Rattle.hg_close.specs.Closed.{IsQuiet};
@@ -146,6 +146,7 @@ fn gather<N: ServiceName>(
     ensures came { StayCome came.old.items came.new.items }
     ensures left { HaveLeft N.policy N.table came.new.items }
     ensures noted { AreNoted (view left.new.pass).taken came.new.items }
+    ensures room { vec_capacity came.old ≤ vec_capacity came.new }
     ensures place { left.new.pass.table_id ≡ left.old.pass.table_id }
 {
     for _ in 0..usize::from(workers) + 1 {
@@ -162,7 +163,8 @@ fn gather<N: ServiceName>(
 /// One who has left comes, if it is a worker.
 fn come_in(came: &mut Vec<Box<WorkerState, Global>>, left: Left)
     requires { vec_len came.old < vec_capacity came.old }
-    ensures { came.new.items ≡ came.old.items ++ option_to_list left.state }
+    ensures come { came.new.items ≡ came.old.items ++ option_to_list left.state }
+    ensures room { vec_capacity came.old ≤ vec_capacity came.new }
 {
     if let Some(state) = left.state {
         came.push_reserved(state);

@@ -49,7 +49,7 @@ impl HostedWorker {
     }
 
     /// Gives the worker back to its service, which takes it in as it was when it closes. It holds no
-    /// segment then and has nothing in hand; else it comes back as it was, and so it does where a
+    /// segment then and has nothing in hand; else it comes back in its state, and so it does where a
     /// call of another keeps what it has to put back. Who lets that go drops the worker, with all
     /// that it holds, and its service closes no more.
     pub fn leave(self) -> Result<Departed, HostedWorker>
@@ -57,6 +57,8 @@ impl HostedWorker {
         ensures gone { IfOk result (IsGone self) }
         ensures back { IfErr result (λ back. back.state ≡ self.state) }
         ensures places { IfErr result (λ back. HaveSamePlaces self.shared back.shared) }
+        ensures taken { IfErr result (λ back. (view back.shared.left.pass).taken
+            ≡ (view self.shared.left.pass).taken) }
     {
         let HostedWorker { state, shared } = self;
         let mut shared = shared;
@@ -84,6 +86,8 @@ fn goes(state: Box<WorkerState, Global>, shared: Shared) -> Result<Departed, Hos
         ≡ shared.left.pass.table_id) }
     ensures back { IfErr result (λ back. back.state ≡ Some state) }
     ensures places { IfErr result (λ back. HaveSamePlaces shared back.shared) }
+    ensures taken { IfErr result (λ back. (view back.shared.left.pass).taken
+        ≡ (view shared.left.pass).taken) }
 {
     let Shared {
         segments,
@@ -117,6 +121,7 @@ fn goes_to(
     ensures home { (view left.old.pass).out ≡ false → (view left.new.pass).out ≡ false }
     ensures gone { IfNone result (Parks state (view left.old.pass) (view left.new.pass)) }
     ensures back { IfSome result (λ back. back ≡ state) }
+    ensures taken { (view left.new.pass).taken ≡ (view left.old.pass).taken }
     ensures place { left.new.pass.table_id ≡ left.old.pass.table_id }
 {
     left.put(Left { state: Some(state) });

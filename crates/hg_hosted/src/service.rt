@@ -1,6 +1,6 @@
 //! A service without names.
 
-ghost use Rattle.std.specs.Prelude.{◌≡◌, Some};
+ghost use Rattle.std.specs.Prelude.{◌≡◌, ◌≤◌, Some, vec_capacity};
 ghost use Rattle.crossbeam_queue.specs.Passes.{view};
 ghost use Rattle.hg_table.specs.Named.{table_of_worker};
 ghost use Rattle.hg_hosted.specs.Coming.{AreNoted, HaveLeft};
@@ -23,6 +23,7 @@ pub struct HostedService {
     ghost home: { AreParked shared },
     ghost left: { HaveLeft policy (table_of_shared shared) came.items },
     ghost noted: { AreNoted (view shared.left.pass).taken came.items },
+    ghost room: { policy.workers ≤ vec_capacity came },
 }
 
 impl HostedService {
@@ -37,6 +38,7 @@ impl HostedService {
         requires home { AreParked shared }
         requires left { HaveLeft N.policy N.table came.items }
         requires noted { AreNoted (view shared.left.pass).taken came.items }
+        requires room { policy.workers ≤ vec_capacity came }
         ensures policy { result.policy ≡ policy }
         ensures shared { result.shared ≡ shared }
         ensures came { result.came ≡ came }

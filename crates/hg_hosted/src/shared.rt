@@ -56,6 +56,7 @@ impl Shared {
         ensures unsettled { IsFalse result → ¬ (IsSettled self.new) }
         ensures left { self.old.left.kept ≡ None
             → view self.new.left.pass ≡ view self.old.left.pass }
+        ensures taken { (view self.new.left.pass).taken ≡ (view self.old.left.pass).taken }
         ensures places { HaveSamePlaces self.old self.new }
     {
         let segments = self.segments.settle();

@@ -1,25 +1,13 @@
 -- Workers that are let leave, one after another.
-use Rattle.std.proofs.Common.{◌≡◌, ℕ, zero, suc, ◌+◌, ◌<◌, ◌≤◌, List, [], ◌∷◌, Some, slice_get, slice_set, arith, below_more, refl, sym, subst, ◌∙◌}
+use Rattle.std.proofs.Common.{◌≡◌, ℕ, zero, suc, ◌+◌, ◌<◌, ◌≤◌, List, [], ◌∷◌, Some, slice_get, slice_set, arith, below_more, sym, subst, ◌∙◌}
 use Rattle.std.proofs.lemmas.Option.{none-some, same_Some}
+use Rattle.hg_hosted.proofs.Reaching.{other_set}
 
 at_set : {X : Type 0} (xs : List X) (i : ℕ) (y x : X) → slice_get (slice_set xs i y) i ≡ Some x → y ≡ x
 at_set [] zero y x e = absurd (none-some _ e)
 at_set [] (suc i) y x e = absurd (none-some _ e)
 at_set (z ∷ zs) zero y x e = same_Some y x e
 at_set (z ∷ zs) (suc i) y x e = at_set zs i y x e
-
-lower_set : {X : Type 0} (xs : List X) (i k : ℕ) (y : X) → k < i → slice_get (slice_set xs i y) k ≡ slice_get xs k
-lower_set [] i k y lt = refl
-lower_set (z ∷ zs) zero k y lt = absurd (omega (arith, lt))
-lower_set (z ∷ zs) (suc i) zero y lt = refl
-lower_set (z ∷ zs) (suc i) (suc k) y lt = lower_set zs i k y (omega (arith, lt))
-
-higher_set : {X : Type 0} (xs : List X) (i k : ℕ) (y : X) → i < k → slice_get (slice_set xs i y) k ≡ slice_get xs k
-higher_set [] i k y lt = refl
-higher_set (z ∷ zs) zero zero y lt = absurd (omega (arith, lt))
-higher_set (z ∷ zs) zero (suc k) y lt = refl
-higher_set (z ∷ zs) (suc i) zero y lt = absurd (omega (arith, lt))
-higher_set (z ∷ zs) (suc i) (suc k) y lt = higher_set zs i k y (omega (arith, lt))
 
 module _ {X : Type 0} (P : X → X → Type 0) (old now : List X) (at : ℕ) (held left : X)
     (there : slice_get now at ≡ Some held) (one : P held left)
@@ -35,10 +23,10 @@ module _ {X : Type 0} (P : X → X → Type 0) (old now : List X) (at : ℕ) (he
       (λ k. (was is : X) → slice_get old k ≡ Some was
       → slice_get (slice_set now at left) k ≡ Some is → P was is) at
       (λ k lt was is before after. each k lt was is before
-      (sym (lower_set now at k left lt) ∙ after))
+      (sym (other_set now at k left (λ same. absurd (omega (arith, lt, same)))) ∙ after))
       (λ was is before after. subst (λ a. P a is)
       (same_Some held was (sym there ∙ rest at (omega arith) ∙ before))
       (subst (P held) (at_set now at left is after) one))
 
   pub rest_next : (k : ℕ) → at + 1 ≤ k → slice_get (slice_set now at left) k ≡ slice_get old k
-  rest_next k le = higher_set now at k left (omega (arith, le)) ∙ rest k (omega (arith, le))
+  rest_next k le = other_set now at k left (λ same. absurd (omega (arith, le, same))) ∙ rest k (omega (arith, le))

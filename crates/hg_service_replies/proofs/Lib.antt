@@ -1,5 +1,5 @@
 mod Staying
-mod LetLeave
-mod Its
-mod Taken
+pub mod LetLeave
+pub mod Its
+pub mod Taken
 mod WordRuns

@@ -31,6 +31,7 @@ has_none (Some handle) place told isnt = both_ways (ap is_some told) isnt
 pub stays_back : (worker : HostedWorker) → IsBack worker worker
 stays_back worker = record {
   state = refl;
+  taken = refl;
   places = record { segments = refl; lists = refl; left = refl };
 }
 

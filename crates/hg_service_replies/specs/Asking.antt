@@ -43,6 +43,7 @@ abbrev pub PartTells : HostedPart → PartQuestion → Reply → Type 0
 PartTells (part.Worker worker) question reply = Has (λ state. reply ≡ state_tells state question) worker
 PartTells (part.Service service) question reply = reply ≡ policy_tells service.service.policy question
 PartTells (part.Core core) question reply = reply ≡ closed
+PartTells (part.Left gone) question reply = reply ≡ closed
 PartTells part.Gone question reply = reply ≡ closed
 
 -- the number that goes by a name in the service's policy; any other part is answered as closed, and
@@ -51,4 +52,5 @@ abbrev pub PartFinds : HostedPart → (Policy → Option ℕ) → Reply → Type
 PartFinds (part.Service service) number reply = reply ≡ named (number service.service.policy)
 PartFinds (part.Worker worker) number reply = reply ≡ valued 64 nobody
 PartFinds (part.Core core) number reply = reply ≡ valued 64 nobody
+PartFinds (part.Left gone) number reply = reply ≡ valued 64 nobody
 PartFinds part.Gone number reply = reply ≡ valued 64 nobody

@@ -15,6 +15,7 @@ abbrev pub DropsWorker : HostedPart → Reply → HostedPart → Type 0
 DropsWorker (part.Worker worker) reply new = Goes reply new
 DropsWorker (part.Service service) reply new = IsOther (part.Service service) reply new
 DropsWorker (part.Core core) reply new = IsOther (part.Core core) reply new
+DropsWorker (part.Left gone) reply new = IsOther (part.Left gone) reply new
 DropsWorker part.Gone reply new = IsOther part.Gone reply new
 
 -- a service is, or the core that it became; any other part is answered as closed, and stays
@@ -22,4 +23,5 @@ abbrev pub DropsService : HostedPart → Reply → HostedPart → Type 0
 DropsService (part.Worker worker) reply new = IsOther (part.Worker worker) reply new
 DropsService (part.Service service) reply new = Goes reply new
 DropsService (part.Core core) reply new = Goes reply new
+DropsService (part.Left gone) reply new = IsOther (part.Left gone) reply new
 DropsService part.Gone reply new = IsOther part.Gone reply new

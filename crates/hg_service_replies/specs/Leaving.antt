@@ -1,6 +1,5 @@
 -- How a worker leaves its service.
-use Rattle.std.specs.Prelude.{◌≡◌, ◌≢◌, ℕ, Option, None, Result}
-use Rattle.std.specs.Prelude.{MatchOption, MatchResult}
+use Rattle.std.specs.Prelude.{◌≡◌, ◌≢◌, ℕ, None, Result, MatchResult}
 use Rattle.hg_hosted.specs.declared.worker.HostedWorker.{HostedWorker}
 use Rattle.hg_hosted.specs.Departing.{IsBack, IsGone}
 use Rattle.hg_hosted.specs.Has.{Has}
@@ -27,15 +26,19 @@ Leaves worker result =
     MatchResult result (λ gone. Has IsIdle worker × IsGone worker gone)
     (λ back. IsBack worker back.0 × StaysFor worker back.1)
 
--- a worker leaves and is gone, or stays; any other part is answered as closed, and stays
-pub record WorkerLeaves (old : HostedWorker) (reply : Reply) (new : HostedPart) : Type 0 where
-  pub back : Option HostedWorker
-  pub either :
-      MatchOption back ((reply ≡ plain 2) × (new ≡ part.Gone) × Has IsIdle old)
-      (λ back. (new ≡ part.Worker back) × IsBack old back × StaysFor old reply)
+-- a worker has left, and its receipt is there, or it stays
+abbrev pub WorkerLeaves : HostedWorker → Reply → HostedPart → Type 0
+WorkerLeaves old reply (part.Left gone) =
+    (reply ≡ plain 2) × Has IsIdle old × IsGone old gone
+WorkerLeaves old reply (part.Worker back) = IsBack old back × StaysFor old reply
+WorkerLeaves old reply (part.Service service) = ⊥
+WorkerLeaves old reply (part.Core core) = ⊥
+WorkerLeaves old reply part.Gone = ⊥
 
+-- any other part is answered as closed, and stays
 abbrev pub PartLeaves : HostedPart → Reply → HostedPart → Type 0
 PartLeaves (part.Worker old) reply new = WorkerLeaves old reply new
 PartLeaves (part.Service service) reply new = IsOther (part.Service service) reply new
 PartLeaves (part.Core core) reply new = IsOther (part.Core core) reply new
+PartLeaves (part.Left gone) reply new = IsOther (part.Left gone) reply new
 PartLeaves part.Gone reply new = IsOther part.Gone reply new

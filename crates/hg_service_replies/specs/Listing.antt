@@ -43,4 +43,6 @@ PartLists (part.Service service) actor room reply new told =
     IsOther (part.Service service) reply new × (told ≡ room)
 PartLists (part.Core core) actor room reply new told =
     IsOther (part.Core core) reply new × (told ≡ room)
+PartLists (part.Left gone) actor room reply new told =
+    IsOther (part.Left gone) reply new × (told ≡ room)
 PartLists part.Gone actor room reply new told = IsOther part.Gone reply new × (told ≡ room)

@@ -39,4 +39,5 @@ PartServes (part.Worker old) event reply new =
     (left : HostedWorker) × (new ≡ part.Worker left) × WorkerServes old event reply left
 PartServes (part.Service service) event reply new = IsOther (part.Service service) reply new
 PartServes (part.Core core) event reply new = IsOther (part.Core core) reply new
+PartServes (part.Left gone) event reply new = IsOther (part.Left gone) reply new
 PartServes part.Gone event reply new = IsOther part.Gone reply new

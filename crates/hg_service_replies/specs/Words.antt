@@ -82,6 +82,8 @@ PartReads (part.Service old) actor handle first room reply new told =
     IsOther (part.Service old) reply new × (told ≡ room)
 PartReads (part.Core old) actor handle first room reply new told =
     IsOther (part.Core old) reply new × (told ≡ room)
+PartReads (part.Left gone) actor handle first room reply new told =
+    IsOther (part.Left gone) reply new × (told ≡ room)
 PartReads part.Gone actor handle first room reply new told =
     IsOther part.Gone reply new × (told ≡ room)
 
@@ -94,4 +96,5 @@ PartWrites (part.Worker old) actor handle first words reply new =
 PartWrites (part.Service old) actor handle first words reply new =
     IsOther (part.Service old) reply new
 PartWrites (part.Core old) actor handle first words reply new = IsOther (part.Core old) reply new
+PartWrites (part.Left gone) actor handle first words reply new = IsOther (part.Left gone) reply new
 PartWrites part.Gone actor handle first words reply new = IsOther part.Gone reply new

@@ -1,16 +1,16 @@
 //! A service becomes a core.
 
-ghost use Rattle.std.specs.Prelude.{◌≡◌, ◌≢◌, is_none, IfErr, MatchResult};
+ghost use Rattle.std.specs.Prelude.{◌≡◌, ◌≢◌, IfErr, MatchResult};
 ghost use Rattle.std.specs.List.{list_all};
 ghost use Rattle.hg_close.specs.Closed.{IsQuiet};
-ghost use Rattle.hg_service_replies.specs.Closing.{AreLetLeave, IsUnclosed, PartCloses};
+ghost use Rattle.hg_service_replies.specs.Closing.{AreLetLeave, IsUnclosed, PartCloses, is_over};
 ghost use Rattle.hg_service_replies.specs.Closing.{PlaceLeaves, told_fault};
 
 use crate::leaving::leave_one;
-use crate::part::{HostedPart, OpenService};
+use crate::part::{HostedPart, OpenService, Ungiven};
 use hg_close::CloseFault;
 use hg_core::Core;
-use hg_hosted::{HostedUnclosed, HostedWorker};
+use hg_hosted::HostedUnclosed;
 use hg_reply::Reply;
 use hg_reply::status::{AGAIN, CLOSED, LOST, NO_MEMORY, STILL_HELD, STILL_OUT};
 use std::alloc::Global;
@@ -69,24 +69,43 @@ fn close_open(alloc: Global, opened: OpenService) -> Result<Core, (HostedPart, R
 }
 
 /// The workers that no thread has leave. Whether all did.
-fn let_leave(workers: &mut Vec<Option<HostedWorker>>) -> bool
+fn let_leave(workers: &mut Vec<Option<Ungiven>>) -> bool
     ensures leave { AreLetLeave workers.old.items workers.new.items }
-    ensures all { result ≡ list_all is_none workers.new.items }
+    ensures all { result ≡ list_all is_over workers.new.items }
 {
     for at in 0..workers.len() {
         let_one_leave(&mut workers[at]);
     }
-    workers.iter().all(|worker| worker.is_none())
+    workers.iter().all(is_over)
 }
 
-/// The worker leaves, if there is one.
-fn let_one_leave(place: &mut Option<HostedWorker>)
+/// The worker leaves, if one stands ready.
+fn let_one_leave(place: &mut Option<Ungiven>)
     ensures { PlaceLeaves place.old place.new }
 {
-    if let Some(worker) = place.take() {
-        if let Err((back, _why)) = leave_one(worker) {
-            *place = Some(back);
-        }
+    *place = left_of(place.take());
+}
+
+/// What is left of a worker that is to leave, if one stands ready.
+fn left_of(waiting: Option<Ungiven>) -> Option<Ungiven>
+    ensures { PlaceLeaves waiting result }
+{
+    match waiting {
+        Some(Ungiven::Ready(worker)) => match leave_one(worker) {
+            Ok(gone) => Some(Ungiven::Gone(gone)),
+            Err((back, _why)) => Some(Ungiven::Ready(back)),
+        },
+        other => other,
+    }
+}
+
+/// Whether no worker stands ready there: it was given to a thread, or it has left.
+fn is_over(place: &Option<Ungiven>) -> bool
+    ensures { result ≡ is_over place.now }
+{
+    match place {
+        Some(Ungiven::Ready(_worker)) => false,
+        _ => true,
     }
 }
 

@@ -8,15 +8,19 @@ use hg_reply::Reply;
 use hg_reply::status::{AGAIN, BUSY, CLOSED, DONE, STILL_HELD};
 use std::mem;
 
-/// Gives a worker back to its service: `DONE`, and the part is gone. `BUSY` where it has a block in
-/// hand, `STILL_HELD` with the lowest segment that it holds, and `AGAIN` where another call has what
-/// the worker has to put back; then it stays as it was. Any other part is answered `CLOSED`.
+/// Gives a worker back to its service: `DONE`, and the part is what is left of it. `BUSY` where it
+/// has a block in hand, `STILL_HELD` with the lowest segment that it holds, and `AGAIN` where another
+/// call has what the worker has to put back; then it stays as it was. Any other part is answered
+/// `CLOSED`.
 pub fn leave(part: &mut HostedPart) -> Reply
     ensures { PartLeaves part.old result part.new }
 {
     match mem::replace(part, HostedPart::Gone) {
         HostedPart::Worker(worker) => match leave_one(worker) {
-            Ok(_gone) => Reply::plain(DONE),
+            Ok(gone) => {
+                *part = HostedPart::Left(gone);
+                Reply::plain(DONE)
+            }
             Err((back, why)) => {
                 *part = HostedPart::Worker(back);
                 why

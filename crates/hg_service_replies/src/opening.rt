@@ -5,7 +5,7 @@ ghost use Rattle.hg_policy_text.specs.Document.{document_of};
 ghost use Rattle.hg_policy_text.specs.Faults.{FailsAs, fault_of};
 ghost use Rattle.hg_service_replies.specs.Opening.{IsOpening};
 
-use crate::part::{HostedPart, OpenService};
+use crate::part::{HostedPart, OpenService, Ungiven};
 use hg_hosted::HostedService;
 use hg_policy_text::{PolicyFault, read_policy};
 use std::alloc::Global;
@@ -20,7 +20,7 @@ pub fn open(alloc: Global, text: &[u8]) -> Result<HostedPart, PolicyFault>
     let (service, workers) = HostedService::open(alloc, policy)?;
     let workers = workers
         .into_iter()
-        .map(|worker| Some(worker))
+        .map(|worker| Some(Ungiven::Ready(worker)))
         .collect(alloc)?;
     Ok(HostedPart::Service(OpenService { service, workers }))
 }

@@ -3,7 +3,7 @@
 ghost use Rattle.hg_service_replies.specs.Owned.{AreItsWorkers};
 
 use hg_core::Core;
-use hg_hosted::{HostedService, HostedWorker};
+use hg_hosted::{Departed, HostedService, HostedWorker};
 
 /// A part of a service, as its host keeps it.
 #[derive(Drop)]
@@ -14,7 +14,9 @@ pub enum HostedPart {
     Service(OpenService),
     /// The core that a service became, as long as there is no memory to hand it out.
     Core(Core),
-    /// Nothing any more: a worker that has left, or a service that was closed.
+    /// What is left of a worker that has left.
+    Left(Departed),
+    /// Nothing any more: what was given up, or a service that was closed.
     Gone,
 }
 
@@ -22,7 +24,16 @@ pub enum HostedPart {
 #[derive(Drop)]
 pub struct OpenService {
     pub service: HostedService,
-    /// By number.
-    pub workers: Vec<Option<HostedWorker>>,
+    /// By number; none where it was given to a thread.
+    pub workers: Vec<Option<Ungiven>>,
     ghost own: { AreItsWorkers service workers.items },
+}
+
+/// A worker that no thread has.
+#[derive(Drop)]
+pub enum Ungiven {
+    /// It stands ready for its thread.
+    Ready(HostedWorker),
+    /// It has left.
+    Gone(Departed),
 }

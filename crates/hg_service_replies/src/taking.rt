@@ -1,15 +1,16 @@
 //! A thread becomes a worker.
 
 ghost use Rattle.std.specs.Prelude.{◌≢◌, IfErr, MatchOption};
-ghost use Rattle.hg_service_replies.specs.Taking.{GivesWorker, IsNone, IsTaken};
+ghost use Rattle.hg_service_replies.specs.Taking.{GivesWorker, IsNone, IsTaken, Takes};
 
-use crate::part::HostedPart;
+use crate::part::{HostedPart, Ungiven};
 use hg_hosted::HostedWorker;
 use hg_reply::Reply;
 use hg_reply::status::{CLOSED, NO_WORKER};
 
 /// The worker of a number, for the thread that will be it: `NO_WORKER` where the policy has none of
-/// that number or a thread has it, and `CLOSED` where the part isn't a service; then all stays.
+/// that number, a thread has it or it has left, and `CLOSED` where the part isn't a service; then all
+/// stays.
 pub fn take_worker(part: &mut HostedPart, number: u32) -> Result<HostedWorker, Reply>
     ensures given { GivesWorker part.old number result part.new }
     ensures refused { IfErr result (λ why. why.status ≢ 2) }
@@ -23,13 +24,26 @@ pub fn take_worker(part: &mut HostedPart, number: u32) -> Result<HostedWorker, R
     }
 }
 
-/// The worker of a number, if it is there.
-fn taken(workers: &mut Vec<Option<HostedWorker>>, number: u32) -> Option<HostedWorker>
+/// The worker of a number, if it stands ready.
+fn taken(workers: &mut Vec<Option<Ungiven>>, number: u32) -> Option<HostedWorker>
     ensures { MatchOption result (IsNone workers.old.items number workers.new.items)
         (λ worker. IsTaken workers.old.items number worker workers.new.items) }
 {
     let Some(place) = workers.get_mut(number as usize) else {
         return None;
     };
-    place.take()
+    taken_from(place)
+}
+
+/// The worker of a place, if one stands ready there.
+fn taken_from(place: &mut Option<Ungiven>) -> Option<HostedWorker>
+    ensures { Takes place.old result place.new }
+{
+    match place.take() {
+        Some(Ungiven::Ready(worker)) => Some(worker),
+        other => {
+            *place = other;
+            None
+        }
+    }
 }

@@ -1,4 +1,4 @@
-use Rattle.std.proofs.Common.{◌<◌, length, replicate, sym, subst}
+use Rattle.std.proofs.Common.{◌<◌, length, replicate, rules, sym, subst}
 use Rattle.hg_machine.specs.Policy.{Policy}
 use Rattle.hg_bank_service.specs.Has.{AreNumbered}
 use Rattle.hg_bank_service.specs.Sums.{AreSums}
@@ -19,4 +19,6 @@ invariant_of-result c =
       there = λ arena. firsts_there (length items) arena c.requires.some;
       counted = subst (λ (p : Policy). AreSums (length p.tenants) (replicate 64 0) items) same
           (new_sums policy c.args.number items c.requires.new);
+      here = search rules;
+      room = search rules;
     }

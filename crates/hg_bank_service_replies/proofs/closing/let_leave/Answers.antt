@@ -1,7 +1,7 @@
 use Rattle.std.proofs.Common.{Some, ap, sym, ◌∙◌, rules}
 use Rattle.std.proofs.lemmas.Option.{slice_get-get_or}
 use Rattle.hg_bank_service_replies.specs.Closing.{PlaceLeaves}
-use Rattle.hg_bank_service_replies.proofs.LetLeave.{each_next, rest_next}
+use Rattle.hg_service_replies.proofs.LetLeave.{each_next, rest_next}
 use Rattle.hg_bank_service_replies.proofs.closing.let_leave.Goals as goal
 
 pub loop-at-preserved : goal.loop-at-preserved

@@ -1,9 +1,9 @@
-use Rattle.std.proofs.Common.{◌≡◌, ◌++◌, ◌∙◌, None, Some, option_to_list, true, ap, sym, subst, rules}
+use Rattle.std.proofs.Common.{◌≡◌, ◌++◌, ◌∙◌, None, Some, option_to_list, ap, sym, subst, rules}
 use Rattle.std.proofs.lemmas.Option.{none-some, same_Some}
 use Rattle.crossbeam_queue.specs.Passes.{view}
-use Rattle.hg_hosted.specs.Coming.{AreNoted, HaveLeft, has_come}
+use Rattle.hg_hosted.specs.Coming.{AreNoted, HaveLeft, StayCome}
 use Rattle.hg_hosted.specs.Parking.{KnowsName}
-use Rattle.hg_hosted.proofs.Coming.{come_with, left_with, noted_more, noted_still, there_with}
+use Rattle.hg_hosted.proofs.Coming.{come_then, come_with, left_with, noted_more, noted_still, there_with}
 use Rattle.hg_hosted.proofs.Named.{comes_of}
 use Rattle.hg_hosted.proofs.closing.gather.Goals as goal
 
@@ -27,8 +27,8 @@ loop-preserved g c =
     record {
       known = c.take.ensures.known ∙ before.known;
       kept = λ part is. absurd (none-some part (sym c.take.ensures.kept ∙ is));
-      came = λ worker e. subst (λ xs. has_come xs worker ≡ true) (sym now)
-          (come_with came one.state worker (before.came worker e));
+      came = subst (StayCome c.args.came.now.items) (sym now)
+          (come_then _ came one.state before.came);
       left = subst (HaveLeft g.N.ServiceName.policy g.N.TableName.table) (sym now)
           (left_with came one.state before.left
           (λ own is. comes_of _ knows c.in-Some.ensures.part own is));
@@ -37,5 +37,6 @@ loop-preserved g c =
           (λ part own is state. there_with came one.state own
           (ap (λ p. p.state) (same_Some one part (sym there ∙ is)) ∙ state))
           (noted_still _ came all (come_with came one.state) before.noted));
+      room = search rules;
       place = c.take.ensures.place ∙ before.place;
     }

@@ -1,4 +1,4 @@
-use Rattle.std.proofs.Common.{◌≡◌}
+use Rattle.std.proofs.Common.{◌≡◌, ◌≤◌, vec_capacity}
 use Rattle.crossbeam_queue.specs.Passes.{view}
 use Rattle.hg_hosted.specs.Coming.{AreNoted, HaveLeft, StayCome}
 use Rattle.hg_hosted.specs.Parking.{FitsKept}
@@ -12,5 +12,6 @@ invariant-loop g l = record {
   came : StayCome l.fn.came.items l.came.items;
   left : HaveLeft g.N.ServiceName.policy g.N.TableName.table l.came.items;
   noted : AreNoted (view l.left.pass).taken l.came.items;
+  room : vec_capacity l.fn.came ≤ vec_capacity l.came;
   place : l.left.pass.table_id ≡ l.fn.left.pass.table_id;
 }

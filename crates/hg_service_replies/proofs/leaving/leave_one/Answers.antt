@@ -15,7 +15,11 @@ returns-in-Some c = (
 
 pub returns-in-Err : goal.returns-in-Err
 returns-in-Err c = (
-  record { state = c.in-Err.ensures.back; places = c.in-Err.ensures.places },
+  record {
+    state = c.in-Err.ensures.back;
+    taken = c.in-Err.ensures.taken;
+    places = c.in-Err.ensures.places;
+  },
   for_others _ _ (λ own at. has_none own.value.hand c.hand.result (c.hand.ensures own at) (sym c.is_some.ensures ∙ c.if-is_some.false))
       c.in_default.ensures c.plain-in-Err.ensures,
 )

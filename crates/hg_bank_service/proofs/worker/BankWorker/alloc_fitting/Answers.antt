@@ -16,6 +16,8 @@ invariant_of-self-2 c =
       of = c.next_with_place.ensures.of;
       there = served_there old.currents _ old.there c.in-Some.ensures.ends;
       counted = c.next_with_place.ensures.counted;
+      here = old.here;
+      room = omega (arith, long, old.room);
     }
 
 pub returns : goal.returns

@@ -30,6 +30,8 @@ invariant_of-self c =
       of = k.of;
       there = k.there;
       counted = k.counted;
+      here = k.here;
+      room = k.room;
     }
 
 pub returns-then-from-len : goal.returns-then-from-len

@@ -22,6 +22,8 @@ invariant_of-self c =
       of = k.of;
       there = k.there;
       counted = k.counted;
+      here = k.here;
+      room = k.room;
     }
 
 pub returns : goal.returns

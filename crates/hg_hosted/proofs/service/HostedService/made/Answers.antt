@@ -18,4 +18,5 @@ invariant_of-result g c = record {
       (subst (λ (p : Policy). HaveLeft p g.N.TableName.table c.args.came.items)
       (sym c.requires.policy) c.requires.left);
   noted = c.requires.noted;
+  room = c.requires.room;
 }

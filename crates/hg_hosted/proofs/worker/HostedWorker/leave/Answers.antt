@@ -19,4 +19,4 @@ goes-requires-clause-of c =
 pub returns-clause-gone : goal.returns-clause-gone
 returns-clause-gone c =
     gone_of c.args.self c.in-Some.state c.settle.new.self (search rules) c.settle.ensures.places
-    c.settle.ensures.left c.goes.result c.goes.ensures.gone c.goes.ensures.gone_place
+    c.settle.ensures.left c.settle.ensures.taken c.goes.result c.goes.ensures.gone c.goes.ensures.gone_place
