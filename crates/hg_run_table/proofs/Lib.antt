@@ -9,3 +9,4 @@ pub mod Endings
 pub mod WorkerSteps
 pub mod NamedSteps
 pub mod FreedLemmas
+pub mod NewSeatsLemmas

@@ -9,3 +9,4 @@ pub mod Calls
 pub mod Picks
 pub mod JoinedCalls
 pub mod FreedOnce
+pub mod NewSeats

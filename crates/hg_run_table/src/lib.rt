@@ -8,6 +8,7 @@ mod decision;
 mod joined_calls;
 pub mod laws;
 mod named_calls;
+mod opening;
 mod part;
 mod plays;
 mod rule;
@@ -16,6 +17,7 @@ mod table;
 
 pub use call::{HandAndList, OtherPart, OwnCall, WorkerAndList, WorkerAndPool, WorkerCall};
 pub use decision::{CutAt, Decision};
+pub use opening::RunSeats;
 pub use part::{Part, PartName, SeatView, Witness};
 pub use rule::{RunRule, Words};
 pub use table::{RunSeat, RunTable};

@@ -1,4 +1,4 @@
-//! A table that keeps one run of all calls: made, cut, joined and closed.
+//! A table that keeps one run of all calls: made, opened, cut, joined and closed.
 #![tactic(auto)]
 
 #[cfg(test)]
@@ -7,3 +7,5 @@ mod parts;
 mod policies;
 #[cfg(test)]
 mod refused;
+#[cfg(test)]
+mod seats;
