@@ -29,14 +29,15 @@ module _ {M C W P : Type 0} (x : Service M C W P) where
     beyond = λ name far. refl;
   }
 
-  -- a step of the seat id, which has this view
+  -- a step of the seat id, which has this view, from the state to which the history has come
   module _ (shared after : W) (views : List (List P)) (id : ℕ) (view : List P) (made : List (ℕ × C))
       (f : P → P)
       (r : IsOneRun x shared views) (at : IsIn views id view)
-      (step : Decides x made shared after view f) where
-    moves : Moves x r.state made after view f
-    moves = step.moves r.state r.shown (λ j a e. r.agrees id j a (view, at, e))
-
+      (names : (j : ℕ) (part : P) → IsIn view j part → x.name (f part) ≡ x.name part)
+      (logs : (j : ℕ) (part : P) → IsIn view j part
+      → x.log (f part) ≡ x.log part ++ log_of (x.name part) made)
+      (own : (name : ℕ) → IsStranger x view name → log_of name made ≡ [])
+      (moves : Moves x r.state made after view f) where
     abbrev history' : List (ℕ × C)
     history' = r.history ++ made
 
@@ -64,7 +65,7 @@ module _ {M C W P : Type 0} (x : Service M C W P) where
         (λ (t : Mine i j b). (
           t.1,
           subst (λ (z : ℕ). Stands views z j t.1) (sym t.0) (view, at, t.2),
-          sym (step.names j t.1 t.2) ∙ ap x.name t.3,
+          sym (names j t.1 t.2) ∙ ap x.name t.3,
         ))
         (λ (t : Other i j b). (b, t.1, refl))
 
@@ -76,10 +77,10 @@ module _ {M C W P : Type 0} (x : Service M C W P) where
     mine_logs i j b t =
         let a = t.1 in
         subst (λ (z : P). log_of (x.name z) history' ≡ x.log z) t.3
-        (subst (λ (n : ℕ). log_of n history' ≡ x.log (f a)) (sym (step.names j a t.2))
+        (subst (λ (n : ℕ). log_of n history' ≡ x.log (f a)) (sym (names j a t.2))
         (log_append (x.name a) r.history made
         ∙ ap (λ (l : List C). l ++ log_of (x.name a) made) (r.logs id j a (view, at, t.2))
-        ∙ sym (step.logs j a t.2)))
+        ∙ sym (logs j a t.2)))
 
     -- who has made none of the calls has the log that it had
     kept_log : (name : ℕ) (log : List C) → log_of name made ≡ [] → log_of name r.history ≡ log
@@ -88,8 +89,8 @@ module _ {M C W P : Type 0} (x : Service M C W P) where
         log_append name r.history made ∙ ap (λ (l : List C). log_of name r.history ++ l) none
         ∙ append-nil (log_of name r.history) ∙ is
 
-    pub decided : IsOneRun x after (set views id (map f view))
-    decided = record {
+    pub moved_on : IsOneRun x after (set views id (map f view))
+    moved_on = record {
       history = history';
       state = moves.new;
       legal = run_append x.Steps x.start r.state moves.new r.history made r.legal moves.run;
@@ -100,7 +101,7 @@ module _ {M C W P : Type 0} (x : Service M C W P) where
           (stood i j b has);
       logs = λ i j b has. ⊎_elim (mine_logs i j b)
           (λ (t : Other i j b).
-          kept_log (x.name b) (x.log b) (step.own (x.name b) (strange i j b t)) (r.logs i j b t.1))
+          kept_log (x.name b) (x.log b) (own (x.name b) (strange i j b t)) (r.logs i j b t.1))
           (stood i j b has);
       one_part = λ i j k l y z hy hz e.
           let by = was i j y (stood i j y hy) in
@@ -111,9 +112,16 @@ module _ {M C W P : Type 0} (x : Service M C W P) where
           subst (λ (z : ℕ). z < x.count) o.2 (r.below i j o.0 o.1);
       beyond = λ name far.
           kept_log name []
-          (step.own name (λ k a e is. let l = r.below id k a (view, at, e) in absurd (omega arith)))
+          (own name (λ k a e is. let l = r.below id k a (view, at, e) in absurd (omega arith)))
           (r.beyond name far);
     }
+
+  pub decided : (shared after : W) (views : List (List P)) (id : ℕ) (view : List P)
+      (made : List (ℕ × C)) (f : P → P) → IsOneRun x shared views → IsIn views id view
+      → Decides x made shared after view f → IsOneRun x after (set views id (map f view))
+  decided shared after views id view made f r at step =
+      moved_on shared after views id view made f r at step.names step.logs step.own
+      (step.moves r.state r.shown (λ j a e. r.agrees id j a (view, at, e)))
 
   pub ended : (shared : W) (views : List (List P)) (i : ℕ) (view : List P) → IsOneRun x shared views
       → IsIn views i view → HasAll x view → IsWhole x shared view

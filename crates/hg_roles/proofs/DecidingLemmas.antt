@@ -35,7 +35,7 @@ pub log_other : (n k : ℕ) (call : Call) → n ≢ k → log_of k ((n, call) �
 log_other n k call differ = rw (ne_eqb n k differ) refl
 
 -- what agrees with a word agrees without one
-unseen : (m : State) (view : View) (shown : Option Shown) → Agrees m view shown → Agrees m view None
+pub unseen : (m : State) (view : View) (shown : Option Shown) → Agrees m view shown → Agrees m view None
 unseen m view shown h = record {
   sound = h.sound;
   policy = h.policy;
@@ -47,7 +47,7 @@ unseen m view shown h = record {
   word = tt;
 }
 
-seeing : (m : State) (view : View) (place word : ℕ) → Agrees m view None
+pub seeing : (m : State) (view : View) (place word : ℕ) → Agrees m view None
     → IsShownBy (record_at m place) word
     → Agrees m view (Some (record { place = place; word = word }))
 seeing m view place word h shows = record {

@@ -1,5 +1,5 @@
 -- Two states that agree with one role agree with the same roles of its name.
-use Rattle.std.proofs.Common.{◌≡◌, ℕ, ◌==◌, true, false, List, None, refl, sym, ap, subst, ◌∙◌}
+use Rattle.std.proofs.Common.{◌≡◌, ℕ, ◌==◌, true, List, None, refl, sym, ap, subst, ◌∙◌}
 use Rattle.std.proofs.Common.{arith}
 use Rattle.std.specs.List.{count_by}
 use Rattle.std.proofs.lemmas.Bool.{true≢false}

@@ -14,10 +14,11 @@ use Rattle.hg_roles.specs.Roles.{Call, Role}
 use Rattle.hg_roles.specs.Served.{places_of_policy}
 use Rattle.hg_table.specs.LifeRule.{LifeRule}
 use Rattle.hg_table.specs.Steps.{WordStep, look, open_as, close_from, part_from, take_home, left_by}
-use Rattle.hg_table.specs.Steps.{known_after, MayMake}
+use Rattle.hg_table.specs.Steps.{known_after, view_after, MayMakeBy}
 use Rattle.hg_table.specs.Told.{IsShownTo}
 use Rattle.hg_table.specs.View as lives
-use Rattle.hg_table.proofs.WordSteps.{shown_to, keeps_rule, after}
+use Rattle.hg_table.proofs.Cuts.{are_apart}
+use Rattle.hg_table.proofs.WordSteps.{shown_to, keeps_rule, keeps_rule_by, after}
 use Rattle.hg_run_table.specs.declared.part.Part.{Part}
 use Rattle.hg_run_table.specs.declared.part.SeatView.{SeatView}
 use Rattle.hg_run_table.specs.Owing.{DecidesAt, DecidesAlone}
@@ -52,57 +53,57 @@ set_both policy words homes views id new good one = record {
 }
 
 -- an exchange leaves what it should
-exchange_is : (old w : ℕ) → left_by (close_from old) w ≡ either (eqb w old) (old - 1) w
+pub exchange_is : (old w : ℕ) → left_by (close_from old) w ≡ either (eqb w old) (old - 1) w
 exchange_is old w =
     exchanged w old (old - 1) (λ z. left_by (close_from old) w ≡ z)
     (λ hit. rw (eq-eqb w old hit) refl) (λ miss. rw (ne_eqb w old miss) refl)
 
 module _ (policy : Policy) (slots id : ℕ) (me : Mine) where
-  lives_at : (views : List SeatView) → get_elem? views id ≡ some me.0
+  pub lives_at : (views : List SeatView) → get_elem? views id ≡ some me.0
       → get_elem? (known views) id ≡ some me.0.lives
   lives_at views at = map_at (λ (v : SeatView). v.lives) views id me.0 at
 
-  run_at : (views : List SeatView) → get_elem? views id ≡ some me.0
+  pub run_at : (views : List SeatView) → get_elem? views id ≡ some me.0
       → get_elem? (runs views) id ≡ some me.0.run
   run_at views at = map_at (λ (v : SeatView). v.run) views id me.0 at
 
-  shown : (s : Table) → KeepsBoth policy s → get_elem? s.views id ≡ some me.0 → (at : ℕ)
+  pub shown : (s : Table) → KeepsBoth policy s → get_elem? s.views id ≡ some me.0 → (at : ℕ)
       → IsShownTo at (get_or s.words at 0) me.0.lives
   shown s r seat at =
       shown_to (places_of_policy policy) (lives_of s) r.lives at id me.0.lives
       (lives_at s.views seat)
 
   module _ (at : ℕ) (inside : at < places_of_policy policy + 1) where
-    -- the life rule after a step
-    stepped_lives : (kind : WordStep) → MayMake kind at me.0.lives → (s : Table)
+    -- the life rule after a step by one of the parts
+    pub stepped_lives : (by : ℕ) (kind : WordStep) → MayMakeBy by kind at me.0.lives → (s : Table)
         → KeepsBoth policy s → get_elem? s.views id ≡ some me.0
         → LifeRule (places_of_policy policy)
         (after (lives_of s) at (left_by kind (get_or s.words at 0)) id
-        (map (known_after kind at (get_or s.words at 0)) me.0.lives))
-    stepped_lives kind may s r seat =
+        (view_after by kind at (get_or s.words at 0) me.0.lives))
+    stepped_lives by kind may s r seat =
+        keeps_rule_by (places_of_policy policy) (lives_of s) r.lives at id me.0.lives
+        (lives_at s.views seat) inside by kind may
+
+    -- and after a look
+    pub seen_lives : (s : Table) → KeepsBoth policy s → get_elem? s.views id ≡ some me.0
+        → LifeRule (places_of_policy policy)
+        (after (lives_of s) at (get_or s.words at 0) id
+        (map (known_after look at (get_or s.words at 0)) me.0.lives))
+    seen_lives s r seat =
         keeps_rule (places_of_policy policy) (lives_of s) r.lives at id me.0.lives
-        (lives_at s.views seat) inside kind may
+        (lives_at s.views seat) inside look tt
 
     -- a load that decides nothing
-    quiet : (kind : WordStep) → ((w : ℕ) → left_by kind w ≡ w) → MayMake kind at me.0.lives
-        → (s : Table) → KeepsBoth policy s → get_elem? s.views id ≡ some me.0
+    quiet : (view : lives.View) → (s : Table) → KeepsBoth policy s → get_elem? s.views id ≡ some me.0
+        → LifeRule (places_of_policy policy) (after (lives_of s) at (get_or s.words at 0) id view)
         → KeepsBoth policy
-        (stepped s at (get_or s.words at 0) id me.1
-        (record {
-          lives = map (known_after kind at (get_or s.words at 0)) me.0.lives;
-          run = me.0.run;
-        })
-        keeps)
-    quiet kind same may s r seat =
+        (stepped s at (get_or s.words at 0) id me.1 (record { lives = view; run = me.0.run }) keeps)
+    quiet view s r seat good =
         let w : ℕ = get_or s.words at 0 in
         set_both policy (set s.words at w) s.homes s.views id
-        (record { lives = map (known_after kind at w) me.0.lives; run = me.0.run })
+        (record { lives = view; run = me.0.run }) good
         (subst
-        (λ z.
-        LifeRule (places_of_policy policy)
-        (after (lives_of s) at z id (map (known_after kind at w) me.0.lives)))
-        (same w) (stepped_lives kind may s r seat))
-        (subst (λ (z : List ℕ × List (List Part)). IsOneRun (seated policy) z.0 z.1)
+        (λ (z : List ℕ × List (List Part)). IsOneRun (seated policy) z.0 z.1)
         (λ k. (
           sym (set-get_or s.words at 0) k,
           sym (set_again (runs s.views) id me.0.run (run_at s.views seat)) k,
@@ -112,57 +113,59 @@ module _ (policy : Policy) (slots id : ℕ) (me : Mine) where
     pub looks : (a b : ℕ)
         → Allows (KeepsBoth policy) slots id me at (λ w. w) (looked (step slots at a b none) me)
     looks a b s r _ seat _ =
-        let w : ℕ = get_or s.words at 0 in (
-          record { lives = map (known_after look at w) me.0.lives; run = me.0.run },
+        let w : ℕ = get_or s.words at 0 in
+        let view : lives.View = map (known_after look at w) me.0.lives in (
+          record { lives = view; run = me.0.run },
           keeps,
           tt,
-          quiet look (λ w. refl) tt s r seat,
-          ((shown s r seat at, refl, refl), refl),
+          quiet view s r seat (seen_lives s r seat),
+          ((shown s r seat at, refl, refl), refl, are_apart (places_of_policy policy) (lives_of s) r.lives id me.0.lives (lives_at s.views seat)),
         )
 
-    pub takes : (a b : ℕ) → MayMake take_home at me.0.lives
-        → Allows (KeepsBoth policy) slots id me at (λ w. w) (took (step slots at a b none) me)
-    takes a b may s r _ seat _ =
-        let w : ℕ = get_or s.words at 0 in (
-          record { lives = map (known_after take_home at w) me.0.lives; run = me.0.run },
+    pub takes : (by a b : ℕ) → MayMakeBy by take_home at me.0.lives
+        → Allows (KeepsBoth policy) slots id me at (λ w. w) (took by (step slots at a b none) me)
+    takes by a b may s r _ seat _ =
+        let w : ℕ = get_or s.words at 0 in
+        let view : lives.View = view_after by take_home at w me.0.lives in (
+          record { lives = view; run = me.0.run },
           keeps,
           tt,
-          quiet take_home (λ w. refl) may s r seat,
+          quiet view s r seat (stepped_lives by take_home may s r seat),
           ((shown s r seat at, refl, refl), refl),
         )
 
     module _ (roles : List Role) (made : ℕ → List (ℕ × Call)) (change : ℕ → Role → Role)
         (has : HaveRoles me.0.run roles) where
       -- a view with which both rules are kept
-      record Kept (s : Table) (later : List ℕ) (kind : WordStep) (found : ℕ) : Type 0 where
+      record Kept (s : Table) (later : List ℕ) (found : ℕ) (view : lives.View) : Type 0 where
         pub run : List Part
         pub both :
             KeepsBoth policy
             (record {
               words = later;
               homes = s.homes;
-              views = set s.views id
-                  (record { lives = map (known_after kind at found) me.0.lives; run = run });
+              views = set s.views id (record { lives = view; run = run });
             })
         pub have : HaveRoles run (map (change found) roles)
 
-      -- a step of a kind, which leaves what it leaves of the word that it finds
-      made_at : (kind : WordStep) → MayMake kind at me.0.lives
-          → DecidesAt policy at me.0.lives (left_by kind) roles made change
-          → (s : Table) → KeepsBoth policy s → get_elem? s.views id ≡ some me.0
-          → Kept s (set s.words at (left_by kind (get_or s.words at 0))) kind (get_or s.words at 0)
-      made_at kind may owes s r seat =
+      -- a step which leaves this word, and this of words and lives
+      made_at : (leaves : ℕ → ℕ) → DecidesAt policy at me.0.lives leaves roles made change
+          → (view : lives.View) → (s : Table) → KeepsBoth policy s
+          → get_elem? s.views id ≡ some me.0
+          → LifeRule (places_of_policy policy)
+          (after (lives_of s) at (leaves (get_or s.words at 0)) id view)
+          → Kept s (set s.words at (leaves (get_or s.words at 0))) (get_or s.words at 0) view
+      made_at leaves owes view s r seat good =
           let w : ℕ = get_or s.words at 0 in
-          let later : List ℕ = set s.words at (left_by kind w) in
+          let later : List ℕ = set s.words at (leaves w) in
           let now =
           keeps_on policy s.words later me.0.run roles (made w) (change w) has
           (owes s.words (shown s r seat at)) (runs s.views) id r.run (run_at s.views seat) in
           record {
             run = now.0;
             both =
-                set_both policy later s.homes s.views id
-                (record { lives = map (known_after kind at w) me.0.lives; run = now.0 })
-                (stepped_lives kind may s r seat) now.1;
+                set_both policy later s.homes s.views id (record { lives = view; run = now.0 }) good
+                now.1;
             have = now.2;
           }
 
@@ -172,8 +175,9 @@ module _ (policy : Policy) (slots id : ℕ) (me : Mine) where
           (looked_deciding roles change (step slots at a b none) me)
       looks_deciding a b owes s r _ seat _ =
           let w : ℕ = get_or s.words at 0 in
-          let k = made_at look tt owes s r seat in (
-            record { lives = map (known_after look at w) me.0.lives; run = k.run },
+          let view : lives.View = map (known_after look at w) me.0.lives in
+          let k = made_at (λ w. w) owes view s r seat (seen_lives s r seat) in (
+            record { lives = view; run = k.run },
             keeps,
             tt,
             k.both,
@@ -183,67 +187,66 @@ module _ (policy : Policy) (slots id : ℕ) (me : Mine) where
       -- what an exchange keeps, by what it leaves
       exchanged_both : (kind : WordStep) (old : ℕ)
           → ((w : ℕ) → left_by kind w ≡ either (eqb w old) (old - 1) w)
-          → (s : Table)
-          → (k : Kept s (set s.words at (left_by kind (get_or s.words at 0))) kind
-          (get_or s.words at 0))
+          → (view : lives.View) → (s : Table)
+          → (k : Kept s (set s.words at (left_by kind (get_or s.words at 0))) (get_or s.words at 0)
+          view)
           → KeepsBoth policy
           (stepped s at (either (eqb (get_or s.words at 0) old) (old - 1) (get_or s.words at 0)) id
-          me.1
-          (record {
-            lives = map (known_after kind at (get_or s.words at 0)) me.0.lives;
-            run = k.run;
-          })
-          keeps)
-      exchanged_both kind old same s k =
-          let w : ℕ = get_or s.words at 0 in
+          me.1 (record { lives = view; run = k.run }) keeps)
+      exchanged_both kind old same view s k =
           subst
           (λ z.
-          KeepsBoth policy
-          (stepped s at z id me.1
-          (record { lives = map (known_after kind at w) me.0.lives; run = k.run }) keeps))
-          (same w) k.both
+          KeepsBoth policy (stepped s at z id me.1 (record { lives = view; run = k.run }) keeps))
+          (same (get_or s.words at 0)) k.both
 
-      pub closes : (old : ℕ) → MayMake (close_from old) at me.0.lives
+      pub closes : (by old : ℕ) → MayMakeBy by (close_from old) at me.0.lives
           → DecidesAt policy at me.0.lives (left_by (close_from old)) roles made change
           → Allows (KeepsBoth policy) slots id me at (λ w. either (eqb w old) (old - 1) w)
-          (closed roles change (step slots at old (old - 1) none) me)
-      closes old may owes s r _ seat _ =
+          (closed roles change by (step slots at old (old - 1) none) me)
+      closes by old may owes s r _ seat _ =
           let w : ℕ = get_or s.words at 0 in
-          let k = made_at (close_from old) may owes s r seat in (
-            record { lives = map (known_after (close_from old) at w) me.0.lives; run = k.run },
+          let view : lives.View = view_after by (close_from old) at w me.0.lives in
+          let k =
+          made_at (left_by (close_from old)) owes view s r seat
+          (stepped_lives by (close_from old) may s r seat) in (
+            record { lives = view; run = k.run },
             keeps,
             tt,
-            exchanged_both (close_from old) old (exchange_is old) s k,
+            exchanged_both (close_from old) old (exchange_is old) view s k,
             ((shown s r seat at, refl, refl), k.have),
           )
 
-      pub parts : (old : ℕ) → MayMake (part_from old) at me.0.lives
+      pub parts : (by old : ℕ) → MayMakeBy by (part_from old) at me.0.lives
           → DecidesAt policy at me.0.lives (left_by (part_from old)) roles made change
           → Allows (KeepsBoth policy) slots id me at (λ w. either (eqb w old) (old - 1) w)
-          (parted roles change (step slots at old (old - 1) none) me)
-      parts old may owes s r _ seat _ =
+          (parted roles change by (step slots at old (old - 1) none) me)
+      parts by old may owes s r _ seat _ =
           let w : ℕ = get_or s.words at 0 in
-          let k = made_at (part_from old) may owes s r seat in (
-            record { lives = map (known_after (part_from old) at w) me.0.lives; run = k.run },
+          let view : lives.View = view_after by (part_from old) at w me.0.lives in
+          let k =
+          made_at (left_by (part_from old)) owes view s r seat
+          (stepped_lives by (part_from old) may s r seat) in (
+            record { lives = view; run = k.run },
             keeps,
             tt,
-            exchanged_both (part_from old) old (exchange_is old) s k,
+            exchanged_both (part_from old) old (exchange_is old) view s k,
             ((shown s r seat at, refl, refl), k.have),
           )
 
     -- a store tells the word that it leaves, and not the one that it finds
     pub opens : (roles : List Role) (made : ℕ → List (ℕ × Call)) (change : ℕ → Role → Role)
-        → HaveRoles me.0.run roles → (live : ℕ)
-        → MayMake (open_as live) at me.0.lives
+        → HaveRoles me.0.run roles → (by live : ℕ)
+        → MayMakeBy by (open_as live) at me.0.lives
         → DecidesAt policy at me.0.lives (λ _. live) roles (λ _. made live) (λ _. change live)
         → Allows (KeepsBoth policy) slots id me at (λ _. live)
-        (λ _. opened roles change (step slots at live 0 none) me live)
-    opens roles made change has live may owes s r _ seat _ =
+        (λ _. opened roles change by (step slots at live 0 none) me live)
+    opens roles made change has by live may owes s r _ seat _ =
         let w : ℕ = get_or s.words at 0 in
+        let view : lives.View = view_after by (open_as live) at w me.0.lives in
         let k =
-        made_at roles (λ _. made live) (λ _. change live) has (open_as live) may
-        owes s r seat in (
-          record { lives = map (known_after (open_as live) at w) me.0.lives; run = k.run },
+        made_at roles (λ _. made live) (λ _. change live) has (λ _. live) owes view s r seat
+        (stepped_lives by (open_as live) may s r seat) in (
+          record { lives = view; run = k.run },
           keeps,
           tt,
           k.both,

@@ -48,6 +48,7 @@ module _ (policy : Policy) (words later : List ℕ) (view : List Part) (roles : 
   carried t part = record {
     name = part.name;
     log = part.log ++ log_of (number_of_name policy part.name) made;
+    asked = part.asked;
     witness = t;
   }
 

@@ -7,7 +7,6 @@ use lib.ListN.{get_elem?}
 use Rattle.hg_place.specs.declared.Handle.{Handle}
 use Rattle.hg_machine.specs.declared.Answer.{Answer}
 use Rattle.hg_machine.specs.declared.Answer.TheVariants as answer
-use Rattle.hg_machine.specs.declared.Event.TheVariants as event
 use Rattle.hg_machine.specs.State.{State, opening}
 use Rattle.hg_machine.specs.Steps.{Step, Run}
 use Rattle.hg_laws.specs.Asked.{handle_of, IsDenied}

@@ -1,7 +1,10 @@
 pub mod Alike
 pub mod RolesOfViews
 pub mod Decided
+pub mod Answering
+pub mod AnswersAre
 pub mod Allowed
+pub mod AllowedAnswers
 pub mod Reshaped
 pub mod Beginnings
 pub mod Counts

@@ -1,13 +1,15 @@
 -- Views whose parts have roles: one after another, cut, and after a step.
 use Rattle.std.proofs.Common.{◌≡◌, ⊎_elim, ℕ, zero, suc, ◌+◌, ◌<◌, List, [], ◌∷◌, ◌++◌, length}
-use Rattle.std.proofs.Common.{take, drop, refl, sym, subst, ◌∙◌, arith, length-append}
-use Rattle.std.proofs.lemmas.List.{take-append-drop, length-take-le}
+use Rattle.std.proofs.Common.{take, drop, map, refl, sym, subst, ◌∙◌, arith, length-append}
+use Rattle.std.proofs.lemmas.List.{take-append-drop, length-take-le, length-map}
 use mathlib.Core.Option.{some}
 use lib.ListN.{get_elem?}
 use Rattle.hg_history.specs.Service.{IsIn}
-use Rattle.hg_history.proofs.Views.{at_append, at_below, at_first, at_second}
+use Rattle.hg_history.proofs.Views.{at_append, at_below, at_first, at_map, at_second}
+use Rattle.hg_machine.specs.declared.Event.{Event}
 use Rattle.hg_roles.specs.Roles.{Role}
 use Rattle.hg_run_table.specs.declared.part.Part.{Part}
+use Rattle.hg_run_table.specs.Asked.{asking}
 use Rattle.hg_run_table.specs.Seated.{HasRole, HaveRoles}
 
 -- some entry stands at each place below the length
@@ -97,3 +99,15 @@ cut_have view n one other is has =
     both_have (take n view) (drop n view) one other
     (length-take-le n view (omega arith) ∙ sym is)
     (subst (λ (v : List Part). HaveRoles v (one ++ other)) (sym (take-append-drop n view)) has)
+
+-- whatever it is asked, a part has the roles that it has
+pub asked_have : (asked : List (List Event)) (view : List Part) (roles : List Role)
+    → HaveRoles view roles → HaveRoles (map (asking asked) view) roles
+asked_have asked view roles has = record {
+  count = length-map view (asking asked) ∙ has.count;
+  each = λ j part role p r.
+      let x = at_map (asking asked) view j part p in
+      let h = has.each j x.0 role x.1 r in
+      subst (λ (z : Part). HasRole z role) x.2
+      (record { named = h.named; log = h.log; agrees = h.agrees });
+}

@@ -3,6 +3,8 @@ pub mod Seated
 pub mod Openings
 pub mod Rule
 pub mod Told
+pub mod Asked
+pub mod AnswerLaws
 pub mod Owing
 pub mod Reshaping
 pub mod Calls

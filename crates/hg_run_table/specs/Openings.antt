@@ -7,9 +7,10 @@ use Rattle.hg_roles.specs.Roles.{Role}
 use Rattle.hg_run_table.specs.declared.part.Part.{Part}
 use Rattle.hg_run_table.specs.Seated.{name_in}
 
--- no call was made of a part, which has what the opening has
+-- no call was made of a part, which is asked nothing and has what the opening has
 abbrev pub first_part : Policy → Role → Part
-first_part policy role = record { name = name_in role; log = []; witness = opening policy }
+first_part policy role =
+    record { name = name_in role; log = []; asked = []; witness = opening policy }
 
 -- one of each name
 abbrev pub first_parts : Policy → List Part

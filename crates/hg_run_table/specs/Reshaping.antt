@@ -1,38 +1,44 @@
 -- How seats are cut and joined.
-use Rattle.std.specs.Prelude.{◌≡◌, ◌⊎◌, ℕ, [], ◌∷◌, ◌++◌, take, drop, Option, Some, None}
+use Rattle.std.specs.Prelude.{ℕ, List, [], ◌++◌, map, take, drop}
+use Rattle.hg_machine.specs.declared.Event.{Event}
 use Rattle.hg_table.specs.Steps.{Cut, kept_by, given_by, MayCut}
-use Rattle.hg_table.specs.View.{View, part_of}
+use Rattle.hg_table.specs.View.{View}
 use Rattle.hg_run_table.specs.declared.part.SeatView.{SeatView}
+use Rattle.hg_run_table.specs.Asked.{asking}
 
--- what stays with the seat, and goes to the new one, of what it knows of words and lives: by a cut,
--- or, where there is none, all stays
-abbrev pub lives_kept : Option Cut → View → View
-lives_kept None lives = lives
-lives_kept (Some cut) lives = kept_by cut lives
+-- how what a seat knows of words and lives is cut: so many first parts stay with it, and the others
+-- go to the new one; or a seat of one part as hg_table cuts one
+pub data LivesCut : Type 0 where
+  front : ℕ → LivesCut
+  one_part : Cut → LivesCut
 
-abbrev pub lives_given : Option Cut → View → View
-lives_given None lives = []
-lives_given (Some cut) lives = given_by cut lives
+-- what stays with the seat, and what goes to the new one
+abbrev pub lives_kept : LivesCut → View → View
+lives_kept (front count) lives = take count lives
+lives_kept (one_part cut) lives = kept_by cut lives
 
-abbrev pub MayCutLives : Option Cut → View → Type 0
-MayCutLives None lives = Unit {0}
-MayCutLives (Some cut) lives = MayCut cut lives
+abbrev pub lives_given : LivesCut → View → View
+lives_given (front count) lives = drop count lives
+lives_given (one_part cut) lives = given_by cut lives
+
+-- any seat may be cut between its parts
+abbrev pub MayCutLives : LivesCut → View → Type 0
+MayCutLives (front count) lives = Unit {0}
+MayCutLives (one_part cut) lives = MayCut cut lives
 
 -- so many parts of the run stay, and the others go
-abbrev pub kept : Option Cut → ℕ → SeatView → SeatView
+abbrev pub kept : LivesCut → ℕ → SeatView → SeatView
 kept cut stay view = record { lives = lives_kept cut view.lives; run = take stay view.run }
 
-abbrev pub given : Option Cut → ℕ → SeatView → SeatView
+abbrev pub given : LivesCut → ℕ → SeatView → SeatView
 given cut stay view = record { lives = lives_given cut view.lives; run = drop stay view.run }
 
--- two become one
-abbrev pub both : SeatView → SeatView → SeatView
-both one other = record { lives = one.lives ++ other.lives; run = one.run ++ other.run }
+-- two become one, whose parts are asked this from then on
+abbrev pub both : List (List Event) → SeatView → SeatView → SeatView
+both asked one other = record {
+  lives = one.lives ++ other.lives;
+  run = map (asking asked) (one.run ++ other.run);
+}
 
 abbrev pub spent : SeatView
 spent = record { lives = []; run = [] }
-
--- a seat takes in one that knows nothing of words and lives, or each has one part of them
-abbrev pub MayJoinLives : View → View → Type 0
-MayJoinLives one other =
-    (other ≡ []) ⊎ ((one ≡ part_of one ∷ []) × (other ≡ part_of other ∷ []))

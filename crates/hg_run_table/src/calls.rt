@@ -3,13 +3,14 @@
 ghost use Rattle.std.specs.Prelude.{◌≡◌, ℕ, ◌+◌, ◌<◌, [], ◌∷◌, ◌++◌, map};
 ghost use Rattle.hg_place.specs.Places.{number_of};
 ghost use Rattle.hg_roles.specs.Served.{places_of_policy};
-ghost use Rattle.hg_table.specs.Steps.{look, open_as, close_from, part_from, MayMake, known_after};
-ghost use Rattle.hg_table.specs.Steps.{left_by};
+ghost use Rattle.hg_table.specs.Steps.{look, open_as, close_from, part_from, MayMakeBy};
+ghost use Rattle.hg_table.specs.Steps.{known_after, view_after, left_by};
 ghost use Rattle.hg_table.specs.Told.{IsShownTo};
 ghost use Rattle.hg_run_table.specs.Calls.{IsWorkers, log_in, with_call, view_by, MayCall};
 ghost use Rattle.hg_run_table.specs.Calls.{IsTiedAlone, IsRefused};
 
 use crate::call::{OwnCall, WorkerCall};
+use crate::decision::StepsBy;
 use crate::table::{RunSeat, RunTable};
 use hg_place::Place;
 use std::marker::Brand;
@@ -35,26 +36,32 @@ impl RunTable {
     }
 
     /// Gives a place out that is home, by one store of its live word, at which a call is decided.
-    pub fn call_at_open<W: WorkerCall>(&self, seat: &mut RunSeat, place: Place, live: u64)
+    pub fn call_at_open<W: WorkerCall, P: StepsBy>(
+        &self,
+        seat: &mut RunSeat,
+        place: Place,
+        live: u64,
+    )
         requires same { seat.old.seat.table_id ≡ self.now.table.shared.table_id }
         requires place { number_of place < places_of_policy self.now.table.shared.key }
-        requires may { MayMake (open_as live) (number_of place + 1) seat.old.seat.me.0.lives }
+        requires may { MayMakeBy P.by (open_as live) (number_of place + 1)
+            seat.old.seat.me.0.lives }
         requires worker { IsWorkers seat.old W.before }
         requires tied { (word : ℕ) → IsShownTo (number_of place + 1) word seat.old.seat.me.0.lives
             → MayCall self.now.table.shared.key (number_of place) word live
             W.before (W.call live) (W.after live) }
         ensures same { seat.new.seat.table_id ≡ seat.old.seat.table_id }
         ensures lives { seat.new.seat.me.0.lives
-            ≡ map (known_after (open_as live) (number_of place + 1) live) seat.old.seat.me.0.lives }
+            ≡ view_after P.by (open_as live) (number_of place + 1) live seat.old.seat.me.0.lives }
         ensures log { log_in seat.new ≡ with_call (log_in seat.old) (W.call live) }
         ensures worker { IsWorkers seat.new (view_by W.before (W.call live) (W.after live)) }
     {
-        self.open_deciding::<Brand>(seat, place, live);
+        self.open_deciding::<Brand, P>(seat, place, live);
     }
 
     /// Ends the life of the live word that is expected, where it stands, and takes its place home,
     /// by one exchange, at which a call is decided by the word that it finds, which it gives.
-    pub fn call_at_close<W: WorkerCall>(
+    pub fn call_at_close<W: WorkerCall, P: StepsBy>(
         &self,
         seat: &mut RunSeat,
         place: Place,
@@ -62,7 +69,7 @@ impl RunTable {
     ) -> u64
         requires same { seat.old.seat.table_id ≡ self.now.table.shared.table_id }
         requires place { number_of place < places_of_policy self.now.table.shared.key }
-        requires may { MayMake (close_from expected) (number_of place + 1)
+        requires may { MayMakeBy P.by (close_from expected) (number_of place + 1)
             seat.old.seat.me.0.lives }
         requires worker { IsWorkers seat.old W.before }
         requires tied { (word : ℕ) → IsShownTo (number_of place + 1) word seat.old.seat.me.0.lives
@@ -71,15 +78,16 @@ impl RunTable {
         ensures same { seat.new.seat.table_id ≡ seat.old.seat.table_id }
         ensures shown { IsShownTo (number_of place + 1) result seat.old.seat.me.0.lives }
         ensures lives { seat.new.seat.me.0.lives
-            ≡ map (known_after (close_from expected) (number_of place + 1) result) seat.old.seat.me.0.lives }
+            ≡ view_after P.by (close_from expected) (number_of place + 1) result
+            seat.old.seat.me.0.lives }
         ensures log { log_in seat.new ≡ with_call (log_in seat.old) (W.call result) }
         ensures worker { IsWorkers seat.new (view_by W.before (W.call result) (W.after result)) }
     {
-        self.close_deciding::<Brand>(seat, place, expected)
+        self.close_deciding::<Brand, P>(seat, place, expected)
     }
 
     /// The same, and its place stays open.
-    pub fn call_at_part<W: WorkerCall>(
+    pub fn call_at_part<W: WorkerCall, P: StepsBy>(
         &self,
         seat: &mut RunSeat,
         place: Place,
@@ -87,7 +95,7 @@ impl RunTable {
     ) -> u64
         requires same { seat.old.seat.table_id ≡ self.now.table.shared.table_id }
         requires place { number_of place < places_of_policy self.now.table.shared.key }
-        requires may { MayMake (part_from expected) (number_of place + 1)
+        requires may { MayMakeBy P.by (part_from expected) (number_of place + 1)
             seat.old.seat.me.0.lives }
         requires worker { IsWorkers seat.old W.before }
         requires tied { (word : ℕ) → IsShownTo (number_of place + 1) word seat.old.seat.me.0.lives
@@ -96,11 +104,12 @@ impl RunTable {
         ensures same { seat.new.seat.table_id ≡ seat.old.seat.table_id }
         ensures shown { IsShownTo (number_of place + 1) result seat.old.seat.me.0.lives }
         ensures lives { seat.new.seat.me.0.lives
-            ≡ map (known_after (part_from expected) (number_of place + 1) result) seat.old.seat.me.0.lives }
+            ≡ view_after P.by (part_from expected) (number_of place + 1) result
+            seat.old.seat.me.0.lives }
         ensures log { log_in seat.new ≡ with_call (log_in seat.old) (W.call result) }
         ensures worker { IsWorkers seat.new (view_by W.before (W.call result) (W.after result)) }
     {
-        self.part_deciding::<Brand>(seat, place, expected)
+        self.part_deciding::<Brand, P>(seat, place, expected)
     }
 
     /// A call that is tied without a word is decided at one load of the spare one.

@@ -2,6 +2,7 @@
 //! lives: each deciding step logs its calls, and who has all seats at the end knows the run.
 #![tactic(auto)]
 
+mod asked;
 mod call;
 mod calls;
 mod decision;
@@ -16,7 +17,7 @@ mod steps;
 mod table;
 
 pub use call::{HandAndList, OtherPart, OwnCall, WorkerAndList, WorkerAndPool, WorkerCall};
-pub use decision::{CutAt, Decision};
+pub use decision::{Asks, CutAt, Decision, StepsBy};
 pub use opening::RunSeats;
 pub use part::{Part, PartName, SeatView, Witness};
 pub use rule::{RunRule, Words};

@@ -29,39 +29,39 @@ pub struct RunSeats {
     pub segments: Vec<RunSeat>,
 }
 
-/// All parts go, and what is known of words and lives stays.
+/// All parts of the run go, and what is known of words and lives stays.
 pub(crate) struct AllParts;
 
 impl CutAt for AllParts {
-    ghost use Rattle.std.specs.Prelude.{None};
+    ghost use Rattle.hg_run_table.specs.Reshaping.{front};
 
     ghost stay = { 0 };
 
-    ghost lives = { None };
+    ghost lives = { front 1 };
 }
 
 /// No part goes with what the seat of the next segment knows of words and lives.
 pub(crate) struct NextSegment;
 
 impl CutAt for NextSegment {
-    ghost use Rattle.std.specs.Prelude.{Some};
     ghost use Rattle.hg_table.specs.Steps.{first_segment};
+    ghost use Rattle.hg_run_table.specs.Reshaping.{one_part};
 
     ghost stay = { 0 };
 
-    ghost lives = { Some first_segment };
+    ghost lives = { one_part first_segment };
 }
 
 /// The same of a worker, which knows nothing.
 pub(crate) struct NextWorker;
 
 impl CutAt for NextWorker {
-    ghost use Rattle.std.specs.Prelude.{Some};
     ghost use Rattle.hg_table.specs.Steps.{nothing};
+    ghost use Rattle.hg_run_table.specs.Reshaping.{one_part};
 
     ghost stay = { 0 };
 
-    ghost lives = { Some nothing };
+    ghost lives = { one_part nothing };
 }
 
 impl RunTable {
@@ -145,7 +145,7 @@ impl RunTable {
     {
         let mut seat = self.split::<C>(lives);
         let part = self.next_part(parts);
-        self.join(&mut seat, part);
+        self.join::<Brand>(&mut seat, part);
         seat
     }
 

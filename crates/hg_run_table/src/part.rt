@@ -31,6 +31,9 @@ pub struct Part {
     pub name: PartName,
     /// The calls that were made in this name, with their answers, in their order.
     pub log: LinkedList<(Event, Answer)>,
+    /// What a worker is asked: the events that the next answering step answers, behind these
+    /// those of the one after it, and so on. Of another part it says nothing.
+    pub asked: LinkedList<LinkedList<Event>>,
     /// A state that has of this part what the seat has of it.
     pub witness: Witness,
 }

@@ -2,9 +2,10 @@
 
 ghost use Rattle.hg_run_table.specs.Reshaping.{both, spent, kept, given};
 ghost use Rattle.hg_run_table.specs.Told.{looked, took, looked_deciding, closed, parted, opened};
-ghost use Rattle.hg_run_table.specs.Told.{decided};
+ghost use Rattle.hg_run_table.specs.Told.{decided, looked_answering, opened_answering};
+ghost use Rattle.hg_run_table.specs.Told.{closed_answering, parted_answering};
 
-use crate::decision::{CutAt, Decision};
+use crate::decision::{Asks, CutAt, Decision, StepsBy};
 use crate::part::SeatView;
 use atomic_table::{Join, Play, Split};
 use std::marker::PhantomData;
@@ -16,10 +17,12 @@ impl Play<(), SeatView> for Look {
     ghost then = { looked };
 }
 
-pub(crate) struct Take;
+pub(crate) struct Take<P: StepsBy> {
+    by: PhantomData<P>,
+}
 
-impl Play<(), SeatView> for Take {
-    ghost then = { took };
+impl<P: StepsBy> Play<(), SeatView> for Take<P> {
+    ghost then = { took P.by };
 }
 
 /// Steps that decide calls.
@@ -31,28 +34,62 @@ impl<D: Decision> Play<(), SeatView> for Looking<D> {
     ghost then = { looked_deciding D.roles D.change };
 }
 
-pub(crate) struct Opening<D: Decision> {
+pub(crate) struct Opening<D: Decision, P: StepsBy> {
     of: PhantomData<D>,
+    by: PhantomData<P>,
 }
 
-impl<D: Decision> Play<(), SeatView> for Opening<D> {
-    ghost then = { opened D.roles D.change };
+impl<D: Decision, P: StepsBy> Play<(), SeatView> for Opening<D, P> {
+    ghost then = { opened D.roles D.change P.by };
 }
 
-pub(crate) struct Closing<D: Decision> {
+pub(crate) struct Closing<D: Decision, P: StepsBy> {
     of: PhantomData<D>,
+    by: PhantomData<P>,
 }
 
-impl<D: Decision> Play<(), SeatView> for Closing<D> {
-    ghost then = { closed D.roles D.change };
+impl<D: Decision, P: StepsBy> Play<(), SeatView> for Closing<D, P> {
+    ghost then = { closed D.roles D.change P.by };
 }
 
-pub(crate) struct Parting<D: Decision> {
+pub(crate) struct Parting<D: Decision, P: StepsBy> {
     of: PhantomData<D>,
+    by: PhantomData<P>,
 }
 
-impl<D: Decision> Play<(), SeatView> for Parting<D> {
-    ghost then = { parted D.roles D.change };
+impl<D: Decision, P: StepsBy> Play<(), SeatView> for Parting<D, P> {
+    ghost then = { parted D.roles D.change P.by };
+}
+
+/// Steps that answer what a worker is asked.
+pub(crate) struct LookAnswering;
+
+impl Play<(), SeatView> for LookAnswering {
+    ghost then = { looked_answering };
+}
+
+pub(crate) struct OpenAnswering<P: StepsBy> {
+    by: PhantomData<P>,
+}
+
+impl<P: StepsBy> Play<(), SeatView> for OpenAnswering<P> {
+    ghost then = { opened_answering P.by };
+}
+
+pub(crate) struct CloseAnswering<P: StepsBy> {
+    by: PhantomData<P>,
+}
+
+impl<P: StepsBy> Play<(), SeatView> for CloseAnswering<P> {
+    ghost then = { closed_answering P.by };
+}
+
+pub(crate) struct PartAnswering<P: StepsBy> {
+    by: PhantomData<P>,
+}
+
+impl<P: StepsBy> Play<(), SeatView> for PartAnswering<P> {
+    ghost then = { parted_answering P.by };
 }
 
 /// At the spare word.
@@ -65,10 +102,12 @@ impl<D: Decision> Play<(), SeatView> for Deciding<D> {
 }
 
 /// Two seats become one.
-pub(crate) struct Both;
+pub(crate) struct Both<E: Asks> {
+    of: PhantomData<E>,
+}
 
-impl Join<SeatView> for Both {
-    ghost both = { both };
+impl<E: Asks> Join<SeatView> for Both<E> {
+    ghost both = { both E.asked };
 
     ghost spent = { spent };
 }

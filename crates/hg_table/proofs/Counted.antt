@@ -21,15 +21,21 @@ set_hit [] i a b e = absurd (some-ne-none a (sym e))
 set_hit (x ∷ xs) zero a b e = refl
 set_hit (x ∷ xs) (suc i) a b e = set_hit xs i a b e
 
--- parts that may give as many seats as before
+-- as many parts, each of which may give as many seats as the one that stood there
 pub same_seats :
-    (f : Part → Part) (view : View)
-    → ((j : ℕ) (a : Part) → get_elem? view j ≡ some a → (f a).may_give ≡ a.may_give)
-    → seats_of (map f view) ≡ seats_of view
-same_seats f [] same = refl
-same_seats f (a ∷ more) same =
-    let here = same 0 a refl in
-    let there = same_seats f more (λ j b e. same (suc j) b e) in
+    (old new : View)
+    → ((j : ℕ) (b : Part) → get_elem? new j ≡ some b
+    → (a : Part) × (get_elem? old j ≡ some a) × (b.may_give ≡ a.may_give))
+    → ((j : ℕ) (a : Part) → get_elem? old j ≡ some a
+    → (b : Part) × (get_elem? new j ≡ some b))
+    → seats_of new ≡ seats_of old
+same_seats [] [] from to = refl
+same_seats [] (b ∷ new) from to = let was = from 0 b refl in absurd (some-ne-none was.0 (sym was.1))
+same_seats (a ∷ old) [] from to = let is = to 0 a refl in absurd (some-ne-none is.0 (sym is.1))
+same_seats (a ∷ old) (b ∷ new) from to =
+    let was = from 0 b refl in
+    let here : b.may_give ≡ a.may_give = was.2 ∙ ap (λ (c : Part). c.may_give) (sym (some-injective a was.0 was.1)) in
+    let there = same_seats old new (λ j. from (suc j)) (λ j. to (suc j)) in
     omega arith
 
 -- one view is another from now on

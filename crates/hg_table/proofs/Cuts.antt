@@ -72,7 +72,7 @@ module _ (n : ℕ) (s : Table) (r : LifeRule n s) (views' : List View) (W : ℕ 
         unique o.0 o.1 i j i' j' a b o.5 (subst (λ (z : ℕ × ℕ). W z.0 z.1 i' j' b) (λ i. (sym f.0 i, sym f.1 i)) o'.5) (λ apart. apart.records k k' la lb e);
   }
 
-at_end : {A : Type 0} (l : List A) (a b : A) (j : ℕ) → get_elem? (l ++ a ∷ []) j ≡ some b → (get_elem? l j ≡ some b) ⊎ ((j ≡ length l) × (a ≡ b))
+pub at_end : {A : Type 0} (l : List A) (a b : A) (j : ℕ) → get_elem? (l ++ a ∷ []) j ≡ some b → (get_elem? l j ≡ some b) ⊎ ((j ≡ length l) × (a ≡ b))
 at_end [] a b zero e = inr (refl, some-injective a b e)
 at_end [] a b (suc j) e = absurd (some-ne-none b (sym e))
 at_end (x ∷ xs) a b zero e = inl e
@@ -130,7 +130,7 @@ at_two x y b zero e = inl (refl, some-injective x b e)
 at_two x y b (suc zero) e = inr (refl, some-injective y b e)
 at_two x y b (suc (suc j)) e = absurd (some-ne-none b (sym e))
 
-at_none : (b : Part) (j : ℕ) (v : View) → [] ≡ v → get_elem? v j ≡ some b → ⊥
+pub at_none : (b : Part) (j : ℕ) (v : View) → [] ≡ v → get_elem? v j ≡ some b → ⊥
 at_none b j v is e = some-ne-none b (sym (subst (λ (z : View). get_elem? z j ≡ some b) (sym is) e))
 
 module _ (n id other : ℕ) (x y : Part) where

@@ -1,11 +1,11 @@
 -- A step that goes forward keeps the life rule.
-use Rattle.std.proofs.Common.{◌≡◌, ◌≢◌, ◌⊎◌, ℕ, ◌+◌, ◌<◌, ◌≤◌, List, length, map, get_or, set, sym, refl, ap, ◌∙◌, subst, inl, inr, ⊎_elim, arith, length-set, get_or-set_other, get_or-set_same}
+use Rattle.std.proofs.Common.{◌≡◌, ◌≢◌, ◌⊎◌, ℕ, ◌+◌, ◌<◌, ◌≤◌, List, length, get_or, set, sym, refl, ap, ◌∙◌, subst, inl, inr, ⊎_elim, arith, length-set, get_or-set_other, get_or-set_same}
 use mathlib.Core.Logic.{dite}
 use mathlib.Core.Option.{some, some-injective}
 use native.Mathlib.Decide.{ℕ_discrete}
 use lib.ListN.{get_elem?}
 use Rattle.atomic_table.specs.Table.{keeps, stepped}
-use Rattle.atomic_table.proofs.Lists.{at_set, at_map, set_else}
+use Rattle.atomic_table.proofs.Lists.{at_set, set_else}
 use Rattle.hg_place.specs.declared.standing.Standing.{Standing}
 use Rattle.hg_place.specs.Lives.{word_generation, word_life, IsSlotWord, IsAtOrBefore}
 use Rattle.hg_place.specs.Standings.{standing_at, Fits}
@@ -13,7 +13,7 @@ use Rattle.hg_table.specs.declared.view.Part.{Part}
 use Rattle.hg_table.specs.View.{View, Table, Has, IsSeen, IsEnded, all_seats, SEATS_TO_GIVE}
 use Rattle.hg_table.specs.LifeRule.{LifeRule, IsOver}
 use Rattle.hg_table.proofs.Knowing.{Knows, known, itself, between, over_after}
-use Rattle.hg_table.proofs.Counted.{map_at, set_hit, same_seats, seats_kept}
+use Rattle.hg_table.proofs.Counted.{set_hit, same_seats, seats_kept}
 
 -- what a step at p that found u and left v does to a part
 pub record Change (p u v : ℕ) (old new : Part) : Type 0 where
@@ -35,18 +35,23 @@ word_at_set ws p v q F inside hit miss = dite (ℕ_discrete p q)
     (λ e. subst (λ (z : ℕ). F (get_or (set ws p v) z 0)) e (subst F (sym (get_or-set_same ws p v 0 inside)) (hit e)))
     (λ ne. subst F (sym (get_or-set_other ws p q v 0 (λ e. ne (sym e)))) (miss ne))
 
-module _ (n : ℕ) (s : Table) (r : LifeRule n s) (p v id : ℕ) (c : List (ℕ × Unit {0})) (old : View) (f : Part → Part) (at : get_elem? s.views id ≡ some old) (inside : p < length s.words)
+-- a part has ended no life more
+abbrev pub IsQuiet : Part → Part → Type 0
+IsQuiet old new = (k q g : ℕ) → get_elem? new.ended k ≡ some (q, g) → (l : ℕ) × (get_elem? old.ended l ≡ some (q, g))
+
+-- one part alone may have
+abbrev pub IsByOne : View → View → Type 0
+IsByOne old new =
+    (mine : ℕ) × (own : Part) × (get_elem? old mine ≡ some own)
+    × ((j : ℕ) (a b : Part) → j ≢ mine → get_elem? old j ≡ some a → get_elem? new j ≡ some b → IsQuiet a b)
+
+module _ (n : ℕ) (s : Table) (r : LifeRule n s) (p v id : ℕ) (c : List (ℕ × Unit {0})) (old new : View) (at : get_elem? s.views id ≡ some old) (inside : p < length s.words)
     (sane : IsSlotWord v) (forward : IsAtOrBefore (get_or s.words p 0) v) (free : p ≡ 0 → v ≡ 0)
-    (each : (j : ℕ) (a : Part) → get_elem? old j ≡ some a → Change p (get_or s.words p 0) v a (f a))
-    (alone : (((j : ℕ) (a : Part) → get_elem? old j ≡ some a → j ≡ 0) × (a : Part) × (get_elem? old 0 ≡ some a)) ⊎ (get_or s.words p 0 ≡ v))
-    (ends : (g : ℕ) → 1 ≤ g → IsOver g v → IsOver g (get_or s.words p 0) ⊎ ((j : ℕ) × (k : ℕ) × (a : Part) × (get_elem? old j ≡ some a) × (get_elem? (f a).ended k ≡ some (p, g))))
+    (changes : (j : ℕ) (b : Part) → get_elem? new j ≡ some b → (a : Part) × (get_elem? old j ≡ some a) × Change p (get_or s.words p 0) v a b)
+    (becomes : (j : ℕ) (a : Part) → get_elem? old j ≡ some a → (b : Part) × (get_elem? new j ≡ some b) × Change p (get_or s.words p 0) v a b)
+    (alone : IsByOne old new ⊎ (get_or s.words p 0 ≡ v))
+    (ends : (g : ℕ) → 1 ≤ g → IsOver g v → IsOver g (get_or s.words p 0) ⊎ ((j : ℕ) × (k : ℕ) × (b : Part) × (get_elem? new j ≡ some b) × (get_elem? b.ended k ≡ some (p, g))))
     (spares : ((st : Standing) → Fits st (get_or s.words p 0) → Fits st v) ⊎ ((j k : ℕ) × (a : Part) × (get_elem? old j ≡ some a) × (k < length a.records) × (a.first + k ≡ p))) where
-  abbrev new : View
-  new = map f old
-
-  changes : (j : ℕ) (b : Part) → get_elem? new j ≡ some b → (a : Part) × (get_elem? old j ≡ some a) × Change p (get_or s.words p 0) v a b
-  changes j b e = let m = map_at f old j b e in (m.0, m.1, subst (Change p (get_or s.words p 0) v m.0) m.2 (each j m.0 m.1))
-
   abbrev u : ℕ
   u = get_or s.words p 0
 
@@ -112,14 +117,23 @@ module _ (n : ℕ) (s : Table) (r : LifeRule n s) (p v id : ℕ) (c : List (ℕ 
   not_both : (i j l i' q g : ℕ) (a : Part) → Has s.views i j a → get_elem? a.ended l ≡ some (q, g) → Fresh i' q g → ⊥
   not_both i j l i' q g a has e f = let past = (known n s r i j a has).ended l q g e in let over = subst (λ (z : ℕ). IsOver g (get_or s.words z 0)) (sym f.1) past in let l = over.1 f.2 in let m = f.3 in omega arith
 
-  one_position : (i j i' j' q g : ℕ) (a b : Part) → Has views' i j a → Has views' i' j' b → Fresh i q g → Fresh i' q g → (i ≡ i') × (j ≡ j')
-  one_position i j i' j' q g a b ha hb now now' = (
+  -- and it is ended by one part
+  mine_at : (mine j k q g : ℕ) (b : Part)
+      → ((j : ℕ) (a b : Part) → j ≢ mine → get_elem? old j ≡ some a → get_elem? new j ≡ some b → IsQuiet a b)
+      → Has views' id j b → get_elem? b.ended k ≡ some (q, g) → Fresh id q g → j ≡ mine
+  mine_at mine j k q g b quiet has e fresh = dite (ℕ_discrete j mine) (λ is. is)
+      (λ (not : j ≢ mine). absurd (⊎_elim
+      (λ (t : (id ≡ id) × (get_elem? new j ≡ some b)). let ch = changes j b t.1 in let was = quiet j ch.0 b not ch.1 t.1 k q g e in not_both id j was.0 id q g ch.0 (old, at, ch.1) was.1 fresh)
+      (λ (t : (id ≢ id) × Has s.views id j b). t.0 refl) (stood id j b has)))
+
+  one_position : (i j k i' j' k' q g : ℕ) (a b : Part) → Has views' i j a → Has views' i' j' b → get_elem? a.ended k ≡ some (q, g) → get_elem? b.ended k' ≡ some (q, g) → Fresh i q g → Fresh i' q g → (i ≡ i') × (j ≡ j')
+  one_position i j k i' j' k' q g a b ha hb ea eb now now' = (
     now.0 ∙ sym now'.0,
     ⊎_elim
-        (λ (only : ((j : ℕ) (a : Part) → get_elem? old j ≡ some a → j ≡ 0) × (a : Part) × (get_elem? old 0 ≡ some a)).
-        let mine : (i j : ℕ) (b : Part) → i ≡ id → Has views' i j b → j ≡ 0 = λ i j b is has. ⊎_elim (λ (t : (i ≡ id) × (get_elem? new j ≡ some b)). let m = map_at f old j b t.1 in only.0 j m.0 m.1)
-        (λ (t : (i ≢ id) × Has s.views i j b). absurd (t.0 is)) (stood i j b has) in
-        mine i j a now.0 ha ∙ sym (mine i' j' b now'.0 hb))
+        (λ (one : IsByOne old new).
+        let own : (i j k : ℕ) (c : Part) → i ≡ id → Has views' i j c → get_elem? c.ended k ≡ some (q, g) → Fresh i q g → j ≡ one.0 = λ i j k c is has e fresh.
+        mine_at one.0 j k q g c one.3 (subst (λ (z : ℕ). Has views' z j c) is has) e (subst (λ (z : ℕ). Fresh z q g) is fresh) in
+        own i j k a now.0 ha ea now ∙ sym (own i' j' k' b now'.0 hb eb now'))
         (λ (still : u ≡ v). absurd (let l = (subst (IsOver g) (sym still) now.4).1 now.2 in let m = now.3 in omega arith)) alone,
   )
 
@@ -133,26 +147,26 @@ module _ (n : ℕ) (s : Table) (r : LifeRule n s) (p v id : ℕ) (c : List (ℕ 
   pub seen_on : (q w : ℕ) → IsSeen s.views q w → IsSeen views' q w
   seen_on q w x = let is_view = x.4.1 in let there = x.4.2 in dite (ℕ_discrete x.0 id)
       (λ (is : x.0 ≡ id). let mine : get_elem? old x.1 ≡ some x.3 = subst (λ (z : View). get_elem? z x.1 ≡ some x.3) (some-injective x.4.0 old (sym is_view ∙ (ap (get_elem? s.views) is ∙ at))) there in
-      let t = (each x.1 x.3 mine).seen_still x.2 q w x.5 in (id, x.1, t.0, f x.3, (new, new_here, at_map f old x.1 x.3 mine), t.1))
+      let b = becomes x.1 x.3 mine in let t = b.2.seen_still x.2 q w x.5 in (id, x.1, t.0, b.0, (new, new_here, b.1), t.1))
       (λ (not : x.0 ≢ id). (x.0, x.1, x.2, x.3, (x.4.0, set_else s.views id x.0 new not ∙ is_view, there), x.5))
 
   pub ended_on : (q g : ℕ) → IsEnded s.views q g → IsEnded views' q g
   ended_on q g x = let is_view = x.4.1 in let there = x.4.2 in dite (ℕ_discrete x.0 id)
       (λ (is : x.0 ≡ id). let mine : get_elem? old x.1 ≡ some x.3 = subst (λ (z : View). get_elem? z x.1 ≡ some x.3) (some-injective x.4.0 old (sym is_view ∙ (ap (get_elem? s.views) is ∙ at))) there in
-      let t = (each x.1 x.3 mine).ended_still x.2 q g x.5 in (id, x.1, t.0, f x.3, (new, new_here, at_map f old x.1 x.3 mine), t.1))
+      let b = becomes x.1 x.3 mine in let t = b.2.ended_still x.2 q g x.5 in (id, x.1, t.0, b.0, (new, new_here, b.1), t.1))
       (λ (not : x.0 ≢ id). (x.0, x.1, x.2, x.3, (x.4.0, set_else s.views id x.0 new not ∙ is_view, there), x.5))
 
   -- the word that is left was seen by this seat, or was there
   seen_here : v ≢ 0 → IsSeen views' p v
   seen_here there = ⊎_elim
-      (λ (only : ((j : ℕ) (a : Part) → get_elem? old j ≡ some a → j ≡ 0) × (a : Part) × (get_elem? old 0 ≡ some a)). let t = (each 0 only.1 only.2).saw_it in
-      (id, 0, t.0, f only.1, (new, new_here, at_map f old 0 only.1 only.2), t.1))
+      (λ (one : IsByOne old new). let b = becomes one.0 one.1 one.2 in let t = b.2.saw_it in
+      (id, one.0, t.0, b.0, (new, new_here, b.1), t.1))
       (λ (still : u ≡ v). seen_on p v (subst (IsSeen s.views p) still (r.words_are_seen p (λ z. there (sym still ∙ z))))) alone
 
   over_here : (g : ℕ) → 1 ≤ g → IsOver g v → IsEnded views' p g
   over_here g one over = ⊎_elim
       (λ (was : IsOver g u). ended_on p g (r.over_is_ended p g one was))
-      (λ (t : (j : ℕ) × (k : ℕ) × (a : Part) × (get_elem? old j ≡ some a) × (get_elem? (f a).ended k ≡ some (p, g))). (id, t.0, t.1, f t.2, (new, new_here, at_map f old t.0 t.2 t.3), t.4))
+      (λ (t : (j : ℕ) × (k : ℕ) × (b : Part) × (get_elem? new j ≡ some b) × (get_elem? b.ended k ≡ some (p, g))). (id, t.0, t.1, t.2, (new, new_here, t.3), t.4))
       (ends g one over)
 
   pub moved : LifeRule n (stepped s p v id c new keeps)
@@ -163,7 +177,8 @@ module _ (n : ℕ) (s : Table) (r : LifeRule n s) (p v id : ℕ) (c : List (ℕ 
     over_is_ended = λ q g one. word_at_set s.words p v q (λ z. IsOver g z → IsEnded views' q g) inside
         (λ (e : p ≡ q). subst (λ (z : ℕ). IsOver g v → IsEnded views' z g) e (over_here g one))
         (λ _ over. ended_on q g (r.over_is_ended q g one over));
-    seats = seats_kept s.views id old new at (same_seats f old (λ j a e. (each j a e).may_give)) ∙ r.seats;
+    seats = seats_kept s.views id old new at
+        (same_seats old new (λ j b e. let ch = changes j b e in (ch.0, ch.1, ch.2.may_give)) (λ j a e. let b = becomes j a e in (b.0, b.1))) ∙ r.seats;
     all_words = length-set s.words p v ∙ r.all_words;
     spare = word_at_set s.words p v 0 (λ z. z ≡ 0) inside free (λ _. r.spare);
     well_formed = λ q. word_at_set s.words p v q IsSlotWord inside (λ _. sane) (λ _. r.well_formed q);
@@ -171,7 +186,7 @@ module _ (n : ℕ) (s : Table) (r : LifeRule n s) (p v id : ℕ) (c : List (ℕ 
     ended_is_over = λ i j b has. (now_knows i j b has).ended;
     records_are_true = λ i j b has. (now_knows i j b has).recorded;
     ended_once = λ i j k i' j' k' q g a b ha hb ea eb. ⊎_elim
-        (λ (f : Fresh i q g). ⊎_elim (λ (f' : Fresh i' q g). one_position i j i' j' q g a b ha hb f f')
+        (λ (f : Fresh i q g). ⊎_elim (λ (f' : Fresh i' q g). one_position i j k i' j' k' q g a b ha hb ea eb f f')
         (λ (o : (a : Part) × (l : ℕ) × Has s.views i' j' a × (get_elem? a.ended l ≡ some (q, g))). absurd (not_both i' j' o.1 i q g o.0 o.2 o.3 f)) (entry_of i' j' k' q g b hb eb))
         (λ (o : (a : Part) × (l : ℕ) × Has s.views i j a × (get_elem? a.ended l ≡ some (q, g))). ⊎_elim (λ (f' : Fresh i' q g). absurd (not_both i j o.1 i' q g o.0 o.2 o.3 f'))
         (λ (o' : (a : Part) × (l : ℕ) × Has s.views i' j' a × (get_elem? a.ended l ≡ some (q, g))). r.ended_once i j o.1 i' j' o'.1 q g o.0 o'.0 o.2 o'.2 o.3 o'.3) (entry_of i' j' k' q g b hb eb))

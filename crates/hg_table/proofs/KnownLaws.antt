@@ -1,15 +1,17 @@
 -- What a step adds to what a seat knows, and what it leaves.
-use Rattle.std.proofs.Common.{◌≡◌, ◌⊎◌, ℕ, zero, suc, List, [], ◌∷◌, ◌++◌, length, sym, refl}
+use Rattle.std.proofs.Common.{◌≡◌, ◌⊎◌, ◌↔◌, ◌≤◌, ℕ, zero, suc, List, [], ◌∷◌, ◌++◌, length, sym, refl}
 use Rattle.std.proofs.Common.{◌∙◌, subst}
 use Rattle.std.proofs.Common.{inl, inr, ⊎_elim, arith, eq-eqb}
 use mathlib.Core.Logic.{dite}
-use mathlib.Core.Option.{some, some-ne-none}
+use mathlib.Core.Option.{some, some-injective, some-ne-none}
 use native.Mathlib.Decide.{ℕ_discrete}
 use lib.ListN.{get_elem?}
 use Rattle.atomic_table.proofs.Lists.{at_snoc}
 use Rattle.hg_place.specs.Lives.{word_generation, word_life}
 use Rattle.hg_table.specs.declared.view.Part.{Part}
 use Rattle.hg_table.specs.Seats.{HasStepped, ended_after}
+use Rattle.hg_table.specs.Steps.{WordStep, look, open_as, close_from, part_from, take_home, PartMayMake, MayMake, MayMakeBy}
+use Rattle.hg_table.specs.View.{View}
 use Rattle.hg_table.specs.KnownLaws.{IsEndedBy, StepsAddOneLife, MeetingsAreApart, NothingIsKnown}
 use Rattle.hg_table.specs.KnownLaws.{LeftIsPastSeen}
 use Rattle.hg_table.proofs.Knowing.{between}
@@ -138,3 +140,21 @@ left_is_past_seen places p id i j before s view step part to inside at may has s
     let wide = r.all_words in
     between before _ _ (r.seen_is_past i j part has seen.0 p before seen.1)
     (forward places s r p id view at (omega (arith, inside)) step may)
+
+-- a part of a seat may make what a seat of it alone may
+module _ (by at : ℕ) (view : View) (part : Part) (there : get_elem? view by ≡ some part) (place : 1 ≤ at) where
+  found : (other : Part) → get_elem? view by ≡ some other → other ≡ part
+  found other e = some-injective other part (sym e ∙ there)
+
+  by_part : (step : WordStep) → PartMayMake step at part → MayMakeBy by step at view
+  by_part step may = (place, part, there, may)
+
+  of_part : (step : WordStep) → MayMakeBy by step at view → PartMayMake step at part
+  of_part step may = subst (λ (z : Part). PartMayMake step at z) (found may.1 may.2) may.3
+
+  pub may_alone : (step : WordStep) → MayMake step at (part ∷ []) ↔ MayMakeBy by step at view
+  may_alone look = (λ may. by_part look tt, λ may. tt)
+  may_alone (open_as live) = (λ may. by_part (open_as live) may.1, λ may. ((place, refl), of_part (open_as live) may))
+  may_alone (close_from expected) = (λ may. by_part (close_from expected) may.1, λ may. ((place, refl), of_part (close_from expected) may))
+  may_alone (part_from expected) = (λ may. by_part (part_from expected) may.1, λ may. ((place, refl), of_part (part_from expected) may))
+  may_alone take_home = (λ may. by_part take_home may.1, λ may. ((place, refl), of_part take_home may))

@@ -1,8 +1,10 @@
 pub mod Knowing
 pub mod Counted
+pub mod ButOne
 pub mod Forward
 pub mod WordSteps
 pub mod Cuts
+pub mod ManyParts
 pub mod Allowed
 pub mod Told
 pub mod Meeting

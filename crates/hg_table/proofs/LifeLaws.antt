@@ -52,7 +52,7 @@ pub forward : (places : ℕ) (s : Table) → LifeRule places s → (at id : ℕ)
     → IsAtOrBefore (get_or s.words at 0) (left_by step (get_or s.words at 0))
 forward places s r at id view here below look may = itself _
 forward places s r at id view here below (open_as live) may = opened_forward places s r at id view here below live may
-forward places s r at id view here below (close_from old) may = exchanged _ old may.1
+forward places s r at id view here below (close_from old) may = exchanged _ old may.1.0
 forward places s r at id view here below (part_from old) may = exchanged _ old may.1
 forward places s r at id view here below take_home may = itself _
 

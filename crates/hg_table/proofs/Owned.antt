@@ -26,11 +26,11 @@ module _ (segment slot p : ℕ) (view : View) (records : List Standing) (one : v
   alone = (omega arith, one)
 
   pub may_close : (old : ℕ) → IsLiveWord old → MayMake (close_from old) p view
-  may_close old live = (alone, live, owned)
+  may_close old live = (alone, (live, owned))
 
   pub may_take : MayMake take_home p view
   may_take = (alone, owned)
 
   pub may_open : (g o live : ℕ) (st : Standing) → st ≡ standing_at records slot → st ≡ Home g → live ≡ word_of (g + 1) o true → g + 1 < 2 ^ 32 → o < 64 → MayMake (open_as live) p view
   may_open g o live st read home packed fits tenant = let l = live_is (g + 1) o live packed (omega arith) fits tenant in let here : record_of p (part_of view) ≡ Home g = record_is ∙ (sym read ∙ home) in
-      (alone, l.0, owned, ap is_home here, l.1 ∙ sym (ap (λ (s : Standing). standing_generation s + 1) here))
+      (alone, (l.0, owned, ap is_home here, l.1 ∙ sym (ap (λ (s : Standing). standing_generation s + 1) here)))

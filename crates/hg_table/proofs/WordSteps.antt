@@ -1,8 +1,8 @@
 -- Each step at a word keeps the life rule.
-use Rattle.std.proofs.Common.{◌≡◌, ◌≢◌, ◌⊎◌, ℕ, zero, suc, ◌+◌, ◌-◌, ◌<◌, ◌≤◌, if◌then◌else◌, Bool, true, List, [], ◌∷◌, ◌++◌, map, length, get_or, set, sym, refl, ap, ◌∙◌, subst, inl, inr, ⊎_elim, arith, length-set, get_or-set_other, get_or-set_same, eq-eqb, ne_eqb}
+use Rattle.std.proofs.Common.{◌≡◌, ◌≢◌, ◌⊎◌, ℕ, ◌+◌, ◌-◌, ◌<◌, ◌≤◌, if◌then◌else◌, Bool, true, List, [], ◌∷◌, ◌++◌, map, length, get_or, set, sym, refl, ap, ◌∙◌, subst, inl, inr, ⊎_elim, arith, length-set, get_or-set_other, get_or-set_same, eq-eqb, ne_eqb}
 use Rattle.std.proofs.lemmas.Bool.{true≢false}
 use mathlib.Core.Logic.{dite}
-use mathlib.Core.Option.{some, some-injective, some-ne-none}
+use mathlib.Core.Option.{some, some-injective}
 use native.Mathlib.Decide.{ℕ_discrete}
 use lib.ListN.{get_elem?}
 use Rattle.atomic_table.proofs.Lists.{at_snoc, at_longer, at_last, at_map}
@@ -11,13 +11,14 @@ use Rattle.hg_place.specs.declared.standing.Standing.TheVariants.{Home, Open}
 use Rattle.hg_place.specs.Lives.{word_generation, word_owner, word_life, IsSlotWord, IsLiveWord, IsAtOrBefore}
 use Rattle.hg_place.specs.Standings.{standing_at, standing_generation, is_home, Fits}
 use Rattle.hg_table.specs.declared.view.Part.{Part}
-use Rattle.hg_table.specs.View.{View, Table, HasRecord, saw, ending, recording, part_of}
+use Rattle.hg_table.specs.View.{View, Table, HasRecord, but_one, saw, ending, recording, part_of}
 use Rattle.hg_table.specs.LifeRule.{LifeRule, IsOver}
-use Rattle.hg_table.specs.Steps.{WordStep, look, open_as, close_from, part_from, take_home, left_by, known_after, record_of, IsAlone, MayMake}
+use Rattle.hg_table.specs.Steps.{WordStep, look, open_as, close_from, part_from, take_home, left_by, known_after, view_after, record_of, MayMake, MayMakeBy}
 use Rattle.hg_table.specs.Told.{IsShown, IsShownTo}
 use Rattle.hg_table.proofs.Knowing.{known, itself}
+use Rattle.hg_table.proofs.ButOne.{one_is, others_are, stood_before, all_alike}
 use Rattle.hg_table.proofs.Counted.{map_at}
-use Rattle.hg_table.proofs.Forward.{Change, moved}
+use Rattle.hg_table.proofs.Forward.{Change, IsQuiet, moved}
 
 pub pair_is : (a b c d : ℕ) → ◌≡◌ {A = ℕ × ℕ} (a, b) (c, d) → (a ≡ c) × (b ≡ d)
 pair_is a b c d e = (ap (λ (x : ℕ × ℕ). x.0) e, ap (λ (x : ℕ × ℕ). x.1) e)
@@ -107,10 +108,6 @@ record_here p a st v fits k l is = let at : p - a.first ≡ k = omega arith in
 record_elsewhere : (p : ℕ) (a : Part) (st : Standing) → a.first ≤ p → (k : ℕ) → k < length a.records → a.first + k ≢ p → standing_at (set a.records (p - a.first) st) k ≡ standing_at a.records k
 record_elsewhere p a st from k l not = get_or-set_other a.records (p - a.first) k st (Home 0) (λ e. not (omega arith))
 
-only_one : (a : Part) (j : ℕ) (b : Part) → get_elem? (a ∷ []) j ≡ some b → (j ≡ 0) × (a ≡ b)
-only_one a zero b e = (refl, some-injective a b e)
-only_one a (suc j) b e = absurd (some-ne-none b (sym e))
-
 -- the table after a step at the word p that leaves v, by a seat whose view becomes w
 abbrev pub after : Table → ℕ → ℕ → ℕ → View → Table
 after s p v id w = record { words = set s.words p v; homes = s.homes; views = set s.views id w }
@@ -121,30 +118,55 @@ module _ (n : ℕ) (s : Table) (r : LifeRule n s) (p id : ℕ) (view : View) (at
 
   looking : LifeRule n (after s p found id (map (saw p found) view))
   looking = let w : ℕ = found in let wide = r.all_words in
-      moved n s r p w id [] view (saw p w) at (omega arith) (r.well_formed p) (itself w) (λ e. subst (λ (z : ℕ). get_or s.words z 0 ≡ 0) (sym e) r.spare)
-      (λ j a e. still p w a (shown_to n s r p id view at j a e).recorded)
+      let sees : (j : ℕ) (a : Part) → get_elem? view j ≡ some a → Change p w w a (saw p w a) = λ j a e. still p w a (shown_to n s r p id view at j a e).recorded in
+      moved n s r p w id [] view (map (saw p w) view) at (omega arith) (r.well_formed p) (itself w) (λ e. subst (λ (z : ℕ). get_or s.words z 0 ≡ 0) (sym e) r.spare)
+      (λ j b e. let m = map_at (saw p w) view j b e in (m.0, m.1, subst (Change p w w m.0) m.2 (sees j m.0 m.1)))
+      (λ j a e. (saw p w a, at_map (saw p w) view j a e, sees j a e))
       (inr refl) (λ g one over. inl over) (inl (λ st f. f))
 
-  module _ (alone : IsAlone p view) where
-    abbrev mine : Part
-    mine = part_of view
-
-    -- one part, which changes to f of it
+  -- the part at this number makes the step
+  module _ (by : ℕ) (mine : Part) (there : get_elem? view by ≡ some mine) (some_place : 1 ≤ p) where
+    -- it changes to f of it, and each other has seen the word that is left
     stepping : (v : ℕ) (f : Part → Part) → IsSlotWord v → IsAtOrBefore found v
         → Change p found v mine (f mine)
         → ((g : ℕ) → 1 ≤ g → IsOver g v → IsOver g found ⊎ ((k : ℕ) × (get_elem? (f mine).ended k ≡ some (p, g))))
         → ((st : Standing) → Fits st found → Fits st v) ⊎ HasRecord p mine
-        → LifeRule n (after s p v id (map f view))
-    stepping v f sane forward ch ends spares = let wide = r.all_words in let one = alone.1 in let some_place = alone.0 in let first : get_elem? view 0 ≡ some mine = ap (λ (z : View). get_elem? z 0) one in
-        let the_one : (j : ℕ) (a : Part) → get_elem? view j ≡ some a → (j ≡ 0) × (mine ≡ a) = λ j a e. only_one mine j a (subst (λ (z : View). get_elem? z j ≡ some a) one e) in
-        moved n s r p v id [] view f at (omega arith) sane forward (λ e. absurd (omega arith))
-        (λ j a e. subst (λ (z : Part). Change p found v z (f z)) (the_one j a e).1 ch)
-        (inl ((λ j a e. (the_one j a e).0), mine, first))
-        (λ g least over. ⊎_elim inl (λ (t : (k : ℕ) × (get_elem? (f mine).ended k ≡ some (p, g))). inr (0, t.0, mine, first, t.1)) (ends g least over))
-        (⊎_elim inl (λ (t : HasRecord p mine). inr (0, t.0, mine, first, t.1, t.2)) spares)
+        → LifeRule n (after s p v id (but_one by f (saw p v) view))
+    stepping v f sane forward ch ends spares = let wide = r.all_words in
+        let new : View = but_one by f (saw p v) view in
+        let sees : (j : ℕ) (a : Part) → j ≢ by → get_elem? view j ≡ some a → Change p found v a (saw p v a) = λ j a not e.
+        change p found v a a.ended a.records refl (λ k q g m. inr (k, m)) (λ k q g m. (k, m))
+        (λ k l is. ⊎_elim (λ fits. fits (standing_at a.records k) ((shown_to n s r p id view at j a e).recorded k l is))
+        (λ (has : HasRecord p mine). absurd (not (r.one_view id j k id by has.0 a mine (view, at, e) (view, at, there) l has.1 (is ∙ sym has.2)).1)) spares)
+        (λ k l ne. refl) in
+        let same : (a : Part) → get_elem? view by ≡ some a → mine ≡ a = λ a e. some-injective mine a (sym there ∙ e) in
+        let becomes : (j : ℕ) (a : Part) → get_elem? view j ≡ some a → (b : Part) × (get_elem? new j ≡ some b) × Change p found v a b = λ j a e.
+        dite (ℕ_discrete j by)
+        (λ (is : j ≡ by). let here = subst (λ (z : ℕ). get_elem? view z ≡ some a) is e in
+        (f a, subst (λ (z : ℕ). get_elem? new z ≡ some (f a)) (sym is) (one_is f (saw p v) view by a here), subst (λ (z : Part). Change p found v z (f z)) (same a here) ch))
+        (λ not. (saw p v a, others_are f (saw p v) view by j a not e, sees j a not e)) in
+        moved n s r p v id [] view new at (omega arith) sane forward (λ e. absurd (omega arith))
+        (λ j b e. let m = stood_before f (saw p v) view by j b e in (
+          m.0,
+          m.1,
+          ⊎_elim
+              (λ (t : (j ≡ by) × (f m.0 ≡ b)). subst (Change p found v m.0) t.1 (subst (λ (z : Part). Change p found v z (f z)) (same m.0 (subst (λ (z : ℕ). get_elem? view z ≡ some m.0) t.0 m.1)) ch))
+              (λ (t : (j ≢ by) × (saw p v m.0 ≡ b)). subst (Change p found v m.0) t.1 (sees j m.0 t.0 m.1)) m.2,
+        ))
+        becomes
+        (inl (
+          by,
+          mine,
+          there,
+          λ j a b not e eb.
+              let is : saw p v a ≡ b = some-injective (saw p v a) b (sym (others_are f (saw p v) view by j a not e) ∙ eb) in
+              subst (IsQuiet a) is (λ k q g m. (k, m)),
+        ))
+        (λ g least over. ⊎_elim inl (λ (t : (k : ℕ) × (get_elem? (f mine).ended k ≡ some (p, g))). inr (by, t.0, f mine, one_is f (saw p v) view by mine there, t.1)) (ends g least over))
+        (⊎_elim inl (λ (t : HasRecord p mine). inr (by, t.0, mine, there, t.1, t.2)) spares)
 
     pub shown : IsShown p found mine
-    shown = shown_to n s r p id view at 0 mine (ap (λ (z : View). get_elem? z 0) alone.1)
+    shown = shown_to n s r p id view at by mine there
 
     -- the live word that was expected stands: it becomes the freed one
     module _ (live : IsLiveWord found) where
@@ -154,7 +176,7 @@ module _ (n : ℕ) (s : Table) (r : LifeRule n s) (p id : ℕ) (view : View) (at
           (λ (is : word_generation found ≡ g). inr (length mine.ended, subst (λ (z : ℕ). get_elem? (mine.ended ++ (p, word_generation found) ∷ []) (length mine.ended) ≡ some (p, z)) is (at_last mine.ended (p, word_generation found) (length mine.ended) refl)))
           (λ not. inl (let low = over.0 in omega arith, λ is. absurd (not is)))
 
-      parting : LifeRule n (after s p (found - 1) id (map (λ part. ending p (word_generation found) (saw p (found - 1) part)) view))
+      parting : LifeRule n (after s p (found - 1) id (but_one by (λ part. ending p (word_generation found) (saw p (found - 1) part)) (saw p (found - 1)) view))
       parting = let after_it = freed_word_after found live in let slot = live_slot found live in
           stepping (found - 1) (λ part. ending p (word_generation found) (saw p (found - 1) part)) slot.1 after_it.0
           (change p found (found - 1) mine (mine.ended ++ (p, word_generation found) ∷ []) mine.records refl
@@ -165,7 +187,7 @@ module _ (n : ℕ) (s : Table) (r : LifeRule n s) (p id : ℕ) (view : View) (at
           ended_here
           (inl (λ st fits. open_spares found live st fits))
 
-      closing : HasRecord p mine → LifeRule n (after s p (found - 1) id (map (λ part. recording p (Home (word_generation found)) (ending p (word_generation found) (saw p (found - 1) part))) view))
+      closing : HasRecord p mine → LifeRule n (after s p (found - 1) id (but_one by (λ part. recording p (Home (word_generation found)) (ending p (word_generation found) (saw p (found - 1) part))) (saw p (found - 1)) view))
       closing has = let after_it = freed_word_after found live in let slot = live_slot found live in let inside = has.1 in let here = has.2 in
           stepping (found - 1) (λ part. recording p (Home (word_generation found)) (ending p (word_generation found) (saw p (found - 1) part))) slot.1 after_it.0
           (change p found (found - 1) mine (mine.ended ++ (p, word_generation found) ∷ []) (set mine.records (p - mine.first) (Home (word_generation found))) (length-set mine.records (p - mine.first) (Home (word_generation found)))
@@ -200,7 +222,7 @@ module _ (n : ℕ) (s : Table) (r : LifeRule n s) (p id : ℕ) (view : View) (at
         (λ not. (omega arith, λ _. freed))
 
     opening : (v : ℕ) → IsLiveWord v → HasRecord p mine → (is_home (record_of p mine) ≡ true) → word_generation v ≡ standing_generation (record_of p mine) + 1
-        → LifeRule n (after s p v id (map (λ part. recording p (Open (word_generation v) (word_owner v)) (saw p v part)) view))
+        → LifeRule n (after s p v id (but_one by (λ part. recording p (Open (word_generation v) (word_owner v)) (saw p v part)) (saw p v) view))
     opening v live has home next = let inside = has.1 in let here = has.2 in let st : Standing = Open (word_generation v) (word_owner v) in
         stepping v (λ part. recording p st (saw p v part)) live.0 (next_life v has next)
         (change p found v mine mine.ended (set mine.records (p - mine.first) st) (length-set mine.records (p - mine.first) st) (λ k q g e. inr (k, e)) (λ k q g e. (k, e))
@@ -209,7 +231,7 @@ module _ (n : ℕ) (s : Table) (r : LifeRule n s) (p id : ℕ) (view : View) (at
         (λ g least over. inl (over_before v has next home live g over))
         (inr has)
 
-    taking : HasRecord p mine → word_life found ≡ 0 → LifeRule n (after s p found id (map (λ part. recording p (Home (word_generation found)) (saw p found part)) view))
+    taking : HasRecord p mine → word_life found ≡ 0 → LifeRule n (after s p found id (but_one by (λ part. recording p (Home (word_generation found)) (saw p found part)) (saw p found) view))
     taking has freed = let inside = has.1 in let here = has.2 in let st : Standing = Home (word_generation found) in
         stepping found (λ part. recording p st (saw p found part)) (r.well_formed p) (itself found)
         (change p found found mine mine.ended (set mine.records (p - mine.first) st) (length-set mine.records (p - mine.first) st) (λ k q g e. inr (k, e)) (λ k q g e. (k, e))
@@ -218,35 +240,53 @@ module _ (n : ℕ) (s : Table) (r : LifeRule n s) (p id : ℕ) (view : View) (at
         (λ g least over. inl over)
         (inr has)
 
-  pub opened_forward : (live : ℕ) → MayMake (open_as live) p view → IsAtOrBefore found live
-  opened_forward live may = next_life may.0 live may.2 may.4
-
   -- each of them
+  pub keeps_rule_by : (by : ℕ) (step : WordStep) → MayMakeBy by step p view → LifeRule n (after s p (left_by step found) id (view_after by step p found view))
+  keeps_rule_by by look may = subst (λ (z : View). LifeRule n (after s p found id z)) (sym (all_alike (saw p found) view by)) looking
+  keeps_rule_by by (open_as live) may = let owes = may.3 in opening by may.1 may.2 may.0 live owes.0 owes.1 owes.2 owes.3
+  keeps_rule_by by (close_from expected) may = dite (ℕ_discrete found expected)
+      (λ hit. subst (λ (b : Bool). LifeRule n (after s p (if b then expected - 1 else found) id
+      (but_one by (λ part. if b then recording p (Home (word_generation expected)) (ending p (word_generation expected) (saw p (expected - 1) part)) else saw p found part) (saw p (if b then expected - 1 else found)) view)))
+      (sym (eq-eqb found expected hit))
+      (subst (λ (z : ℕ). LifeRule n (after s p (z - 1) id (but_one by (λ part. recording p (Home (word_generation z)) (ending p (word_generation z) (saw p (z - 1) part))) (saw p (z - 1)) view))) hit
+      (let owes = may.3 in closing by may.1 may.2 may.0 (subst IsLiveWord (sym hit) owes.0) owes.1)))
+      (λ miss. subst (λ (b : Bool). LifeRule n (after s p (if b then expected - 1 else found) id
+      (but_one by (λ part. if b then recording p (Home (word_generation expected)) (ending p (word_generation expected) (saw p (expected - 1) part)) else saw p found part) (saw p (if b then expected - 1 else found)) view)))
+      (sym (ne_eqb found expected miss))
+      (subst (λ (z : View). LifeRule n (after s p found id z)) (sym (all_alike (saw p found) view by)) looking))
+  keeps_rule_by by (part_from expected) may = dite (ℕ_discrete found expected)
+      (λ hit. subst (λ (b : Bool). LifeRule n (after s p (if b then expected - 1 else found) id
+      (but_one by (λ part. if b then ending p (word_generation expected) (saw p (expected - 1) part) else saw p found part) (saw p (if b then expected - 1 else found)) view)))
+      (sym (eq-eqb found expected hit))
+      (subst (λ (z : ℕ). LifeRule n (after s p (z - 1) id (but_one by (λ part. ending p (word_generation z) (saw p (z - 1) part)) (saw p (z - 1)) view))) hit
+      (parting by may.1 may.2 may.0 (subst IsLiveWord (sym hit) may.3))))
+      (λ miss. subst (λ (b : Bool). LifeRule n (after s p (if b then expected - 1 else found) id
+      (but_one by (λ part. if b then ending p (word_generation expected) (saw p (expected - 1) part) else saw p found part) (saw p (if b then expected - 1 else found)) view)))
+      (sym (ne_eqb found expected miss))
+      (subst (λ (z : View). LifeRule n (after s p found id z)) (sym (all_alike (saw p found) view by)) looking))
+  keeps_rule_by by take_home may = dite (ℕ_discrete (word_life found) 0)
+      (λ freed. subst (λ (b : Bool). LifeRule n (after s p found id
+      (but_one by (λ part. if b then recording p (Home (word_generation found)) (saw p found part) else saw p found part) (saw p found) view)))
+      (sym (eq-eqb (word_life found) 0 freed)) (taking by may.1 may.2 may.0 may.3 freed))
+      (λ alive. subst (λ (b : Bool). LifeRule n (after s p found id
+      (but_one by (λ part. if b then recording p (Home (word_generation found)) (saw p found part) else saw p found part) (saw p found) view)))
+      (sym (ne_eqb (word_life found) 0 alive))
+      (subst (λ (z : View). LifeRule n (after s p found id z)) (sym (all_alike (saw p found) view by)) looking))
+
+  pub opened_forward : (live : ℕ) → MayMake (open_as live) p view → IsAtOrBefore found live
+  opened_forward live may = let owes = may.1 in next_life 0 (part_of view) (ap (λ (z : View). get_elem? z 0) may.0.1) may.0.0 live owes.1 owes.3
+
+  -- and of a seat of one part
+  alone : (step : WordStep) → (view ≡ part_of view ∷ []) → MayMakeBy 0 step p view
+      → LifeRule n (after s p (left_by step found) id (map (known_after step p found) view))
+  alone step one may =
+      let it : view_after 0 step p found view ≡ map (known_after step p found) view =
+      subst (λ (z : View). view_after 0 step p found z ≡ map (known_after step p found) z) (sym one) refl in
+      subst (λ (z : View). LifeRule n (after s p (left_by step found) id z)) it (keeps_rule_by 0 step may)
+
   pub keeps_rule : (step : WordStep) → MayMake step p view → LifeRule n (after s p (left_by step found) id (map (known_after step p found) view))
   keeps_rule look may = looking
-  keeps_rule (open_as live) may = opening may.0 live may.1 may.2 may.3 may.4
-  keeps_rule (close_from expected) may = dite (ℕ_discrete found expected)
-      (λ hit. subst (λ (b : Bool). LifeRule n (after s p (if b then expected - 1 else found) id
-      (map (λ part. if b then recording p (Home (word_generation expected)) (ending p (word_generation expected) (saw p (expected - 1) part)) else saw p found part) view)))
-      (sym (eq-eqb found expected hit))
-      (subst (λ (z : ℕ). LifeRule n (after s p (z - 1) id (map (λ part. recording p (Home (word_generation z)) (ending p (word_generation z) (saw p (z - 1) part))) view))) hit
-      (closing may.0 (subst IsLiveWord (sym hit) may.1) may.2)))
-      (λ miss. subst (λ (b : Bool). LifeRule n (after s p (if b then expected - 1 else found) id
-      (map (λ part. if b then recording p (Home (word_generation expected)) (ending p (word_generation expected) (saw p (expected - 1) part)) else saw p found part) view)))
-      (sym (ne_eqb found expected miss)) looking)
-  keeps_rule (part_from expected) may = dite (ℕ_discrete found expected)
-      (λ hit. subst (λ (b : Bool). LifeRule n (after s p (if b then expected - 1 else found) id
-      (map (λ part. if b then ending p (word_generation expected) (saw p (expected - 1) part) else saw p found part) view)))
-      (sym (eq-eqb found expected hit))
-      (subst (λ (z : ℕ). LifeRule n (after s p (z - 1) id (map (λ part. ending p (word_generation z) (saw p (z - 1) part)) view))) hit
-      (parting may.0 (subst IsLiveWord (sym hit) may.1))))
-      (λ miss. subst (λ (b : Bool). LifeRule n (after s p (if b then expected - 1 else found) id
-      (map (λ part. if b then ending p (word_generation expected) (saw p (expected - 1) part) else saw p found part) view)))
-      (sym (ne_eqb found expected miss)) looking)
-  keeps_rule take_home may = dite (ℕ_discrete (word_life found) 0)
-      (λ freed. subst (λ (b : Bool). LifeRule n (after s p found id
-      (map (λ part. if b then recording p (Home (word_generation found)) (saw p found part) else saw p found part) view)))
-      (sym (eq-eqb (word_life found) 0 freed)) (taking may.0 may.1 freed))
-      (λ alive. subst (λ (b : Bool). LifeRule n (after s p found id
-      (map (λ part. if b then recording p (Home (word_generation found)) (saw p found part) else saw p found part) view)))
-      (sym (ne_eqb (word_life found) 0 alive)) looking)
+  keeps_rule (open_as live) may = alone (open_as live) may.0.1 (may.0.0, part_of view, ap (λ (z : View). get_elem? z 0) may.0.1, may.1)
+  keeps_rule (close_from expected) may = alone (close_from expected) may.0.1 (may.0.0, part_of view, ap (λ (z : View). get_elem? z 0) may.0.1, may.1)
+  keeps_rule (part_from expected) may = alone (part_from expected) may.0.1 (may.0.0, part_of view, ap (λ (z : View). get_elem? z 0) may.0.1, may.1)
+  keeps_rule take_home may = alone take_home may.0.1 (may.0.0, part_of view, ap (λ (z : View). get_elem? z 0) may.0.1, may.1)

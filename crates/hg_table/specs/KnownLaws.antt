@@ -1,12 +1,13 @@
 -- Laws of what a seat knows: what a step adds to it, what a meeting says of two seats, who knows
--- nothing, and that a step leaves no word that is before one that was seen.
-use Rattle.std.specs.Prelude.{◌≡◌, ◌⊎◌, ℕ, ◌<◌, length, slice_index}
+-- nothing, that a step leaves no word that is before one that was seen, and what one by one of several
+-- parts makes of them.
+use Rattle.std.specs.Prelude.{◌≡◌, ◌≢◌, ◌⊎◌, ◌↔◌, ℕ, ◌<◌, ◌≤◌, [], ◌∷◌, length, slice_index}
 use mathlib.Core.Option.{some}
 use lib.ListN.{get_elem?}
 use Rattle.hg_place.specs.Lives.{IsAtOrBefore, word_generation, word_life}
 use Rattle.hg_table.specs.declared.view.Part.{Part}
-use Rattle.hg_table.specs.View.{View, Table, Has}
-use Rattle.hg_table.specs.Steps.{WordStep, left_by, MayMake}
+use Rattle.hg_table.specs.View.{View, Table, Has, saw}
+use Rattle.hg_table.specs.Steps.{WordStep, left_by, known_after, view_after, MayMake, MayMakeBy}
 use Rattle.hg_table.specs.Seats.{HasStepped, HaveMet, KnowsNothing}
 use Rattle.hg_table.specs.LifeLaws.{new_table, LeadTo}
 
@@ -76,3 +77,21 @@ LeftIsPastSeen =
     → get_elem? table.views id ≡ some view → MayMake step at view
     → Has table.views i j part → HasSeen part at before
     → IsAtOrBefore before (left_by step (slice_index table.words at))
+
+-- A step by one part of a seat: that part knows what the step did, each other has seen the word that is
+-- left and is as it was otherwise, and there are as many. A part may make what a seat of it alone may
+pub record OnePartSteps : Type 0 where
+  pub one :
+      (by at word : ℕ) (step : WordStep) (view : View) (part : Part)
+      → get_elem? view by ≡ some part
+      → get_elem? (view_after by step at word view) by ≡ some (known_after step at word part)
+  pub others :
+      (by j at word : ℕ) (step : WordStep) (view : View) (part : Part) → j ≢ by
+      → get_elem? view j ≡ some part
+      → get_elem? (view_after by step at word view) j ≡ some (saw at (left_by step word) part)
+  pub count :
+      (by at word : ℕ) (step : WordStep) (view : View)
+      → length (view_after by step at word view) ≡ length view
+  pub may :
+      (by at : ℕ) (step : WordStep) (view : View) (part : Part) → get_elem? view by ≡ some part
+      → 1 ≤ at → MayMake step at (part ∷ []) ↔ MayMakeBy by step at view

@@ -1,5 +1,6 @@
--- The seven kinds of step that the code's seats make, and what each does. What no step of any kind can
--- do, since the rule holds behind it, is in LifeLaws.
+-- The seven kinds of step that this crate's seats make, and what each does; and a step at a word by one
+-- of several parts of a seat, which a table above makes. What no step of the seven kinds can do, since
+-- the rule holds behind it, is in LifeLaws.
 use Rattle.std.specs.Prelude.{◌≡◌, ◌≢◌, ℕ, ◌+◌, ◌-◌, ◌<◌, ◌≤◌, ◌==◌, if◌then◌else◌, true, []}
 use Rattle.std.specs.Prelude.{◌∷◌, ◌++◌, map, take, drop, length, slice_index, slice_set}
 use mathlib.Core.Option.{some}
@@ -11,7 +12,7 @@ use Rattle.hg_place.specs.Standings.{standing_at, is_home, standing_generation}
 use Rattle.hg_place.specs.declared.geometry.TheConstants.{SEGMENT_PLACES}
 use Rattle.hg_table.specs.declared.view.Part.{Part}
 use Rattle.hg_table.specs.View.{View, Table, HasRecord, saw, ending, recording, blank, part_of}
-use Rattle.hg_table.specs.View.{first_records, later_records, giving}
+use Rattle.hg_table.specs.View.{but_one, first_records, later_records, giving}
 
 -- At the word of a place. look: it is read; open: the place is home, and the word becomes this live
 -- one; close and part: the live word that is expected becomes the freed one of its life, if it
@@ -55,24 +56,42 @@ known_after take_home at word part =
 abbrev pub record_of : ℕ → Part → Standing
 record_of at part = standing_at part.records (at - part.first)
 
--- a step that may change the word or a record is made at the word of a place, by a seat that hasn't
--- taken in another
+-- the word is a place's, and the seat has one part
 abbrev pub IsAlone : ℕ → View → Type 0
 IsAlone at view = (1 ≤ at) × (view ≡ part_of view ∷ [])
 
--- what a seat with this view owes: a place that is opened is home, in the seat's own records, and
--- the live word is of its next generation; what is to be ended is a live word; a place is closed or
--- taken home by the seat that has its record
+-- what the part that makes a step owes: a place that is opened is home, in its own records, and the
+-- live word is of its next generation; what is to be ended is a live word; a place is closed or taken
+-- home by the part that has its record
+abbrev pub PartMayMake : WordStep → ℕ → Part → Type 0
+PartMayMake look at part = Unit {0}
+PartMayMake (open_as live) at part =
+    IsLiveWord live × HasRecord at part × (is_home (record_of at part) ≡ true)
+    × (word_generation live ≡ standing_generation (record_of at part) + 1)
+PartMayMake (close_from expected) at part = IsLiveWord expected × HasRecord at part
+PartMayMake (part_from expected) at part = IsLiveWord expected
+PartMayMake take_home at part = HasRecord at part
+
+-- any seat may look; a seat of one part may make what the part may
 abbrev pub MayMake : WordStep → ℕ → View → Type 0
 MayMake look at view = Unit {0}
-MayMake (open_as live) at view =
-    IsAlone at view × IsLiveWord live × HasRecord at (part_of view)
-    × (is_home (record_of at (part_of view)) ≡ true)
-    × (word_generation live ≡ standing_generation (record_of at (part_of view)) + 1)
+MayMake (open_as live) at view = IsAlone at view × PartMayMake (open_as live) at (part_of view)
 MayMake (close_from expected) at view =
-    IsAlone at view × IsLiveWord expected × HasRecord at (part_of view)
-MayMake (part_from expected) at view = IsAlone at view × IsLiveWord expected
-MayMake take_home at view = IsAlone at view × HasRecord at (part_of view)
+    IsAlone at view × PartMayMake (close_from expected) at (part_of view)
+MayMake (part_from expected) at view =
+    IsAlone at view × PartMayMake (part_from expected) at (part_of view)
+MayMake take_home at view = IsAlone at view × PartMayMake take_home at (part_of view)
+
+-- the part at this number of the view, counted from 0, may make it, at the word of a place; a look isn't
+-- asked that
+abbrev pub MayMakeBy : ℕ → WordStep → ℕ → View → Type 0
+MayMakeBy by step at view =
+    (1 ≤ at) × (part : Part) × (get_elem? view by ≡ some part) × PartMayMake step at part
+
+-- the view after a step by that part: it knows what the step did, and each other has seen the word
+-- that is left
+abbrev pub view_after : ℕ → WordStep → ℕ → ℕ → View → View
+view_after by step at word view = but_one by (known_after step at word) (saw at (left_by step word)) view
 
 -- split: the second part of a view goes to a new seat; or the records of the first segment that is
 -- left with the initial seat; or nothing. By the last two a seat comes out of the one that is cut,

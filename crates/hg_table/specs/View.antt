@@ -1,6 +1,6 @@
 -- What the seats of a table know of its words. A seat's view is a list of parts, of one as a rule;
--- of two where it took in another seat, until they are cut; of none in the seat that was taken in.
-use Rattle.std.specs.Prelude.{◌≡◌, ℕ, ◌+◌, ◌-◌, ◌<◌, List, [], ◌∷◌, ◌++◌, length, replicate}
+-- of more where it took in other seats, until they are cut; of none in the seat that was taken in.
+use Rattle.std.specs.Prelude.{◌≡◌, ℕ, zero, suc, ◌+◌, ◌-◌, ◌<◌, List, [], ◌∷◌, ◌++◌, length, map, replicate}
 use Rattle.std.specs.Prelude.{slice_set, take, drop}
 use mathlib.Core.Option.{some}
 use lib.ListN.{get_elem?}
@@ -101,6 +101,12 @@ later_records count part = record part {
   records = drop count part.records;
   may_give = part.may_give - 1;
 }
+
+-- the part at this number becomes what the first function makes of it, each other what the second does
+abbrev pub but_one : ℕ → (Part → Part) → (Part → Part) → View → View
+but_one by one other [] = []
+but_one zero one other (part ∷ more) = one part ∷ map other more
+but_one (suc by) one other (part ∷ more) = other part ∷ but_one by one other more
 
 -- the one part of a view
 abbrev pub part_of : View → Part

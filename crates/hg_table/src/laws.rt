@@ -6,7 +6,7 @@ ghost use Rattle.hg_table.specs.LifeLaws.{EndedByOneSeat, SeenIsNeverAhead, Reco
 ghost use Rattle.hg_table.specs.LifeLaws.{EndedBySomeSeat, WordsAreSeen, TheRuleGoesForward};
 ghost use Rattle.hg_table.specs.LifeLaws.{WhatEndsIsEnded, SeatsStayAsMany};
 ghost use Rattle.hg_table.specs.KnownLaws.{StepsAddOneLife, MeetingsAreApart, NothingIsKnown};
-ghost use Rattle.hg_table.specs.KnownLaws.{LeftIsPastSeen};
+ghost use Rattle.hg_table.specs.KnownLaws.{LeftIsPastSeen, OnePartSteps};
 
 /// A new table keeps the life rule, and each of the seven kinds of step keeps it.
 pub fn steps_keep_the_rule()
@@ -86,4 +86,10 @@ pub fn nothing_is_known()
 /// A step leaves no word that is before one that was seen there.
 pub fn left_is_past_seen()
     ensures { LeftIsPastSeen }
+{}
+
+/// A step by one of several parts of a seat changes that part as it changes a seat of it alone, and each
+/// other has seen the word that is left; a part may make what a seat of it alone may.
+pub fn one_part_steps()
+    ensures { OnePartSteps }
 {}

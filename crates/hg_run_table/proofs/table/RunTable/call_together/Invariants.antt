@@ -1,7 +1,8 @@
-use Rattle.std.specs.Prelude.{[], ◌∷◌, None}
+use Rattle.std.specs.Prelude.{[], ◌∷◌, length}
 use Rattle.hg_roles.specs.Joined.{both_called}
 use Rattle.hg_roles.specs.Roles.{of_worker}
 use Rattle.hg_run_table.specs.Calls.{log_in}
+use Rattle.hg_run_table.specs.Reshaping.{front}
 use Rattle.hg_run_table.proofs.table.RunTable.call_together.Given as goal
 
 abbrev pub ghosts-decide : goal.ghosts-decide
@@ -12,4 +13,4 @@ ghosts-decide g a = record {
 }
 
 abbrev pub ghosts-split : goal.ghosts-split
-ghosts-split g a = record { stay = 1; lives = None }
+ghosts-split g a = record { stay = 1; lives = front (length a.seat.now.seat.me.0.lives) }

@@ -9,5 +9,5 @@ compare_exchange-requires g c =
       search rules,
       omega (arith, c.requires.place),
       rw at
-          (closes _ _ _ _ _ (omega (arith, c.requires.place)) _ g.D.Decision.made g.D.Decision.change c.requires.roles _ c.requires.may c.requires.decides),
+          (closes _ _ _ _ _ (omega (arith, c.requires.place)) _ g.D.Decision.made g.D.Decision.change c.requires.roles g.P.StepsBy.by _ c.requires.may c.requires.decides),
     )

@@ -1,4 +1,4 @@
-use Rattle.std.proofs.Common.{Some, rules, ◌≡◌, ℕ, ◌*◌, [], ◌∷◌, refl, sym, ◌∙◌, subst}
+use Rattle.std.proofs.Common.{Some, rules, ◌≡◌, ℕ, ◌*◌, [], ◌∷◌, refl, sym, ◌∙◌, ap, take, subst}
 use Rattle.std.specs.List.{slice_get}
 use Rattle.hg_place.specs.declared.geometry.TheConstants.{SEGMENT_PLACES}
 use Rattle.hg_roles.specs.FirstParts.{full}
@@ -16,7 +16,7 @@ segment_seats-requires-clause-none c = (c.split-parts.ensures.roles [] _ refl c.
 pub segment_seats-requires-clause-initial : goal.segment_seats-requires-clause-initial
 segment_seats-requires-clause-initial c =
     subst (λ n. IsInitial 0 (n * SEGMENT_PLACES) c.split-parts.new.seat.seat.me.0.lives) (sym c.segments-segment_count.ensures.segments)
-    (is_initial _ _ (c.split-parts.ensures.lives ∙ c.in_ok-table.ensures.lives))
+    (is_initial _ _ (c.split-parts.ensures.lives ∙ ap (take 1) c.in_ok-table.ensures.lives))
 
 pub segment_seats-requires-clause-roles : goal.segment_seats-requires-clause-roles
 segment_seats-requires-clause-roles c =

@@ -1,8 +1,5 @@
-use Rattle.std.proofs.Common.{◌++◌, [], ◌∷◌, ap, ◌∙◌, sym, inl, append-nil}
+use Rattle.std.proofs.Common.{◌++◌, [], ◌∷◌, ap, ◌∙◌, sym, append-nil}
 use Rattle.hg_run_table.proofs.table.RunTable.part_seat.Goals as goal
-
-pub join-requires-clause-lives : goal.join-requires-clause-lives
-join-requires-clause-lives g c = inl c.next_part-part.ensures.bare_one
 
 pub returns-clause-none : goal.returns-clause-none
 returns-clause-none g c = (c.split-seat.ensures.roles [] [] (sym c.requires.no_part) c.requires.none).0

@@ -15,6 +15,12 @@ returns-clause-lives g c = ap (λ m. m.0.lives) c.split_seat-seat.ensures.2
 pub returns-clause-lives_given : goal.returns-clause-lives_given
 returns-clause-lives_given g c = ap (λ m. m.0.lives) c.split_seat-seat.ensures.4
 
+pub returns-clause-run : goal.returns-clause-run
+returns-clause-run g c = ap (λ m. m.0.run) c.split_seat-seat.ensures.2
+
+pub returns-clause-run_given : goal.returns-clause-run_given
+returns-clause-run_given g c = ap (λ m. m.0.run) c.split_seat-seat.ensures.4
+
 pub returns-clause-roles : goal.returns-clause-roles
 returns-clause-roles g c roles theirs is has =
     let cut = cut_have _ _ _ _ is has in

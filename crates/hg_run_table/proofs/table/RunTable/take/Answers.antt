@@ -3,10 +3,10 @@ use Rattle.hg_run_table.proofs.Allowed.{takes}
 use Rattle.hg_run_table.proofs.table.RunTable.take.Goals as goal
 
 pub load-requires : goal.load-requires
-load-requires c =
+load-requires g c =
     let wide = c.args.self.now.wide in
     let at = c.number.ensures.number in (
       search rules,
       omega (arith, c.requires.place),
-      rw at (takes _ _ _ _ _ (omega (arith, c.requires.place)) 0 0 c.requires.may),
+      rw at (takes _ _ _ _ _ (omega (arith, c.requires.place)) g.P.StepsBy.by 0 0 c.requires.may),
     )
