@@ -52,7 +52,7 @@ all_fail : (p : ℕ → Bool) (x : ℕ) → find p all_pages ≡ None → x < 10
 unfolding all_pages
 all_fail p x e lt t = find_fails p 0 1024 x e lt (let z : 0 + x ≡ x = omega arith in ap p z ∙ t)
 
-some_of : (xs : List ℕ) → is_some_place xs ≡ true → (x : ℕ) × (ys : List ℕ) × (xs ≡ x ∷ ys)
+pub some_of : (xs : List ℕ) → is_some_place xs ≡ true → (x : ℕ) × (ys : List ℕ) × (xs ≡ x ∷ ys)
 some_of [] e = absurd (true≢false (sym e))
 some_of (x ∷ ys) e = (x, ys, refl)
 

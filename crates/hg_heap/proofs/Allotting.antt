@@ -35,7 +35,7 @@ use Rattle.hg_heap.proofs.Founds.{numbers, Contains-get, numbers_same}
 use Rattle.hg_heap.proofs.Allotted.{in_list, from_opened, from_begun}
 use Rattle.hg_heap.proofs.Requeuing.{requeued_twice}
 
-begun_is : (xs : List ℕ) (lists : PageLists) → is_some_place xs ≡ true
+pub begun_is : (xs : List ℕ) (lists : PageLists) → is_some_place xs ≡ true
     → begun_or xs lists ≡ fresh xs
 begun_is [] lists e = absurd (true≢false (sym e))
 begun_is (x ∷ xs) lists e = refl

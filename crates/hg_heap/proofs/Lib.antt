@@ -9,6 +9,7 @@ pub mod RightChanged
 pub mod ChargeChanged
 pub mod Beginning
 pub mod Giving
+pub mod Letting
 pub mod OpenBlocks
 pub mod PartCall
 pub mod Looking
@@ -32,6 +33,7 @@ pub mod Allotted
 pub mod Allotting
 pub mod ViewCharges
 pub mod AllocRooms
+pub mod NextSegment
 pub mod AllocCall
 pub mod FreeCall
 pub mod FreedRecords

@@ -1,5 +1,6 @@
--- What a meeting at a place of a held segment leaves of the heap.
-use Rattle.std.proofs.Common.{◌≡◌, ℕ, List, map, Option, Some, refl, ap, ◌∙◌, slice_set}
+-- What a change of the slot words of a held segment alone leaves of the heap: a meeting at a place, and
+-- what is lent.
+use Rattle.std.proofs.Common.{◌≡◌, ◌↔◌, ℕ, List, map, Option, Some, refl, ap, ◌∙◌, slice_set}
 use Rattle.hg_place.specs.declared.Place.{Place}
 use Rattle.hg_place.specs.declared.standing.Standing.{Standing}
 use Rattle.hg_place.specs.Standings.{slot_of}
@@ -9,18 +10,18 @@ use Rattle.hg_heap.specs.Settled.{IsSettled}
 use Rattle.hg_heap.specs.Right.{IsRight}
 use Rattle.hg_heap.specs.Keeping.{rest_of, KeepsAll}
 use Rattle.hg_heap.specs.Met.{Met}
+use Rattle.hg_heap.specs.SlotsChanged.{SlotsChanged}
 use Rattle.hg_heap.proofs.Founds.{Found, found_is, map_same, number_is}
 use Rattle.hg_heap.proofs.Judging.{rest_same}
 use Rattle.hg_heap.proofs.RightKept.{lists_kept, right_kept}
 
-module _ {S Other : Type 0} (number : S → ℕ) (records : S → List Standing)
-    (shows : S → ℕ → ℕ → Type 0) (meets : S → Other → ℕ → ℕ → S → Other → Type 0)
-    (items : List (Kept S)) (found : ℕ) (place : Place) (one : Kept S)
-    (here : Found number items place.segment found one) where
-  -- what holds of the segment of the place holds of the one that was found
+module _ {S : Type 0} (number : S → ℕ) (records : S → List Standing)
+    (items : List (Kept S)) (found segment : ℕ) (one : Kept S)
+    (here : Found number items segment found one) where
+  -- what holds of the segment of the number holds of the one that was found
   pub found_may : (P : Kept S → Type 0)
-      → ((k : Kept S) → segment_in number items place.segment ≡ Some k → P k) → P one
-  found_may P may = may one (found_is number items place.segment found one here)
+      → ((k : Kept S) → segment_in number items segment ≡ Some k → P k) → P one
+  found_may P may = may one (found_is number items segment found one here)
 
   module _ (after : Kept S) (same_number : number after.slots ≡ number one.slots)
       (same_records : records after.slots ≡ records one.slots)
@@ -48,20 +49,39 @@ module _ {S Other : Type 0} (number : S → ℕ) (records : S → List Standing)
     right_met = right_kept number items found one after here.at kind_same classes_same lists_same
         records same_records
 
-    pub met_here : (word : ℕ) (other theirs : Other) → shows one.slots (slot_of place) word
+    pub met_here : {Other : Type 0} (shows : S → ℕ → ℕ → Type 0)
+        (meets : S → Other → ℕ → ℕ → S → Other → Type 0) (place : Place) → segment ≡ place.segment
+        → (word : ℕ) (other theirs : Other) → shows one.slots (slot_of place) word
         → meets one.slots other (slot_of place) word after.slots theirs
         → Met number records shows meets place word items other (slice_set items found after) theirs
-    met_here word other theirs shown met = record {
+    met_here shows meets place same word other theirs shown met = record {
       found = found;
       one = one;
       slots = after.slots;
       at = here.at;
       now = ap (slice_set items found) rest;
-      segment = number_is number items place.segment found one here;
+      segment = number_is number items segment found one here ∙ same;
       same_number = same_number;
       same_records = same_records;
       shown = shown;
       met = met;
+    }
+
+    pub changed_here : (shows : S → ℕ → ℕ → Type 0) (change : S → S → Type 0)
+        → ((at word : ℕ) → shows one.slots at word ↔ shows after.slots at word)
+        → change one.slots after.slots
+        → SlotsChanged number records shows segment change items (slice_set items found after)
+    changed_here shows change shown changed = record {
+      found = found;
+      one = one;
+      slots = after.slots;
+      at = here.at;
+      now = ap (slice_set items found) rest;
+      numbered = number_is number items segment found one here;
+      same_number = same_number;
+      same_records = same_records;
+      same_shown = shown;
+      changed = changed;
     }
 
 module _ {S Other : Type 0} (number : S → ℕ) (records : S → List Standing)

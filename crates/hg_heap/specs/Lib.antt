@@ -14,8 +14,10 @@ pub mod BlockPlaces
 pub mod Ties
 pub mod Answers
 pub mod Freeing
+pub mod Allowed
 pub mod Stays
 pub mod Met
+pub mod SlotsChanged
 pub mod Reading
 pub mod Settled
 pub mod Right

@@ -1,12 +1,12 @@
 //! Places are given out, in the order of choice.
 
 ghost use Rattle.std.specs.Prelude.{◌≡◌, ◌<◌, ℕ, Option, Some, None, Err, IfOk, IfErr, IfSome};
-ghost use Rattle.std.specs.Prelude.{IfNone, true, Contains, find};
+ghost use Rattle.std.specs.Prelude.{IfNone, true, Contains, find, option_map};
 ghost use Rattle.hg_place.specs.declared.geometry.TheConstants.{MAX_SEGMENTS};
 ghost use Rattle.hg_queue.specs.declared.page_queues.TheConstants.{PAGES, ARENAS};
 ghost use Rattle.hg_segment.specs.declared.charges.TheConstants.{TENANTS};
 ghost use Rattle.hg_place.specs.Lives.{live_word};
-ghost use Rattle.hg_place.specs.Places.{number_of, page_number};
+ghost use Rattle.hg_place.specs.Places.{number_of, page_number, segment_of};
 ghost use Rattle.hg_size.specs.Sizes.{number_of_size};
 ghost use Rattle.hg_size.specs.SizeLaws.{key_of};
 ghost use Rattle.hg_machine.specs.Request.{size_of};
@@ -15,7 +15,8 @@ ghost use Rattle.hg_machine.specs.declared.Answer.TheVariants as Answer;
 ghost use Rattle.hg_agreement.specs.Views.{Shown};
 ghost use Rattle.hg_page.specs.PageLists.{fresh};
 ghost use Rattle.hg_queue.specs.Queues.{queue_of};
-ghost use Rattle.hg_heap.specs.Held.{lists_on, class_on, has_place, is_some_place, pages_in};
+ghost use Rattle.hg_heap.specs.Allowed.{MayAlloc, MayOpen, MayGive};
+ghost use Rattle.hg_heap.specs.Held.{lists_on, class_on, has_place, is_some_place, pages_in, is_held};
 ghost use Rattle.hg_heap.specs.Held.{KeepsOtherLists};
 ghost use Rattle.hg_heap.specs.Begun.{Begun};
 ghost use Rattle.hg_heap.specs.Opened.{Opened};
@@ -47,7 +48,9 @@ impl<S: SlotWords> Heap<S> {
         arena: u8,
         bytes: u64,
     ) -> Result<Handle, Refused>
-        requires { AreOf S.number policy.now self.old.segments }
+        requires policy { AreOf S.number policy.now self.old.segments }
+        requires allowed { MayAlloc S.shows S.allows S.number S.records policy.now actor.0 arena bytes
+            self.old }
         ensures given { IfOk result (λ handle. (given : IsAllotted S.number S.records S.shows
             S.steps (size_of bytes) actor.0 handle self.old.segments self.new.segments)
             × HeapTies S.number S.records policy.now (shown_at handle.place given.word)
@@ -91,6 +94,7 @@ impl<S: SlotWords> Heap<S> {
     fn allot(&mut self, arena: u8, class: Class, owner: u8) -> Option<Handle>
         requires arena { arena < ARENAS }
         requires owner { owner < TENANTS }
+        requires allowed { MayOpen S.shows S.allows S.number S.records arena class owner self.old }
         ensures none { IfNone result ((self.new ≡ self.old)
             × (front_page S.number S.records self.old arena class ≡ None)
             × (blank_page S.number S.records self.old arena class ≡ None)) }
@@ -112,6 +116,25 @@ impl<S: SlotWords> Heap<S> {
             return None;
         };
         Some(self.give_out(arena, class, page, owner))
+    }
+
+    /// The segment that the next block of this class of the arena comes from, by the order of choice:
+    /// a caller that steps by what it lends lends it to this one. `None` where no place is left for
+    /// one. Nothing is given out.
+    pub fn next_segment(&self, arena: u8, class: Class) -> Option<u8>
+        requires { arena < ARENAS }
+        ensures next { result ≡ option_map segment_of
+            (chosen_place S.number S.records self.now arena class) }
+        ensures held { IfSome result (λ segment.
+            is_held S.number self.now.segments segment ≡ true) }
+    {
+        // a class is a size of the table
+        let _size = block_words(class);
+        let page = match self.queues.front(arena, class) {
+            Some(page) => page,
+            None => self.blank_page(arena, class)?,
+        };
+        Some((page / SEGMENT_PAGES as u16) as u8)
     }
 
     /// The page to give a place out of: the front of the queue, else the first at which a block may
@@ -209,6 +232,8 @@ impl<S: SlotWords> Heap<S> {
         requires owner { owner < TENANTS }
         requires queued { Contains
             (queue_of self.old.queues (key_of arena (number_of_size class))) page }
+        requires allowed { MayGive S.shows S.allows S.number S.records page owner
+            self.old.segments }
         ensures opened { Opened S.number S.records S.shows S.steps page class owner result
             self.old.segments self.new.segments }
         ensures lists { GivenOut S.number S.records arena class page result.place.index

@@ -10,6 +10,7 @@ ghost use Rattle.hg_machine.specs.declared.Answer.TheVariants as Answer;
 ghost use Rattle.hg_machine.specs.declared.Event.TheVariants as Event;
 ghost use Rattle.hg_machine.specs.declared.Rule.{Rule};
 ghost use Rattle.hg_heap.specs.declared.refused.Refused.TheVariants.{Elsewhere, Denied};
+ghost use Rattle.hg_heap.specs.Allowed.{LetsFree, MayFree};
 ghost use Rattle.hg_heap.specs.Freeing.{free_denial, IsNeverFreed, IsOnlyFreed};
 ghost use Rattle.hg_heap.specs.Judged.{IsJudged};
 ghost use Rattle.hg_heap.specs.Keeping.{KeepsAll};
@@ -40,6 +41,8 @@ impl<S: SlotWords> Heap<S> {
         actor: Actor,
         handle: Handle,
     ) -> Result<(), Refused>
+        requires allowed { MayFree S.shows S.allows S.number policy.now actor.0 handle
+            self.old.segments }
         ensures elsewhere { is_held S.number self.old.segments handle.place.segment ≡ false
             → (result ≡ Err Elsewhere) × (self.new ≡ self.old) }
         ensures freed { OnOk result ((word : ℕ) × IsLiveWord word
@@ -114,7 +117,8 @@ fn close_block<S: SlotWords>(
     actor: Actor,
     handle: Handle,
 ) -> Result<u8, Rule>
-    requires { handle.place.segment ≡ S.number segment.old.slots }
+    requires segment { handle.place.segment ≡ S.number segment.old.slots }
+    requires allowed { LetsFree S.shows S.allows policy.now actor.0 handle segment.old }
     ensures closed { IfOk result (λ owner. (word : ℕ)
         × Closed S.number S.records S.shows S.steps handle.place word segment.old segment.new
         × (free_denial policy.now actor.0 handle word ≡ None) × (owner ≡ word_owner word)) }

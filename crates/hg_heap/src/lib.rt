@@ -10,6 +10,7 @@ mod freeing;
 mod heap;
 mod how_far;
 pub mod laws;
+mod lending;
 mod many;
 mod meeting;
 mod parting;

@@ -6,6 +6,7 @@ ghost use Rattle.hg_place.specs.declared.Right.TheVariants as Right;
 ghost use Rattle.hg_segment.specs.Blocks.{block_at};
 ghost use Rattle.hg_machine.specs.declared.Answer.TheVariants as Answer;
 ghost use Rattle.hg_machine.specs.declared.Event.TheVariants as Event;
+ghost use Rattle.hg_heap.specs.Allowed.{LetsLook, MayLook};
 ghost use Rattle.hg_heap.specs.declared.refused.Refused.{Refused};
 ghost use Rattle.hg_heap.specs.declared.refused.Refused.TheVariants.{OutOfBlock};
 ghost use Rattle.hg_heap.specs.Held.{is_held, KeepsLists};
@@ -39,6 +40,7 @@ impl<S: SlotWords> Heap<S> {
     ) -> HowFar
         requires held { is_held S.number self.old.segments handle.place.segment ≡ true }
         requires some { 0 < length room.old }
+        requires allowed { MayLook S.shows S.allows S.number handle.place self.old.segments }
         ensures ties { (word : ℕ) × (next : Result ℕ Refused)
             × Stepped S.number S.shows S.steps handle.place word word
             self.old.segments self.new.segments
@@ -75,7 +77,8 @@ fn copy_words<S: SlotWords>(
     first: u32,
     room: &mut [u64],
 ) -> HowFar
-    requires { 0 < length room.old }
+    requires some { 0 < length room.old }
+    requires allowed { LetsLook S.shows S.allows handle.place segment.old }
     ensures read { (word : ℕ) × Looked S.number S.records S.shows S.steps handle.place word
         segment.old segment.new
         × ReadsMany (use_denial policy.now actor.0 Right.Read handle word)

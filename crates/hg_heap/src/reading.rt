@@ -10,6 +10,7 @@ ghost use Rattle.hg_segment.specs.Kept.{slot, class_at};
 ghost use Rattle.hg_segment.specs.Blocks.{block_at, KeepsOtherBlocks};
 ghost use Rattle.hg_machine.specs.declared.Event.TheVariants as Event;
 ghost use Rattle.hg_machine.specs.declared.Rule.{Rule};
+ghost use Rattle.hg_heap.specs.Allowed.{LetsLook, MayLook};
 ghost use Rattle.hg_heap.specs.declared.refused.Refused.TheVariants.{Elsewhere};
 ghost use Rattle.hg_heap.specs.Held.{is_held, KeepsLists};
 ghost use Rattle.hg_heap.specs.Ties.{HeapTies, Stepped, shown_at};
@@ -39,6 +40,7 @@ impl<S: SlotWords> Heap<S> {
         handle: Handle,
         index: u32,
     ) -> Result<u64, Refused>
+        requires allowed { MayLook S.shows S.allows S.number handle.place self.old.segments }
         ensures elsewhere { is_held S.number self.old.segments handle.place.segment ≡ false
             → (result ≡ Err Elsewhere) × (self.new ≡ self.old) }
         ensures held { is_held S.number self.old.segments handle.place.segment ≡ true
@@ -77,6 +79,7 @@ impl<S: SlotWords> Heap<S> {
         index: u32,
         value: u64,
     ) -> Result<(), Refused>
+        requires allowed { MayLook S.shows S.allows S.number handle.place self.old.segments }
         ensures elsewhere { is_held S.number self.old.segments handle.place.segment ≡ false
             → (result ≡ Err Elsewhere) × (self.new ≡ self.old) }
         ensures held { is_held S.number self.old.segments handle.place.segment ≡ true
@@ -118,6 +121,7 @@ impl<S: SlotWords> Heap<S> {
         shown: &mut u64,
     ) -> Option<Row>
         requires held { is_held S.number self.old.segments place.segment ≡ true }
+        requires allowed { MayLook S.shows S.allows S.number place self.old.segments }
         ensures step { Stepped S.number S.shows S.steps place shown.new shown.new
             self.old.segments self.new.segments }
         ensures ties { HeapTies S.number S.records policy.now (shown_at place shown.new)
@@ -153,6 +157,7 @@ fn read_word<S: SlotWords>(
     handle: Handle,
     index: u32,
 ) -> Result<u64, Refused>
+    requires { LetsLook S.shows S.allows handle.place segment.old }
     ensures read { let block = block_at segment.new.words segment.new.classes
         handle.place.page handle.place.index in
         (word : ℕ) × Looked S.number S.records S.shows S.steps handle.place word
@@ -180,6 +185,7 @@ fn write_word<S: SlotWords>(
     index: u32,
     value: u64,
 ) -> Result<(), Refused>
+    requires { LetsLook S.shows S.allows handle.place segment.old }
     ensures wrote { (word : ℕ) × Looked S.number S.records S.shows S.steps handle.place word
         segment.old segment.new
         × (result ≡ reached (use_denial policy.now actor.0 Right.Write handle word)
@@ -212,6 +218,7 @@ fn row_of<S: SlotWords>(
     place: Place,
     shown: &mut u64,
 ) -> Option<Row>
+    requires { LetsLook S.shows S.allows place segment.old }
     ensures looked { Looked S.number S.records S.shows S.steps place shown.new
         segment.old segment.new }
     ensures words { segment.new.words ≡ segment.old.words }

@@ -8,6 +8,7 @@ ghost use Rattle.hg_place.specs.Standings.{standing_at};
 ghost use Rattle.hg_segment.specs.Kept.{slot};
 ghost use Rattle.hg_remote.specs.Remote.{contents, nothing_sent};
 ghost use Rattle.hg_remote.specs.Order.{drained};
+ghost use Rattle.hg_heap.specs.Allowed.{IsQuietIn};
 ghost use Rattle.hg_heap.specs.Held.{is_held};
 ghost use Rattle.hg_heap.specs.Homecoming.{HaveComeHome};
 ghost use Rattle.hg_heap.specs.Taking.{WentHome, StayedAway, IsTaken, IsPassed, Takes};
@@ -24,6 +25,8 @@ impl<S: SlotWords> Heap<S> {
     /// where its generation is the greatest; any other is passed over. Tells how many came home. A
     /// segment that isn't held takes nothing in.
     pub fn take(&mut self, segment: u8, remote: &mut RemoteList) -> u32
+        requires quiet { IsQuietIn S.number S.quiet segment self.old.segments }
+        ensures quiet { IsQuietIn S.number S.quiet segment self.new.segments }
         ensures unheld { is_held S.number self.old.segments segment ≡ false
             → (result ≡ 0) × (remote.new ≡ remote.old) × (self.new ≡ self.old) }
         ensures empty { is_held S.number self.old.segments segment ≡ true
@@ -56,6 +59,8 @@ impl<S: SlotWords> Heap<S> {
         requires held { is_held S.number self.old.segments segment ≡ true }
         requires page { page < SEGMENT_PAGES }
         requires index { index < PAGE_PLACES }
+        requires quiet { IsQuietIn S.number S.quiet segment self.old.segments }
+        ensures quiet { IsQuietIn S.number S.quiet segment self.new.segments }
         ensures taken { IsTrue result → IsTaken S.number S.records S.shows S.steps
             segment page index self.old self.new }
         ensures passed { IsFalse result → IsPassed S.number S.records S.shows S.steps
@@ -91,6 +96,8 @@ impl<S: SlotWords> Heap<S> {
 fn bring_home<S: SlotWords>(segment: &mut Segment<S>, page: u8, index: u16) -> Option<u8>
     requires page { page < SEGMENT_PAGES }
     requires index { index < PAGE_PLACES }
+    requires quiet { S.quiet segment.old.slots }
+    ensures quiet { S.quiet segment.new.slots }
     ensures number { S.number segment.new.slots ≡ S.number segment.old.slots }
     ensures home { IfSome result (λ owner. (generation : ℕ)
         × (standing_at (S.records segment.old.slots) (slot page index) ≡ Open generation owner)

@@ -38,6 +38,8 @@ impl SlotWords for PlainWords {
 
     type Other = ();
 
+    type Lent = ();
+
     ghost number = { λ s. s.segment };
 
     ghost records = { λ s. plain_records s };
@@ -46,9 +48,25 @@ impl SlotWords for PlainWords {
 
     ghost steps = { λ s at found left t. plain_words t ≡ slice_set (plain_words s) at left };
 
+    ghost allows = { λ s at found left. Unit {0} };
+
+    ghost quiet = { λ s. Unit {0} };
+
+    ghost quiet_allows = { λ s at word quiet. tt };
+
+    ghost stays_quiet = { λ s t at word step quiet. tt };
+
     ghost may_meet = { λ s other. Unit {0} };
 
     ghost meets = { λ s other at word t after. plain_words t ≡ plain_words s };
+
+    ghost may_lend = { λ s what. Unit {0} };
+
+    ghost lends = { λ s what t. t ≡ s };
+
+    ghost may_give_back = { λ s. Unit {0} };
+
+    ghost gives_back = { λ s what t. t ≡ s };
 
     ghost numbered = { λ s. s.segment_below };
 
@@ -66,6 +84,10 @@ impl SlotWords for PlainWords {
     ghost still_meets = { λ s t other at found left step may. tt };
 
     ghost meets_again = { λ s t other after at word met may. tt };
+
+    ghost meets_lent = { λ s t other what lent may. tt };
+
+    ghost meets_given_back = { λ s t other what given may. tt };
 
     fn segment(&self) -> u8 {
         self.segment
@@ -110,6 +132,10 @@ impl SlotWords for PlainWords {
     fn meet(&mut self, _other: &mut (), place: Place) -> u64 {
         self.look(place)
     }
+
+    fn lend(&mut self, _what: ()) {}
+
+    fn give_back(&mut self) {}
 }
 
 impl PlainWords {

@@ -13,7 +13,7 @@ use Rattle.hg_history.proofs.Views.{map_at, map_set}
 use Rattle.hg_roles.specs.Roles.{Call, Role}
 use Rattle.hg_roles.specs.Served.{places_of_policy}
 use Rattle.hg_table.specs.LifeRule.{LifeRule}
-use Rattle.hg_table.specs.Steps.{WordStep, look, open_as, close_from, part_from, take_home, left_by}
+use Rattle.hg_table.specs.Steps.{WordStep, look, open_as, close_from, take_home, left_by}
 use Rattle.hg_table.specs.Steps.{known_after, view_after, MayMakeBy}
 use Rattle.hg_table.specs.Told.{IsShownTo}
 use Rattle.hg_table.specs.View as lives
@@ -24,7 +24,7 @@ use Rattle.hg_run_table.specs.declared.part.SeatView.{SeatView}
 use Rattle.hg_run_table.specs.Owing.{DecidesAt, DecidesAlone}
 use Rattle.hg_run_table.specs.Rule.{Table, lives_of, KeepsBoth}
 use Rattle.hg_run_table.specs.Seated.{HaveRoles, seated}
-use Rattle.hg_run_table.specs.Told.{Mine, looked, took, looked_deciding, closed, parted, opened}
+use Rattle.hg_run_table.specs.Told.{Mine, looked, took, looked_deciding, exchanged_deciding, opened}
 use Rattle.hg_run_table.specs.Told.{decided}
 use Rattle.hg_run_table.proofs.Decided.{keeps_on}
 
@@ -199,37 +199,22 @@ module _ (policy : Policy) (slots id : ℕ) (me : Mine) where
           KeepsBoth policy (stepped s at z id me.1 (record { lives = view; run = k.run }) keeps))
           (same (get_or s.words at 0)) k.both
 
-      pub closes : (by old : ℕ) → MayMakeBy by (close_from old) at me.0.lives
-          → DecidesAt policy at me.0.lives (left_by (close_from old)) roles made change
+      pub exchanges : (kind : ℕ → WordStep)
+          → ((old w : ℕ) → left_by (kind old) w ≡ either (eqb w old) (old - 1) w) → (by old : ℕ)
+          → MayMakeBy by (kind old) at me.0.lives
+          → DecidesAt policy at me.0.lives (left_by (kind old)) roles made change
           → Allows (KeepsBoth policy) slots id me at (λ w. either (eqb w old) (old - 1) w)
-          (closed roles change by (step slots at old (old - 1) none) me)
-      closes by old may owes s r _ seat _ =
+          (exchanged_deciding roles change kind by (step slots at old (old - 1) none) me)
+      exchanges kind same by old may owes s r _ seat _ =
           let w : ℕ = get_or s.words at 0 in
-          let view : lives.View = view_after by (close_from old) at w me.0.lives in
+          let view : lives.View = view_after by (kind old) at w me.0.lives in
           let k =
-          made_at (left_by (close_from old)) owes view s r seat
-          (stepped_lives by (close_from old) may s r seat) in (
+          made_at (left_by (kind old)) owes view s r seat
+          (stepped_lives by (kind old) may s r seat) in (
             record { lives = view; run = k.run },
             keeps,
             tt,
-            exchanged_both (close_from old) old (exchange_is old) view s k,
-            ((shown s r seat at, refl, refl), k.have),
-          )
-
-      pub parts : (by old : ℕ) → MayMakeBy by (part_from old) at me.0.lives
-          → DecidesAt policy at me.0.lives (left_by (part_from old)) roles made change
-          → Allows (KeepsBoth policy) slots id me at (λ w. either (eqb w old) (old - 1) w)
-          (parted roles change by (step slots at old (old - 1) none) me)
-      parts by old may owes s r _ seat _ =
-          let w : ℕ = get_or s.words at 0 in
-          let view : lives.View = view_after by (part_from old) at w me.0.lives in
-          let k =
-          made_at (left_by (part_from old)) owes view s r seat
-          (stepped_lives by (part_from old) may s r seat) in (
-            record { lives = view; run = k.run },
-            keeps,
-            tt,
-            exchanged_both (part_from old) old (exchange_is old) view s k,
+            exchanged_both (kind old) old (same old) view s k,
             ((shown s r seat at, refl, refl), k.have),
           )
 

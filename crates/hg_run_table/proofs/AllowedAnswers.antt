@@ -7,24 +7,50 @@ use lib.ListN.{get_elem?}
 use prog.Atomic.{either}
 use Rattle.atomic_table.specs.Table.{step, keeps, stepped, Allows}
 use Rattle.atomic_table.proofs.Lists.{set_again}
+use Rattle.hg_machine.specs.declared.Event.{Event}
 use Rattle.hg_machine.specs.Policy.{Policy}
 use Rattle.hg_history.specs.OneRun.{IsOneRun}
 use Rattle.hg_roles.specs.Served.{places_of_policy}
 use Rattle.hg_table.specs.LifeRule.{LifeRule}
-use Rattle.hg_table.specs.Steps.{WordStep, look, open_as, close_from, part_from, left_by}
+use Rattle.hg_table.specs.Steps.{WordStep, look, open_as, left_by}
 use Rattle.hg_table.specs.Steps.{known_after, view_after, MayMakeBy}
 use Rattle.hg_table.specs.Told.{IsShownTo}
 use Rattle.hg_table.specs.View as lives
 use Rattle.hg_table.proofs.WordSteps.{after}
 use Rattle.hg_run_table.specs.declared.part.Part.{Part}
-use Rattle.hg_run_table.specs.Asked.{MayLeave, MayLeaveIf, HasLeft, HasLeftIf, is_asked}
+use Rattle.hg_run_table.specs.declared.part.SeatView.{SeatView}
+use Rattle.hg_run_table.specs.Asked.{MayLeave, MayLeaveIf, HasLeft, HasLeftIf, is_asked, asking}
 use Rattle.hg_run_table.specs.Rule.{Table, lives_of, KeepsBoth}
 use Rattle.hg_run_table.specs.Seated.{seated}
-use Rattle.hg_run_table.specs.Told.{Mine, looked_answering, opened_answering, closed_answering}
-use Rattle.hg_run_table.specs.Told.{parted_answering}
-use Rattle.hg_run_table.proofs.Allowed.{runs, set_both, exchange_is, run_at, shown}
+use Rattle.hg_run_table.specs.Told.{Mine, looked_answering, opened_answering, exchanged_answering}
+use Rattle.hg_run_table.specs.Told.{asks}
+use Rattle.hg_run_table.proofs.Allowed.{runs, known, set_both, run_at, lives_at, shown}
 use Rattle.hg_run_table.proofs.Allowed.{stepped_lives, seen_lives}
-use Rattle.hg_run_table.proofs.Answering.{keeps_answering, was_answered}
+use Rattle.hg_run_table.proofs.Answering.{keeps_answering, keeps_asking, was_answered}
+
+-- at the spare word all words stay, and what the seat knows of words and lives
+pub asks_anew : (policy : Policy) (slots id : ℕ) (me : Mine) (asked : List (List Event))
+    → Allows (KeepsBoth policy) slots id me 0 (λ w. w) (asks asked (step slots 0 0 0 none) me)
+asks_anew policy slots id me asked s r _ seat _ =
+    let w : ℕ = get_or s.words 0 0 in
+    let new : SeatView = record { lives = me.0.lives; run = map (asking asked) me.0.run } in (
+      new,
+      keeps,
+      tt,
+      subst
+          (λ (ws : List ℕ).
+          KeepsBoth policy
+          (record { words = ws; homes = s.homes; views = set s.views id new }))
+          (sym (set-get_or s.words 0 0))
+          (set_both policy s.words s.homes s.views id new
+          (subst
+          (λ (vs : List lives.View).
+          LifeRule (places_of_policy policy)
+          (record { words = s.words; homes = s.homes; views = vs }))
+          (sym (set_again (known s.views) id me.0.lives (lives_at policy slots id me s.views seat))) r.lives)
+          (keeps_asking policy s.words (runs s.views) id me.0.run r.run (run_at policy slots id me s.views seat) asked)),
+      (refl, refl, refl),
+    )
 
 module _ (policy : Policy) (slots id : ℕ) (me : Mine) (place : ℕ)
     (inside : place < places_of_policy policy) where
@@ -116,7 +142,7 @@ module _ (policy : Policy) (slots id : ℕ) (me : Mine) (place : ℕ)
       )
 
   -- what an exchange keeps, by what it leaves
-  exchanged_answering : (kind : WordStep) (old : ℕ)
+  exchanged_both : (kind : WordStep) (old : ℕ)
       → ((w : ℕ) → left_by kind w ≡ either (eqb w old) (old - 1) w)
       → (view : lives.View) → (s : Table)
       → (k : KeptAnswering s
@@ -126,47 +152,31 @@ module _ (policy : Policy) (slots id : ℕ) (me : Mine) (place : ℕ)
       (stepped s (place + 1)
       (either (eqb (get_or s.words (place + 1) 0) old) (old - 1) (get_or s.words (place + 1) 0))
       id me.1 (record { lives = view; run = k.run }) keeps)
-  exchanged_answering kind old same view s k =
+  exchanged_both kind old same view s k =
       subst
       (λ z.
       KeepsBoth policy
       (stepped s (place + 1) z id me.1 (record { lives = view; run = k.run }) keeps))
       (same (get_or s.words (place + 1) 0)) k.both
 
-  pub closes_answering : (by old : ℕ) → MayMakeBy by (close_from old) (place + 1) me.0.lives
+  pub exchanges_answering : (kind : ℕ → WordStep)
+      → ((old w : ℕ) → left_by (kind old) w ≡ either (eqb w old) (old - 1) w) → (by old : ℕ)
+      → MayMakeBy by (kind old) (place + 1) me.0.lives
       → ((word : ℕ) → IsShownTo (place + 1) word me.0.lives
-      → MayLeave policy place word (left_by (close_from old) word) me.0.run)
+      → MayLeave policy place word (left_by (kind old) word) me.0.run)
       → Allows (KeepsBoth policy) slots id me (place + 1) (λ w. either (eqb w old) (old - 1) w)
-      (closed_answering by (step slots (place + 1) old (old - 1) none) me)
-  closes_answering by old owes may s r _ seat _ =
+      (exchanged_answering kind by (step slots (place + 1) old (old - 1) none) me)
+  exchanges_answering kind same by old owes may s r _ seat _ =
       let w : ℕ = get_or s.words (place + 1) 0 in
-      let view : lives.View = view_after by (close_from old) (place + 1) w me.0.lives in
+      let view : lives.View = view_after by (kind old) (place + 1) w me.0.lives in
       let k =
-      answers_at (left_by (close_from old)) may view s r seat
-      (stepped_lives policy slots id me (place + 1) within by (close_from old) owes s r seat) in (
+      answers_at (left_by (kind old)) may view s r seat
+      (stepped_lives policy slots id me (place + 1) within by (kind old) owes s r seat) in (
         record { lives = view; run = k.run },
         keeps,
         tt,
-        exchanged_answering (close_from old) old (exchange_is old) view s k,
-        ((shown policy slots id me s r seat (place + 1), refl, refl), placed (λ n. HasLeft n w (left_by (close_from old) w) me.0.run k.run) k.was),
-      )
-
-  pub parts_answering : (by old : ℕ) → MayMakeBy by (part_from old) (place + 1) me.0.lives
-      → ((word : ℕ) → IsShownTo (place + 1) word me.0.lives
-      → MayLeave policy place word (left_by (part_from old) word) me.0.run)
-      → Allows (KeepsBoth policy) slots id me (place + 1) (λ w. either (eqb w old) (old - 1) w)
-      (parted_answering by (step slots (place + 1) old (old - 1) none) me)
-  parts_answering by old owes may s r _ seat _ =
-      let w : ℕ = get_or s.words (place + 1) 0 in
-      let view : lives.View = view_after by (part_from old) (place + 1) w me.0.lives in
-      let k =
-      answers_at (left_by (part_from old)) may view s r seat
-      (stepped_lives policy slots id me (place + 1) within by (part_from old) owes s r seat) in (
-        record { lives = view; run = k.run },
-        keeps,
-        tt,
-        exchanged_answering (part_from old) old (exchange_is old) view s k,
-        ((shown policy slots id me s r seat (place + 1), refl, refl), placed (λ n. HasLeft n w (left_by (part_from old) w) me.0.run k.run) k.was),
+        exchanged_both (kind old) old (same old) view s k,
+        ((shown policy slots id me s r seat (place + 1), refl, refl), placed (λ n. HasLeft n w (left_by (kind old) w) me.0.run k.run) k.was),
       )
 
   pub opens_answering : (by live : ℕ) → MayMakeBy by (open_as live) (place + 1) me.0.lives

@@ -28,15 +28,16 @@ use Rattle.hg_roles.proofs.RoleFrames.{own_quiet, role_stays}
 use Rattle.hg_run_table.specs.declared.part.Part.{Part}
 use Rattle.hg_run_table.specs.declared.part.PartName.{PartName}
 use Rattle.hg_run_table.specs.declared.part.PartName.TheVariants.{Worker, Remote, Pool, Segment}
-use Rattle.hg_run_table.specs.Asked.{AreAsked, MayLeave, MayLeaveIf}
+use Rattle.hg_run_table.specs.Asked.{IsWorkerAsked, MayLeave, MayLeaveIf, HasLeft, HasLeftIf}
 use Rattle.hg_run_table.specs.Asked.{asking, is_asking, is_asked, is_worker, answered, answered_if, AreMade, IsAsked}
 use Rattle.hg_run_table.specs.Asked.{IsAnswer, MayAnswer, IsAnswered}
 use Rattle.hg_run_table.specs.Seated.{IsThere, PartAgrees, number_of_name, seated}
 use Rattle.hg_run_table.proofs.Alike.{number_is}
 
--- what a part is asked, each is
-pub all_asked : (asked : List (List Event)) (run : List Part) → AreAsked asked (map (asking asked) run)
-all_asked asked run j part here =
+-- who is asked this, is asked it
+pub all_asked : (asked : List (List Event)) (run : List Part) (worker : ℕ)
+    → IsWorkerAsked worker asked (map (asking asked) run)
+all_asked asked run worker j part here its =
     let was = at_map (asking asked) run j part here in
     sym (ap (λ (p : Part). p.asked) was.2)
 
@@ -63,17 +64,13 @@ may_leave policy place word left run may =
     (sym (is_asked_by run who.at who.part who.worker who.events who.rest who.there who.named who.asks))
     may
 
--- parts that are asked nothing are none that is asked something
-pub none_asked : (run : List Part) → is_asked (map (asking []) run) ≡ false
-none_asked [] = refl
-none_asked (part ∷ more) = by_name part.name (none_asked more)
-  where
-    by_name : (name : PartName) → is_asked (map (asking []) more) ≡ false
-        → is_asking name [] || is_asked (map (asking []) more) ≡ false
-    by_name (Worker n) none = none
-    by_name (Remote n) none = none
-    by_name Pool none = none
-    by_name (Segment n) none = none
+-- where something is asked, a step has answered it
+pub has_answered : (place word left : ℕ) (old new : List Part) → IsAsked old
+    → HasLeft place word left old new → IsAnswered place word left old new
+has_answered place word left old new who was =
+    subst (λ b. HasLeftIf b place word left old new)
+    (is_asked_by old who.at who.part who.worker who.events who.rest who.there who.named who.asks)
+    was
 
 -- the worker's calls, as a history has them
 abbrev calls_by : ℕ → List Call → List (ℕ × Call)

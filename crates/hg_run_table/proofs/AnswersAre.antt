@@ -107,7 +107,7 @@ worker_is n w e = cc
 -- the part of a seat's worker, which is asked
 module _ {run : List Part} {roles : List Role} {before : View} {log : List Call} {e : Event}
     {rest : List (List Event)} (asks : AsksOne run roles before log e rest) where
-  who_asks : (is : IsAsked run) × ((is.worker ≡ before.worker) × (is.events ≡ e ∷ [])
+  pub who_asks : (is : IsAsked run) × ((is.worker ≡ before.worker) × (is.events ≡ e ∷ [])
       × HasRole is.part (of_worker before log))
   who_asks =
       let p = part_at run roles asks.has asks.seat.place (of_worker before log) asks.seat.there in (
@@ -119,7 +119,9 @@ module _ {run : List Part} {roles : List Role} {before : View} {log : List Call}
           named = sym p.2.named;
           events = e ∷ [];
           rest = rest;
-          asks = asks.asked asks.seat.place p.0 p.1;
+          asks = asks.asked asks.seat.place p.0 p.1
+              (ap (is_worker before.worker) (sym p.2.named)
+              ∙ eq-eqb before.worker before.worker refl);
         },
         (refl, refl, p.2),
       )
@@ -194,16 +196,6 @@ module _ (place word left : ℕ) (old new : List Part) (roles : List Role) (log 
   abbrev seat : IsSeatOf before log roles
   seat = asks.seat
 
-  -- it is asked this event, and then the rest
-  asked_both : is.who.events ∷ is.who.rest ≡ (e ∷ []) ∷ rest
-  asked_both = sym is.who.asks ∙ asks.asked is.who.at is.who.part is.who.there
-
-  one : is.who.events ≡ e ∷ []
-  one = head_is is.who.events (e ∷ []) is.who.rest rest asked_both
-
-  rest_is : is.who.rest ≡ rest
-  rest_is = tail_is is.who.events (e ∷ []) is.who.rest rest asked_both
-
   -- the part that was asked is the worker's
   its_role : (role : Role) → HasRole is.who.part role
       → ((role ≡ of_worker before log) ⊎ ((segment : ℕ) × (role ≡ of_segment segment)))
@@ -221,6 +213,19 @@ module _ (place word left : ℕ) (old new : List Part) (roles : List Role) (log 
 
   who : before.worker ≡ is.who.worker
   who = worker_is before.worker is.who.worker (asked_has.named ∙ is.who.named)
+
+  -- it is asked this event, and then the rest
+  asked_both : is.who.events ∷ is.who.rest ≡ (e ∷ []) ∷ rest
+  asked_both =
+      sym is.who.asks
+      ∙ asks.asked is.who.at is.who.part is.who.there
+      (ap (is_worker before.worker) is.who.named ∙ eq-eqb is.who.worker before.worker (sym who))
+
+  one : is.who.events ≡ e ∷ []
+  one = head_is is.who.events (e ∷ []) is.who.rest rest asked_both
+
+  rest_is : is.who.rest ≡ rest
+  rest_is = tail_is is.who.events (e ∷ []) is.who.rest rest asked_both
 
   agreed : Agrees is.state before None
   agreed = is.agrees.like (of_worker before log) asked_has.named asked_has.agrees

@@ -10,6 +10,9 @@ pub mod Beginnings
 pub mod Counts
 pub mod Endings
 pub mod WorkerSteps
+pub mod LentSeats
+pub mod SegmentSteps
+pub mod SegmentMeeting
 pub mod NamedSteps
 pub mod FreedLemmas
 pub mod NewSeatsLemmas

@@ -1,11 +1,10 @@
 -- What a table asks where seats join and split.
-use Rattle.std.proofs.Common.{◌≡◌, ℕ, List, [], ◌∷◌, ◌++◌, take, drop, set, map, sym, subst, ap, ◌∙◌}
-use Rattle.std.proofs.lemmas.List.{take-append-drop, map-append, set_comm, set-set}
+use Rattle.std.proofs.Common.{◌≡◌, ℕ, List, [], ◌∷◌, ◌++◌, take, drop, set, sym, subst, ap, ◌∙◌}
+use Rattle.std.proofs.lemmas.List.{take-append-drop, map-append}
 use mathlib.Core.Option.{some}
 use lib.ListN.{get_elem?}
 use Rattle.atomic_table.specs.Table.{Splits, Joins}
 use Rattle.atomic_table.proofs.Lists.{set_else}
-use Rattle.hg_machine.specs.declared.Event.{Event}
 use Rattle.hg_machine.specs.Policy.{Policy}
 use Rattle.hg_history.specs.OneRun.{IsOneRun}
 use Rattle.hg_history.proofs.Seats.{joined_keeps, split_keeps}
@@ -13,18 +12,13 @@ use Rattle.hg_history.proofs.Views.{map_at, map_set}
 use Rattle.hg_roles.specs.Served.{places_of_policy}
 use Rattle.hg_table.specs.LifeRule.{LifeRule}
 use Rattle.hg_table.specs.View as lives
-use Rattle.hg_table.proofs.Counted.{set_hit}
-use Rattle.hg_table.proofs.Cuts.{cuts}
-use Rattle.hg_table.proofs.ManyParts.{joins_all, splits_all}
-use Rattle.hg_run_table.specs.declared.part.Part.{Part}
+use Rattle.hg_table.proofs.ManyParts.{cuts, joins_all, splits_all}
 use Rattle.hg_run_table.specs.declared.part.SeatView.{SeatView}
-use Rattle.hg_run_table.specs.Asked.{asking}
 use Rattle.hg_run_table.specs.Reshaping.{LivesCut, front, one_part, lives_kept, lives_given}
 use Rattle.hg_run_table.specs.Reshaping.{MayCutLives, kept, given, both, spent}
 use Rattle.hg_run_table.specs.Rule.{lives_of, KeepsBoth}
 use Rattle.hg_run_table.specs.Seated.{seated}
 use Rattle.hg_run_table.proofs.Allowed.{runs, known}
-use Rattle.hg_run_table.proofs.Answering.{keeps_asking}
 
 module _ (policy : Policy) (id : ℕ) where
   -- the life rule of a cut
@@ -67,27 +61,11 @@ module _ (policy : Policy) (id : ℕ) where
         ∙ ap some (sym (take-append-drop stay view.run))));
   }
 
-  -- the logs of a seat that has taken in another's parts, which are all asked something
-  runs_joined : (asked : List (List Event)) (words : List ℕ) (views : List (List Part)) (other : ℕ)
-      (one more : List Part) → IsOneRun (seated policy) words views
-      → get_elem? views id ≡ some one → ¬ (other ≡ id) → get_elem? views other ≡ some more
-      → IsOneRun (seated policy) words (set (set views id (map (asking asked) (one ++ more))) other [])
-  runs_joined asked words views other one more r at differ theirs =
-      let all : List Part = one ++ more in
-      let joined : IsOneRun (seated policy) words (set (set views id all) other []) =
-      joined_keeps (seated policy) words views id other one more r at differ theirs in
-      let there : get_elem? (set (set views id all) other []) id ≡ some all =
-      set_else (set views id all) other id [] (λ e. differ (sym e)) ∙ set_hit views id one all at in
-      subst (IsOneRun (seated policy) words)
-      (set_comm (set views id all) other id [] (map (asking asked) all) differ
-      ∙ ap (λ vs. set vs other []) (set-set views id all (map (asking asked) all)))
-      (keeps_asking policy words (set (set views id all) other []) id all joined there asked)
-
-  pub joins : (asked : List (List Event)) (other : ℕ) (one more : SeatView)
-      → Joins (KeepsBoth policy) id one other more (both asked one more) spent
-  joins asked other one more s r at differ theirs =
+  pub joins : (other : ℕ) (one more : SeatView)
+      → Joins (KeepsBoth policy) id one other more (both one more) spent
+  joins other one more s r at differ theirs =
       let at' : get_elem? s.views other ≡ some more =
-      sym (set_else s.views id other (both asked one more) differ) ∙ theirs in
+      sym (set_else s.views id other (both one more) differ) ∙ theirs in
       let their_lives : get_elem? (known s.views) other ≡ some more.lives =
       map_at (λ (v : SeatView). v.lives) s.views other more at' in
       record {
@@ -97,19 +75,19 @@ module _ (policy : Policy) (id : ℕ) where
             LifeRule (places_of_policy policy)
             (record { words = s.words; homes = s.homes; views = vs }))
             (sym
-            (map_set (λ (v : SeatView). v.lives) (set s.views id (both asked one more)) other spent
+            (map_set (λ (v : SeatView). v.lives) (set s.views id (both one more)) other spent
             ∙ ap (λ (vs : List lives.View). set vs other [])
-            (map_set (λ (v : SeatView). v.lives) s.views id (both asked one more))))
+            (map_set (λ (v : SeatView). v.lives) s.views id (both one more))))
             (joins_all (places_of_policy policy) id other one.lives more.lives (lives_of s) r.lives
             (map_at (λ (v : SeatView). v.lives) s.views id one at) differ
             (set_else (known s.views) id other (one.lives ++ more.lives) differ ∙ their_lives));
         run =
             subst (IsOneRun (seated policy) s.words)
             (sym
-            (map_set (λ (v : SeatView). v.run) (set s.views id (both asked one more)) other spent
+            (map_set (λ (v : SeatView). v.run) (set s.views id (both one more)) other spent
             ∙ ap (λ vs. set vs other [])
-            (map_set (λ (v : SeatView). v.run) s.views id (both asked one more))))
-            (runs_joined asked s.words (runs s.views) other one.run more.run r.run
+            (map_set (λ (v : SeatView). v.run) s.views id (both one more))))
+            (joined_keeps (seated policy) s.words (runs s.views) id other one.run more.run r.run
             (map_at (λ (v : SeatView). v.run) s.views id one at) differ
             (map_at (λ (v : SeatView). v.run) s.views other more at'));
       }

@@ -126,7 +126,7 @@ pub log_is : (view : List Part) (before : View) (log : List Call) (rest : List R
 log_is [] before log rest has = let n = has.count in absurd (omega arith)
 log_is (part ∷ more) before log rest has = (has.each 0 part (of_worker before log) refl refl).log
 
-own_log : (view : List Part) (before : View) (log : List Call)
+pub own_log : (view : List Part) (before : View) (log : List Call)
     → HaveRoles view (of_worker before log ∷ [])
     → HaveRoles view (of_worker before (first_log view) ∷ [])
 own_log view before log has =

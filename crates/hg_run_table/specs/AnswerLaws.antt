@@ -10,7 +10,7 @@ use Rattle.hg_history.specs.Service.{IsIn}
 use Rattle.hg_roles.specs.Deciding.{IsSeatOf, called, is_own}
 use Rattle.hg_roles.specs.Roles.{Call, Role}
 use Rattle.hg_run_table.specs.declared.part.Part.{Part}
-use Rattle.hg_run_table.specs.Asked.{AreAsked, MayAnswer, IsAnswered, is_worker}
+use Rattle.hg_run_table.specs.Asked.{IsWorkerAsked, MayAnswer, IsAnswered, is_worker}
 use Rattle.hg_run_table.specs.Seated.{HaveRoles}
 
 -- a seat has these roles, one of them a worker's, which is asked one event next, and then the rest
@@ -20,7 +20,7 @@ pub record AsksOne
     : Type 0 where
   pub has : HaveRoles run roles
   pub seat : IsSeatOf before log roles
-  pub asked : AreAsked ((e ∷ []) ∷ rest) run
+  pub asked : IsWorkerAsked before.worker ((e ∷ []) ∷ rest) run
 
 -- where a call by it, which the worker decides alone and which changes no word but that of the place,
 -- is tied at the word that a step finds, the step may answer it
@@ -51,9 +51,7 @@ pub record IsAnsweredBy
     (rest : List (List Event))
     : Type 0 where
   pub has : HaveRoles new (map (called after call) roles)
-  pub asked :
-      (j : ℕ) (part : Part) → IsIn new j part → is_worker before.worker part.name ≡ true
-      → part.asked ≡ rest
+  pub asked : IsWorkerAsked before.worker rest new
   pub others :
       (j : ℕ) (part : Part) → IsIn new j part → is_worker before.worker part.name ≡ false
       → IsIn old j part

@@ -59,9 +59,11 @@ pub record IsAnswer (place left worker : ℕ) (events : List Event) (old : State
   pub made : AreMade place worker calls old new
   pub word : IsShownBy (record_at new place) left
 
--- each part of a seat is asked this
-abbrev pub AreAsked : List (List Event) → List Part → Type 0
-AreAsked asked run = (j : ℕ) (part : Part) → IsIn run j part → part.asked ≡ asked
+-- the worker's part of a seat is asked this
+abbrev pub IsWorkerAsked : ℕ → List (List Event) → List Part → Type 0
+IsWorkerAsked worker asked run =
+    (j : ℕ) (part : Part) → IsIn run j part → is_worker worker part.name ≡ true
+    → part.asked ≡ asked
 
 -- a worker's part of a seat is asked these events by the next step that answers, and then the rest
 pub record IsAsked (run : List Part) : Type 0 where

@@ -7,6 +7,8 @@ pub mod Asked
 pub mod AnswerLaws
 pub mod Owing
 pub mod Reshaping
+pub mod Segments
+pub mod Resting
 pub mod Calls
 pub mod Picks
 pub mod JoinedCalls

@@ -1,10 +1,8 @@
 -- How seats are cut and joined.
-use Rattle.std.specs.Prelude.{ℕ, List, [], ◌++◌, map, take, drop}
-use Rattle.hg_machine.specs.declared.Event.{Event}
+use Rattle.std.specs.Prelude.{ℕ, [], ◌++◌, take, drop}
 use Rattle.hg_table.specs.Steps.{Cut, kept_by, given_by, MayCut}
 use Rattle.hg_table.specs.View.{View}
 use Rattle.hg_run_table.specs.declared.part.SeatView.{SeatView}
-use Rattle.hg_run_table.specs.Asked.{asking}
 
 -- how what a seat knows of words and lives is cut: so many first parts stay with it, and the others
 -- go to the new one; or a seat of one part as hg_table cuts one
@@ -33,12 +31,9 @@ kept cut stay view = record { lives = lives_kept cut view.lives; run = take stay
 abbrev pub given : LivesCut → ℕ → SeatView → SeatView
 given cut stay view = record { lives = lives_given cut view.lives; run = drop stay view.run }
 
--- two become one, whose parts are asked this from then on
-abbrev pub both : List (List Event) → SeatView → SeatView → SeatView
-both asked one other = record {
-  lives = one.lives ++ other.lives;
-  run = map (asking asked) (one.run ++ other.run);
-}
+-- two become one
+abbrev pub both : SeatView → SeatView → SeatView
+both one other = record { lives = one.lives ++ other.lives; run = one.run ++ other.run }
 
 abbrev pub spent : SeatView
 spent = record { lives = []; run = [] }

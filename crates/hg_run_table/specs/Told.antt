@@ -3,14 +3,15 @@ use Rattle.std.specs.Prelude.{◌≡◌, ◌≢◌, ℕ, ◌+◌, List, map}
 use mathlib.Core.Option.{some}
 use lib.ListN.{get_elem?}
 use Rattle.atomic_table.specs.Table.{Me, Step}
+use Rattle.hg_machine.specs.declared.Event.{Event}
 use Rattle.hg_roles.specs.Roles.{Role}
-use Rattle.hg_table.specs.Steps.{WordStep, look, open_as, close_from, part_from, take_home}
+use Rattle.hg_table.specs.Steps.{WordStep, look, open_as, take_home}
 use Rattle.hg_table.specs.Steps.{known_after, view_after, left_by}
 use Rattle.hg_table.specs.declared.view.Part as life
 use Rattle.hg_table.specs.Told.{IsShownTo, AreApart}
 use Rattle.hg_table.specs.View.{View}
 use Rattle.hg_run_table.specs.declared.part.SeatView.{SeatView}
-use Rattle.hg_run_table.specs.Asked.{HasLeft}
+use Rattle.hg_run_table.specs.Asked.{HasLeft, asking}
 use Rattle.hg_run_table.specs.Seated.{HaveRoles}
 
 -- a seat's view, and what it holds of the table beside it, which is nothing here
@@ -59,13 +60,10 @@ module _ (roles : List Role) (change : ℕ → Role → Role) where
   looked_deciding told mine word after =
       Tells look told mine word after × Changes roles change word after
 
-  abbrev pub closed : ℕ → Told → Mine → ℕ → Mine → Type 0
-  closed by told mine word after =
-      TellsBy by (close_from told.first) told mine word after × Changes roles change word after
-
-  abbrev pub parted : ℕ → Told → Mine → ℕ → Mine → Type 0
-  parted by told mine word after =
-      TellsBy by (part_from told.first) told mine word after × Changes roles change word after
+  -- an exchange, of the kind that the word expected makes it
+  abbrev pub exchanged_deciding : (ℕ → WordStep) → ℕ → Told → Mine → ℕ → Mine → Type 0
+  exchanged_deciding kind by told mine word after =
+      TellsBy by (kind told.first) told mine word after × Changes roles change word after
 
   -- a store tells the word that was stored, not the one that was found
   abbrev pub opened : ℕ → Told → Mine → ℕ → Mine → Type 0
@@ -91,15 +89,10 @@ looked_answering told mine word after =
     Tells look told mine word after
     × Answered told word word mine after
 
-abbrev pub closed_answering : ℕ → Told → Mine → ℕ → Mine → Type 0
-closed_answering by told mine word after =
-    TellsBy by (close_from told.first) told mine word after
-    × Answered told word (left_by (close_from told.first) word) mine after
-
-abbrev pub parted_answering : ℕ → Told → Mine → ℕ → Mine → Type 0
-parted_answering by told mine word after =
-    TellsBy by (part_from told.first) told mine word after
-    × Answered told word (left_by (part_from told.first) word) mine after
+abbrev pub exchanged_answering : (ℕ → WordStep) → ℕ → Told → Mine → ℕ → Mine → Type 0
+exchanged_answering kind by told mine word after =
+    TellsBy by (kind told.first) told mine word after
+    × Answered told word (left_by (kind told.first) word) mine after
 
 abbrev pub opened_answering : ℕ → Told → Mine → ℕ → Mine → Type 0
 opened_answering by told mine live after =
@@ -107,3 +100,9 @@ opened_answering by told mine live after =
     × Answered told word live mine after)
     × (after.0.lives ≡ view_after by (open_as live) told.word live mine.0.lives)
     × (after.1 ≡ mine.1)
+
+-- at the spare word: the parts of the seat are asked this from then on
+abbrev pub asks : List (List Event) → Told → Mine → ℕ → Mine → Type 0
+asks asked told mine word after =
+    (after.0.lives ≡ mine.0.lives) × (after.1 ≡ mine.1)
+    × (after.0.run ≡ map (asking asked) mine.0.run)

@@ -1,19 +1,35 @@
 //! Steps at the word of a place that answer what a worker of the seat is asked, if one is.
 
-ghost use Rattle.std.specs.Prelude.{◌≡◌, ℕ, ◌+◌, ◌<◌, map};
+ghost use Rattle.std.specs.Prelude.{◌≡◌, ℕ, ◌+◌, ◌<◌, List, map};
 ghost use Rattle.hg_place.specs.Places.{number_of};
+ghost use Rattle.hg_roles.specs.Roles.{Role};
 ghost use Rattle.hg_roles.specs.Served.{places_of_policy};
 ghost use Rattle.hg_table.specs.Steps.{look, open_as, close_from, part_from, MayMakeBy};
 ghost use Rattle.hg_table.specs.Steps.{known_after, view_after, left_by};
 ghost use Rattle.hg_table.specs.Told.{IsShownTo};
-ghost use Rattle.hg_run_table.specs.Asked.{MayLeave, HasLeft};
+ghost use Rattle.hg_run_table.specs.Asked.{MayLeave, HasLeft, IsWorkerAsked, asking};
+ghost use Rattle.hg_run_table.specs.Seated.{HaveRoles};
 
-use crate::decision::StepsBy;
-use crate::plays::{CloseAnswering, LookAnswering, OpenAnswering, PartAnswering};
+use crate::decision::{Asks, StepsBy};
+use crate::plays::{Asking, CloseAnswering, LookAnswering, OpenAnswering, PartAnswering};
 use crate::table::{RunSeat, RunTable};
 use hg_place::Place;
 
 impl RunTable {
+    /// The parts of the seat are asked what the caller picks, from this load of the spare word on.
+    pub fn ask<E: Asks>(&self, seat: &mut RunSeat)
+        requires same { seat.old.seat.table_id ≡ self.now.table.shared.table_id }
+        ensures same { seat.new.seat.table_id ≡ seat.old.seat.table_id }
+        ensures lives { seat.new.seat.me.0.lives ≡ seat.old.seat.me.0.lives }
+        ensures run { seat.new.seat.me.0.run ≡ map (asking E.asked) seat.old.seat.me.0.run }
+        ensures asked { (worker : ℕ) → IsWorkerAsked worker E.asked seat.new.seat.me.0.run }
+        ensures roles { (roles : List Role) → HaveRoles seat.old.seat.me.0.run roles
+            → HaveRoles seat.new.seat.me.0.run roles }
+    {
+        let shared = &self.table.shared;
+        shared.load::<Asking<E>>(&mut seat.seat, 0);
+    }
+
     /// The word of a place, by one load, which answers what a worker of the seat is asked next by what
     /// it finds; where none is asked anything, nothing is decided.
     pub fn look_asked(&self, seat: &mut RunSeat, place: Place) -> u64

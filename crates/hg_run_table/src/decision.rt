@@ -41,8 +41,8 @@ impl StepsBy for Brand {
 }
 
 /// What the worker of a seat is asked: the events that the next answering step answers, behind these
-/// those of the one after it, and so on. Of two workers in one seat either may be answered. A caller
-/// picks it by `Brand`.
+/// those of the one after it, and so on. Of two workers in one seat that are both asked something
+/// either may be answered. A caller picks it by `Brand`.
 pub trait Asks {
     ghost use Rattle.std.specs.Prelude.{List};
     ghost use Rattle.hg_machine.specs.declared.Event.{Event};

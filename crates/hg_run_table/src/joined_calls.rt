@@ -32,7 +32,7 @@ impl RunTable {
         ensures worker { IsWorkers seat.new W.after }
         ensures other { IsOthers result P.left }
     {
-        self.join::<Brand>(seat, other);
+        self.join(seat, other);
         self.decide::<Brand>(seat);
         self.split::<Brand>(seat)
     }

@@ -13,6 +13,7 @@ mod opening;
 mod part;
 mod plays;
 mod rule;
+mod segment;
 mod steps;
 mod table;
 
@@ -21,4 +22,5 @@ pub use decision::{Asks, CutAt, Decision, StepsBy};
 pub use opening::RunSeats;
 pub use part::{Part, PartName, SeatView, Witness};
 pub use rule::{RunRule, Words};
+pub use segment::RunSegment;
 pub use table::{RunSeat, RunTable};

@@ -145,7 +145,7 @@ impl RunTable {
     {
         let mut seat = self.split::<C>(lives);
         let part = self.next_part(parts);
-        self.join::<Brand>(&mut seat, part);
+        self.join(&mut seat, part);
         seat
     }
 

@@ -1,9 +1,10 @@
 //! What each step tells the seat that makes it, and how views are cut and joined.
 
 ghost use Rattle.hg_run_table.specs.Reshaping.{both, spent, kept, given};
-ghost use Rattle.hg_run_table.specs.Told.{looked, took, looked_deciding, closed, parted, opened};
-ghost use Rattle.hg_run_table.specs.Told.{decided, looked_answering, opened_answering};
-ghost use Rattle.hg_run_table.specs.Told.{closed_answering, parted_answering};
+ghost use Rattle.hg_run_table.specs.Told.{looked, took, looked_deciding, opened};
+ghost use Rattle.hg_run_table.specs.Told.{decided, asks, looked_answering, opened_answering};
+ghost use Rattle.hg_run_table.specs.Told.{exchanged_deciding, exchanged_answering};
+ghost use Rattle.hg_table.specs.Steps.{close_from, part_from};
 
 use crate::decision::{Asks, CutAt, Decision, StepsBy};
 use crate::part::SeatView;
@@ -49,7 +50,7 @@ pub(crate) struct Closing<D: Decision, P: StepsBy> {
 }
 
 impl<D: Decision, P: StepsBy> Play<(), SeatView> for Closing<D, P> {
-    ghost then = { closed D.roles D.change P.by };
+    ghost then = { exchanged_deciding D.roles D.change close_from P.by };
 }
 
 pub(crate) struct Parting<D: Decision, P: StepsBy> {
@@ -58,7 +59,7 @@ pub(crate) struct Parting<D: Decision, P: StepsBy> {
 }
 
 impl<D: Decision, P: StepsBy> Play<(), SeatView> for Parting<D, P> {
-    ghost then = { parted D.roles D.change P.by };
+    ghost then = { exchanged_deciding D.roles D.change part_from P.by };
 }
 
 /// Steps that answer what a worker is asked.
@@ -81,7 +82,7 @@ pub(crate) struct CloseAnswering<P: StepsBy> {
 }
 
 impl<P: StepsBy> Play<(), SeatView> for CloseAnswering<P> {
-    ghost then = { closed_answering P.by };
+    ghost then = { exchanged_answering close_from P.by };
 }
 
 pub(crate) struct PartAnswering<P: StepsBy> {
@@ -89,7 +90,7 @@ pub(crate) struct PartAnswering<P: StepsBy> {
 }
 
 impl<P: StepsBy> Play<(), SeatView> for PartAnswering<P> {
-    ghost then = { parted_answering P.by };
+    ghost then = { exchanged_answering part_from P.by };
 }
 
 /// At the spare word.
@@ -101,13 +102,20 @@ impl<D: Decision> Play<(), SeatView> for Deciding<D> {
     ghost then = { decided D.roles D.change };
 }
 
-/// Two seats become one.
-pub(crate) struct Both<E: Asks> {
+/// The same where nothing is decided, and the parts of the seat are asked anew.
+pub(crate) struct Asking<E: Asks> {
     of: PhantomData<E>,
 }
 
-impl<E: Asks> Join<SeatView> for Both<E> {
-    ghost both = { both E.asked };
+impl<E: Asks> Play<(), SeatView> for Asking<E> {
+    ghost then = { asks E.asked };
+}
+
+/// Two seats become one.
+pub(crate) struct Both;
+
+impl Join<SeatView> for Both {
+    ghost both = { both };
 
     ghost spent = { spent };
 }

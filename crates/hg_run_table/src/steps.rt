@@ -7,13 +7,12 @@ ghost use Rattle.hg_roles.specs.Served.{places_of_policy};
 ghost use Rattle.hg_table.specs.Steps.{look, open_as, close_from, part_from, take_home, MayMakeBy};
 ghost use Rattle.hg_table.specs.Steps.{known_after, view_after, left_by};
 ghost use Rattle.hg_table.specs.Told.{IsShownTo};
-ghost use Rattle.hg_run_table.specs.Asked.{asking, AreAsked};
 ghost use Rattle.hg_run_table.specs.Owing.{DecidesAt, DecidesAlone};
 ghost use Rattle.hg_run_table.specs.Reshaping.{lives_kept, lives_given, MayCutLives};
 ghost use Rattle.hg_run_table.specs.Seated.{HaveRoles};
 ghost use Rattle.hg_run_table.specs.Told.{ArePartsApart};
 
-use crate::decision::{Asks, CutAt, Decision, StepsBy};
+use crate::decision::{CutAt, Decision, StepsBy};
 use crate::plays::{Both, Closing, Cuts, Deciding, Look, Looking, Opening, Parting, Take};
 use crate::table::{RunSeat, RunTable};
 use hg_place::Place;
@@ -160,22 +159,20 @@ impl RunTable {
         shared.load::<Deciding<D>>(&mut seat.seat, 0);
     }
 
-    /// The seat takes in the parts of another, and all its parts are asked what the caller picks.
-    pub fn join<E: Asks>(&self, seat: &mut RunSeat, other: RunSeat)
+    /// The seat takes in the parts of another, behind its own.
+    pub fn join(&self, seat: &mut RunSeat, other: RunSeat)
         requires same { seat.old.seat.table_id ≡ self.now.table.shared.table_id }
         requires of_it { other.seat.table_id ≡ self.now.table.shared.table_id }
         ensures same { seat.new.seat.table_id ≡ seat.old.seat.table_id }
         ensures lives { seat.new.seat.me.0.lives
             ≡ seat.old.seat.me.0.lives ++ other.seat.me.0.lives }
-        ensures run { seat.new.seat.me.0.run
-            ≡ map (asking E.asked) (seat.old.seat.me.0.run ++ other.seat.me.0.run) }
-        ensures asked { AreAsked E.asked seat.new.seat.me.0.run }
+        ensures run { seat.new.seat.me.0.run ≡ seat.old.seat.me.0.run ++ other.seat.me.0.run }
         ensures roles { (roles theirs : List Role) → HaveRoles seat.old.seat.me.0.run roles
             → HaveRoles other.seat.me.0.run theirs
             → HaveRoles seat.new.seat.me.0.run (roles ++ theirs) }
     {
         let shared = &self.table.shared;
-        shared.join_seat::<Both<E>>(&mut seat.seat, other.seat);
+        shared.join_seat::<Both>(&mut seat.seat, other.seat);
     }
 
     /// So many first parts of the run stay with the seat, and the others go to a new one; what it knows

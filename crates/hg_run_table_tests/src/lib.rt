@@ -9,3 +9,5 @@ mod policies;
 mod refused;
 #[cfg(test)]
 mod seats;
+#[cfg(test)]
+mod segments;

@@ -18,7 +18,7 @@ fn words(rt: &impl Abort, alloc: Global, policy: &Policy) -> [u64; 4]
     let mut others = table.split::<Brand>(&mut seat);
     let first = table.look(&mut seat, place_at(0));
     let last = table.look(&mut others, place_at(16_383));
-    table.join::<Brand>(&mut seat, others);
+    table.join(&mut seat, others);
     let closed = table.close(seat);
     let spare = closed.word(0);
     let last_at_the_end = closed.word(16_384);

@@ -26,7 +26,7 @@ fn words(alloc: Global, policy: &Policy) -> Result<[u64; 5], AllocError>
 }
 
 /// The word of the last place as the seat of a worker takes it home, which took in the seat of its
-/// segment, as that seat reads it then, and as it reads it when it answers a Collect, which it was asked.
+/// segment, as that seat reads it then, and as it reads it when it answers a Collect, which it is asked.
 fn taken(alloc: Global, policy: &Policy) -> Result<[u64; 3], AllocError>
     requires segments { length policy.now.segments ≡ 2 }
     requires workers { policy.now.workers ≡ 2 }
@@ -38,9 +38,10 @@ fn taken(alloc: Global, policy: &Policy) -> Result<[u64; 3], AllocError>
     let Some(segment) = seats.segments.pop() else {
         unreachable!()
     };
-    table.join::<Brand>(&mut seat, segment);
+    table.join(&mut seat, segment);
     let taken = table.take::<Brand>(&mut seat, place_at(16_383));
     let read = table.look(&mut seat, place_at(16_383));
+    table.ask::<Brand>(&mut seat);
     let answered = table.look_asked(&mut seat, place_at(16_383));
     table.close(seat).free();
     Ok([taken, read, answered])

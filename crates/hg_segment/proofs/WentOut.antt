@@ -97,6 +97,10 @@ module _ (g : ℕ) (rs : List Standing) (ws mid : List ℕ) (pages : List Page) 
       let in_pages = fits_in_pages size index (omega (arith, below, mine.shape.2)) in
       (omega (arith, mine.base, same_pages, mine.linked.within), omega (arith, in_pages))
 
+  -- the same, of the lists as the segment shows them
+  pub pops_shown : Pops index (refilled (lists_at (map (λ x. lists_of x ws) pages) page)) (lists_of q mid)
+  pops_shown = subst (λ (l : PageLists). Pops index (refilled l) (lists_of q mid)) (sym (list_is ws pages page p (omega (arith, below, h.pages_all)) is)) pops
+
   pub charge_room : (owner : ℕ) → owner < 64 → slice_index cs owner + 8 * size < 18446744073709551616
   charge_room owner lt = let least = charge_small rs classes owner (classes_small g rs ws pages classes cs p h) in let b = size_bounds size mine.shape.0 in omega (arith, least, long, h.charged owner lt, b.1)
 

@@ -7,7 +7,7 @@ ghost use Rattle.hg_place.specs.declared.geometry.TheConstants.{SEGMENT_PAGES, P
 ghost use Rattle.hg_place.specs.Lives.{IsLiveWord, live_word, word_generation};
 ghost use Rattle.hg_place.specs.Standings.{standing_at, slot_of, standing_generation};
 ghost use Rattle.hg_place.specs.declared.standing.Standing.TheVariants.{Home, Open};
-ghost use Rattle.hg_page.specs.PageLists.{listed, Pops};
+ghost use Rattle.hg_page.specs.PageLists.{PageLists, listed, Pops};
 ghost use Rattle.hg_segment.specs.declared.charges.TheConstants.{TENANTS};
 ghost use Rattle.hg_segment.specs.Kept.{slot, class_at, lists_at, refilled, returned, IsFixed};
 ghost use Rattle.hg_segment.specs.Takes.{Took, Passed};
@@ -25,6 +25,8 @@ impl<S: SlotWords> Segment<S> {
     pub fn look(&mut self, page: u8, index: u16) -> u64
         requires page { page < SEGMENT_PAGES }
         requires index { index < PAGE_PLACES }
+        requires allowed { (word : ℕ) → S.shows self.old.slots (slot page index) word
+            → S.allows self.old.slots (slot page index) word word }
         ensures shown { S.shows self.old.slots (slot page index) result }
         ensures step { S.steps self.old.slots (slot page index) result result self.new.slots }
         ensures number { S.number self.new.slots ≡ S.number self.old.slots }
@@ -44,6 +46,11 @@ impl<S: SlotWords> Segment<S> {
     pub fn open_in(&mut self, page: u8, owner: u8) -> Option<Handle>
         requires page { page < SEGMENT_PAGES }
         requires owner { owner < TENANTS }
+        requires allowed { (index word : ℕ) (after : PageLists) → index < PAGE_PLACES
+            → Pops index (refilled (lists_at self.old.lists page)) after
+            → S.shows self.old.slots (slot page index) word
+            → S.allows self.old.slots (slot page index) word (live_word (standing_generation
+            (standing_at (S.records self.old.slots) (slot page index)) + 1) owner) }
         ensures none { IfNone result ((listed (lists_at self.old.lists page) ≡ [])
             × (self.new ≡ self.old)) }
         ensures number { S.number self.new.slots ≡ S.number self.old.slots }
@@ -95,6 +102,10 @@ impl<S: SlotWords> Segment<S> {
     pub fn close_here(&mut self, place: Place, expected: u64) -> Result<(), u64>
         requires segment { place.segment ≡ S.number self.old.slots }
         requires live { IsLiveWord expected }
+        requires hit { S.shows self.old.slots (slot_of place) expected
+            → S.allows self.old.slots (slot_of place) expected (expected - 1) }
+        requires miss { (word : ℕ) → word ≢ expected → S.shows self.old.slots (slot_of place) word
+            → S.allows self.old.slots (slot_of place) word word }
         ensures number { S.number self.new.slots ≡ S.number self.old.slots }
         ensures fixed { IsFixed self.old self.new }
         ensures ok { OnOk result (S.shows self.old.slots (slot_of place) expected
@@ -131,8 +142,10 @@ impl<S: SlotWords> Segment<S> {
     pub fn take_back(&mut self, page: u8, index: u16) -> bool
         requires page { page < SEGMENT_PAGES }
         requires index { index < PAGE_PLACES }
+        requires quiet { S.quiet self.old.slots }
         ensures number { S.number self.new.slots ≡ S.number self.old.slots }
         ensures fixed { IsFixed self.old self.new }
+        ensures quiet { S.quiet self.new.slots }
         ensures taken { IsTrue result
             → Took S.records S.shows S.steps (slot page index) self.old.slots self.new.slots }
         ensures lists { IsTrue result → self.new.lists ≡ slice_set self.old.lists page

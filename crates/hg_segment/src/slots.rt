@@ -1,6 +1,6 @@
-//! The slot words of a segment meet others, and are handed back.
+//! The slot words of a segment meet others, are lent what their steps need, and are handed back.
 
-ghost use Rattle.std.specs.Prelude.{◌≡◌, ◌<◌};
+ghost use Rattle.std.specs.Prelude.{◌≡◌, ◌<◌, ◌↔◌, ℕ};
 ghost use Rattle.hg_place.specs.declared.geometry.TheConstants.{SEGMENT_PAGES, PAGE_PLACES};
 ghost use Rattle.hg_segment.specs.Kept.{slot};
 
@@ -26,6 +26,32 @@ impl<S: SlotWords> Segment<S> {
             index,
         };
         self.slots.meet(other, place)
+    }
+
+    /// Lends the slot words what their next steps need. Records stay, and so do the words that a step
+    /// may find.
+    pub fn lend(&mut self, what: S::Lent)
+        requires { S.may_lend self.old.slots what }
+        ensures lent { S.lends self.old.slots what self.new.slots }
+        ensures shows { (at word : ℕ) → S.shows self.old.slots at word ↔ S.shows self.new.slots at word }
+        ensures number { S.number self.new.slots ≡ S.number self.old.slots }
+        ensures records { S.records self.new.slots ≡ S.records self.old.slots }
+        ensures others { self.new ≡ record self.old { slots = self.new.slots } }
+    {
+        self.slots.lend(what);
+    }
+
+    /// What was lent to the slot words comes back. Records stay, and so do the words that a step may
+    /// find.
+    pub fn give_back(&mut self) -> S::Lent
+        requires { S.may_give_back self.old.slots }
+        ensures given { S.gives_back self.old.slots result self.new.slots }
+        ensures shows { (at word : ℕ) → S.shows self.old.slots at word ↔ S.shows self.new.slots at word }
+        ensures number { S.number self.new.slots ≡ S.number self.old.slots }
+        ensures records { S.records self.new.slots ≡ S.records self.old.slots }
+        ensures others { self.new ≡ record self.old { slots = self.new.slots } }
+    {
+        self.slots.give_back()
     }
 
     /// The slot words. The words of the blocks are given up.

@@ -1,5 +1,5 @@
--- Splits and joins keep the life rule.
-use Rattle.std.proofs.Common.{◌≡◌, ◌≢◌, ◌⊎◌, ℕ, zero, suc, ◌+◌, ◌<◌, List, [], ◌∷◌, ◌++◌, map, take, drop, length, get_or, set, sym, refl, ap, ◌∙◌, subst, inl, inr, ⊎_elim, arith, length-take, length-drop, get_or-take, get_or-drop}
+-- What a change of seats owes so that the life rule stays, and how a seat of one part is cut in two.
+use Rattle.std.proofs.Common.{◌≡◌, ◌≢◌, ◌⊎◌, ℕ, zero, suc, ◌+◌, ◌<◌, List, [], ◌∷◌, ◌++◌, length, get_or, set, sym, refl, ap, ◌∙◌, subst, inl, inr, ⊎_elim, arith, length-take, length-drop, get_or-take, get_or-drop}
 use mathlib.Core.Option.{some, some-injective, some-ne-none}
 use mathlib.Core.Logic.{dite}
 use native.Mathlib.Decide.{ℕ_discrete}
@@ -8,13 +8,11 @@ use Rattle.atomic_table.specs.Table.{Splits, Joins}
 use Rattle.atomic_table.proofs.Lists.{at_set, set_else, at_longer, at_last}
 use Rattle.hg_place.specs.declared.standing.Standing.{Standing}
 use Rattle.hg_place.specs.declared.standing.Standing.TheVariants.{Home}
-use Rattle.hg_place.specs.declared.geometry.TheConstants.{SEGMENT_PLACES}
 use Rattle.hg_place.specs.Standings.{standing_at, Fits}
 use Rattle.hg_table.specs.declared.view.Part.{Part}
-use Rattle.hg_table.specs.View.{View, Table, Has, IsSeen, IsEnded, seats_of, all_seats, blank, part_of, first_records, later_records, giving}
+use Rattle.hg_table.specs.View.{View, Table, Has, seats_of, all_seats, first_records, later_records}
 use Rattle.hg_table.specs.LifeRule.{LifeRule}
 use Rattle.hg_table.specs.Told.{AreApart}
-use Rattle.hg_table.specs.Steps.{Cut, second_part, first_segment, nothing, kept_by, given_by, MayCut}
 use Rattle.hg_table.proofs.Knowing.{Knows, known}
 use Rattle.hg_table.proofs.Counted.{set_hit, seats_set, seats_more}
 
@@ -85,11 +83,10 @@ at_one a b (suc j) e = absurd (some-ne-none b (sym e))
 apart_flips : (a b : Part) → AreApart a b → AreApart b a
 apart_flips a b x = record { ended = λ k l p g e f. x.ended l k p g f e; records = λ k l m m' e. x.records l k m' m (sym e) }
 
--- the view is cut in the part x, which is from its part l, and the part y, which is from its part m
-module _ (n id : ℕ) (view : View) (x y a a' : Part) (l m : ℕ) (al : get_elem? view l ≡ some a) (am : get_elem? view m ≡ some a') (fx : From a x) (fy : From a' y) (apart : AreApart x y)
-    (stays : (j : ℕ) (b : Part) → get_elem? view j ≡ some b → Keeps b x ⊎ Keeps b y) (shared : seats_of view ≡ seats_of (x ∷ []) + seats_of (y ∷ [])) where
-  pub splits : Splits (LifeRule n) id view (x ∷ []) (y ∷ [])
-  splits s r at =
+-- a seat of one part is cut in two of one part each, of which the first keeps all that it knows
+module _ (n id : ℕ) (a x y : Part) (fx : From a x) (fy : From a y) (apart : AreApart x y) (keeps : Keeps a x) (shared : 1 + a.may_give ≡ (1 + x.may_give) + (1 + y.may_give)) where
+  pub splits_one : Splits (LifeRule n) id (a ∷ []) (x ∷ []) (y ∷ [])
+  splits_one s r at =
       let one : List View = set s.views id (x ∷ []) in let views' : List View = one ++ (y ∷ []) ∷ [] in
       let Left : ℕ → ℕ → ℕ → ℕ → Part → Type 0 = λ i0 j0 i j b. (i0 ≡ id) × (i ≡ id) × (j ≡ 0) × (x ≡ b) in
       let Right : ℕ → ℕ → ℕ → ℕ → Part → Type 0 = λ i0 j0 i j b. (i0 ≡ id) × (i ≡ length one) × (j ≡ 0) × (y ≡ b) in
@@ -100,10 +97,10 @@ module _ (n id : ℕ) (view : View) (x y a a' : Part) (l m : ℕ) (al : get_elem
       (λ i j b has. ⊎_elim
       (λ (e : get_elem? one i ≡ some has.0). ⊎_elim
       (λ (t : (i ≡ id) × ((x ∷ []) ≡ has.0)). let o = at_one x b j (subst (λ (z : View). get_elem? z j ≡ some b) (sym t.1) has.2) in
-      (id, l, a, (view, at, al), subst (From a) o.1 fx, inl (refl, t.0, o.0, o.1)))
+      (id, 0, a, (a ∷ [], at, refl), subst (From a) o.1 fx, inl (refl, t.0, o.0, o.1)))
       (λ (t : (i ≢ id) × (get_elem? s.views i ≡ some has.0)). (i, j, b, (has.0, t.1, has.2), whole b, inr (inr (t.0, refl, refl)))) (at_set s.views id i (x ∷ []) has.0 e))
       (λ (t : (i ≡ length one) × ((y ∷ []) ≡ has.0)). let o = at_one y b j (subst (λ (z : View). get_elem? z j ≡ some b) (sym t.1) has.2) in
-      (id, m, a', (view, at, am), subst (From a') o.1 fy, inr (inl (refl, t.0, o.0, o.1))))
+      (id, 0, a, (a ∷ [], at, refl), subst (From a) o.1 fy, inr (inl (refl, t.0, o.0, o.1))))
       (at_end one (y ∷ []) has.0 i has.1))
       (λ i0 j0 i j i' j' b c w w' not. ⊎_elim
       (λ (t : Left i0 j0 i j b). ⊎_elim
@@ -118,60 +115,13 @@ module _ (n id : ℕ) (view : View) (x y a a' : Part) (l m : ℕ) (al : get_elem
       (⊎_elim (λ (t' : Right i0 j0 i' j' c). absurd (t.0 t'.0)) (λ (t' : Other i0 j0 i' j' c). (t.1 ∙ sym t'.1, t.2 ∙ sym t'.2))) w'))
       w)
       (λ i j b has. dite (ℕ_discrete i id)
-      (λ (is : i ≡ id). let mine : get_elem? view j ≡ some b = subst (λ (z : View). get_elem? z j ≡ some b) (some-injective has.0 view (sym has.1 ∙ (ap (get_elem? s.views) is ∙ at))) has.2 in ⊎_elim
-      (λ (k : Keeps b x). (id, 0, x, (x ∷ [], at_longer one ((y ∷ []) ∷ []) id (x ∷ []) (set_hit s.views id view (x ∷ []) at), refl), k))
-      (λ (k : Keeps b y). (length one, 0, y, (y ∷ [], at_last one (y ∷ []) (length one) refl, refl), k)) (stays j b mine))
+      (λ (is : i ≡ id). let mine : get_elem? (a ∷ []) j ≡ some b = subst (λ (z : View). get_elem? z j ≡ some b) (some-injective has.0 (a ∷ []) (sym has.1 ∙ (ap (get_elem? s.views) is ∙ at))) has.2 in
+      (id, 0, x, (x ∷ [], at_longer one ((y ∷ []) ∷ []) id (x ∷ []) (set_hit s.views id (a ∷ []) (x ∷ []) at), refl), subst (λ (z : Part). Keeps z x) (at_one a b j mine).1 keeps))
       (λ (not : i ≢ id). (i, j, b, (has.0, at_longer one ((y ∷ []) ∷ []) i has.0 (set_else s.views id i (x ∷ []) not ∙ has.1), has.2), keeps_itself b)))
-      (let put = seats_set s.views id view (x ∷ []) at in let more = seats_more one (y ∷ []) in omega arith)
-
--- a seat takes in another's one part
-at_two : (x y b : Part) (j : ℕ) → get_elem? (x ∷ y ∷ []) j ≡ some b → ((j ≡ 0) × (x ≡ b)) ⊎ ((j ≡ 1) × (y ≡ b))
-at_two x y b zero e = inl (refl, some-injective x b e)
-at_two x y b (suc zero) e = inr (refl, some-injective y b e)
-at_two x y b (suc (suc j)) e = absurd (some-ne-none b (sym e))
+      (let put = seats_set s.views id (a ∷ []) (x ∷ []) at in let more = seats_more one (y ∷ []) in omega (arith, shared))
 
 pub at_none : (b : Part) (j : ℕ) (v : View) → [] ≡ v → get_elem? v j ≡ some b → ⊥
 at_none b j v is e = some-ne-none b (sym (subst (λ (z : View). get_elem? z j ≡ some b) (sym is) e))
-
-module _ (n id other : ℕ) (x y : Part) where
-  pub joins : Joins (LifeRule n) id (x ∷ []) other (y ∷ []) (x ∷ y ∷ []) []
-  joins s r at differ at' =
-      let one : List View = set s.views id (x ∷ y ∷ []) in let views' : List View = set one other [] in
-      let theirs : get_elem? s.views other ≡ some (y ∷ []) = sym (set_else s.views id other (x ∷ y ∷ []) differ) ∙ at' in
-      let Left : ℕ → ℕ → ℕ → ℕ → Part → Type 0 = λ i0 j0 i j b. (i0 ≡ id) × (i ≡ id) × (j ≡ 0) in
-      let Right : ℕ → ℕ → ℕ → ℕ → Part → Type 0 = λ i0 j0 i j b. (i0 ≡ other) × (i ≡ id) × (j ≡ 1) in
-      let Other : ℕ → ℕ → ℕ → ℕ → Part → Type 0 = λ i0 j0 i j b. ((i0 ≢ id) × (i0 ≢ other)) × (i ≡ i0) × (j ≡ j0) in
-      let W : ℕ → ℕ → ℕ → ℕ → Part → Type 0 = λ i0 j0 i j b. Left i0 j0 i j b ⊎ (Right i0 j0 i j b ⊎ Other i0 j0 i j b) in
-      reshaped n s r views' W
-      (λ i j b has. ⊎_elim
-      (λ (t : (i ≡ other) × ([] ≡ has.0)). absurd (at_none b j has.0 t.1 has.2))
-      (λ (u : (i ≢ other) × (get_elem? one i ≡ some has.0)). ⊎_elim
-      (λ (t : (i ≡ id) × ((x ∷ y ∷ []) ≡ has.0)). ⊎_elim
-      (λ (o : (j ≡ 0) × (x ≡ b)). (id, 0, x, (x ∷ [], at, refl), subst (From x) o.1 (whole x), inl (refl, t.0, o.0)))
-      (λ (o : (j ≡ 1) × (y ≡ b)). (other, 0, y, (y ∷ [], theirs, refl), subst (From y) o.1 (whole y), inr (inl (refl, t.0, o.0))))
-      (at_two x y b j (subst (λ (z : View). get_elem? z j ≡ some b) (sym t.1) has.2)))
-      (λ (t : (i ≢ id) × (get_elem? s.views i ≡ some has.0)). (i, j, b, (has.0, t.1, has.2), whole b, inr (inr ((t.0, u.0), refl, refl)))) (at_set s.views id i (x ∷ y ∷ []) has.0 u.1))
-      (at_set one other i [] has.0 has.1))
-      (λ i0 j0 i j i' j' b c w w' not. ⊎_elim
-      (λ (t : Left i0 j0 i j b). ⊎_elim
-      (λ (t' : Left i0 j0 i' j' c). (t.1 ∙ sym t'.1, t.2 ∙ sym t'.2))
-      (⊎_elim (λ (t' : Right i0 j0 i' j' c). absurd (differ (sym t'.0 ∙ t.0))) (λ (t' : Other i0 j0 i' j' c). absurd (t'.0.0 t.0))) w')
-      (⊎_elim
-      (λ (t : Right i0 j0 i j b). ⊎_elim
-      (λ (t' : Left i0 j0 i' j' c). absurd (differ (sym t.0 ∙ t'.0)))
-      (⊎_elim (λ (t' : Right i0 j0 i' j' c). (t.1 ∙ sym t'.1, t.2 ∙ sym t'.2)) (λ (t' : Other i0 j0 i' j' c). absurd (t'.0.1 t.0))) w')
-      (λ (t : Other i0 j0 i j b). ⊎_elim
-      (λ (t' : Left i0 j0 i' j' c). absurd (t.0.0 t'.0))
-      (⊎_elim (λ (t' : Right i0 j0 i' j' c). absurd (t.0.1 t'.0)) (λ (t' : Other i0 j0 i' j' c). (t.1 ∙ sym t'.1, t.2 ∙ sym t'.2))) w'))
-      w)
-      (λ i j b has. dite (ℕ_discrete i id)
-      (λ (is : i ≡ id). let mine : get_elem? (x ∷ []) j ≡ some b = subst (λ (z : View). get_elem? z j ≡ some b) (some-injective has.0 (x ∷ []) (sym has.1 ∙ (ap (get_elem? s.views) is ∙ at))) has.2 in
-      let o = at_one x b j mine in (id, 0, x, (x ∷ y ∷ [], set_else one other id [] (λ e. differ (sym e)) ∙ set_hit s.views id (x ∷ []) (x ∷ y ∷ []) at, refl), subst (λ (z : Part). Keeps z x) o.1 (keeps_itself x)))
-      (λ (not : i ≢ id). dite (ℕ_discrete i other)
-      (λ (is : i ≡ other). let mine : get_elem? (y ∷ []) j ≡ some b = subst (λ (z : View). get_elem? z j ≡ some b) (some-injective has.0 (y ∷ []) (sym has.1 ∙ (ap (get_elem? s.views) is ∙ theirs))) has.2 in
-      let o = at_one y b j mine in (id, 1, y, (x ∷ y ∷ [], set_else one other id [] (λ e. differ (sym e)) ∙ set_hit s.views id (x ∷ []) (x ∷ y ∷ []) at, refl), subst (λ (z : Part). Keeps z y) o.1 (keeps_itself y)))
-      (λ (far : i ≢ other). (i, j, b, (has.0, set_else one other i [] far ∙ (set_else s.views id i (x ∷ y ∷ []) not ∙ has.1), has.2), keeps_itself b))))
-      (let put = seats_set s.views id (x ∷ []) (x ∷ y ∷ []) at in let out = seats_set one other (y ∷ []) [] at' in omega arith)
 
 -- the parts of one view are apart
 pub are_apart : (n : ℕ) (s : Table) → LifeRule n s → (id : ℕ) (view : View) → get_elem? s.views id ≡ some view
@@ -182,53 +132,22 @@ are_apart n s r id view at j k a b ea eb differ = record {
 }
 
 module _ (size : ℕ) (a : Part) where
-  first_from : From a (first_records size a)
+  pub first_from : From a (first_records size a)
   first_from = record {
     seen = λ k p w e. absurd (some-ne-none (p, w) (sym e));
     ended = λ k p g e. absurd (some-ne-none (p, g) (sym e));
     recorded = λ k l. let m = length-take size a.records in (k, omega arith, refl, get_or-take size a.records k (Home 0) (omega arith));
   }
 
-  later_from : From a (later_records size a)
+  pub later_from : From a (later_records size a)
   later_from = record {
     seen = λ k p w e. (k, e);
     ended = λ k p g e. (k, e);
     recorded = λ k l. let m = length-drop size a.records in (size + k, omega arith, omega arith, get_or-drop size a.records k (Home 0));
   }
 
-  cut_apart : AreApart (later_records size a) (first_records size a)
+  pub cut_apart : AreApart (later_records size a) (first_records size a)
   cut_apart = record {
     ended = λ k l p g e f. some-ne-none (p, g) (sym f);
     records = λ k l lk ll e. let m = length-take size a.records in omega arith;
   }
-
--- a view of one part, which keeps all that it knows
-module _ (n id : ℕ) (a x y : Part) (fx : From a x) (fy : From a y) (apart : AreApart x y) (keeps : Keeps a x) (shared : 1 + a.may_give ≡ (1 + x.may_give) + (1 + y.may_give)) where
-  pub splits_one : Splits (LifeRule n) id (a ∷ []) (x ∷ []) (y ∷ [])
-  splits_one = splits n id (a ∷ []) x y a a 0 0 refl refl fx fy apart
-      (λ j b e. inl (subst (λ (z : Part). Keeps z x) (at_one a b j e).1 keeps))
-      (omega (arith, shared))
-
--- each cut of a view
-pub cuts : (n id : ℕ) (cut : Cut) (view : View) → MayCut cut view → Splits (LifeRule n) id view (kept_by cut view) (given_by cut view)
-cuts n id second_part view may s r at =
-    let apart : AreApart may.0 may.1 = are_apart n s r id view at 0 1 may.0 may.1 (ap (λ (z : View). get_elem? z 0) may.2) (ap (λ (z : View). get_elem? z 1) may.2) (λ z. omega arith) in
-    subst (λ (z : View). Splits (LifeRule n) id z (take 1 z) (drop 1 z)) (sym may.2)
-    (splits n id (may.0 ∷ may.1 ∷ []) may.0 may.1 may.0 may.1 0 1 refl refl (whole may.0) (whole may.1) apart
-    (λ j b e. ⊎_elim (λ (t : (j ≡ 0) × (may.0 ≡ b)). inl (subst (λ (z : Part). Keeps z may.0) t.1 (keeps_itself may.0)))
-    (λ (t : (j ≡ 1) × (may.1 ≡ b)). inr (subst (λ (z : Part). Keeps z may.1) t.1 (keeps_itself may.1))) (at_two may.0 may.1 b j e))
-    (omega arith)) s r at
-cuts n id first_segment view may s r at = let a : Part = part_of view in let size : ℕ = SEGMENT_PLACES in let some_left = may.1 in
-    subst (λ (z : View). Splits (LifeRule n) id z (map (later_records size) z) (map (first_records size) z)) (sym may.0)
-    (splits_one n id a (later_records size a) (first_records size a) (later_from size a) (first_from size a) (cut_apart size a)
-    record { seen = λ k p w e. (k, e); ended = λ k p g e. (k, e) } (omega arith)) s r at
-cuts n id nothing view may s r at = let a : Part = part_of view in let some_left = may.1 in
-    subst (λ (z : View). Splits (LifeRule n) id z (map giving z) (blank ∷ [])) (sym may.0)
-    (splits_one n id a (giving a) blank
-    record { seen = λ k p w e. (k, e); ended = λ k p g e. (k, e); recorded = λ k l. (k, l, refl, refl) }
-    record { seen = λ k p w e. absurd (some-ne-none (p, w) (sym e)); ended = λ k p g e. absurd (some-ne-none (p, g) (sym e)); recorded = λ k l. absurd (omega arith) }
-    record { ended = λ k l p g e f. some-ne-none (p, g) (sym f); records = λ k l lk ll e. absurd (omega arith) }
-    record { seen = λ k p w e. (k, e); ended = λ k p g e. (k, e) } (omega arith)) s r at
-
-pub joins_as : (n id other : ℕ) (v w : View) → v ≡ part_of v ∷ [] → w ≡ part_of w ∷ [] → Joins (LifeRule n) id v other w (v ++ w) []
-joins_as n id other v w one one' = subst (λ (z : View × View). Joins (LifeRule n) id z.0 other z.1 (z.0 ++ z.1) []) (λ i. (sym one i, sym one' i)) (joins n id other (part_of v) (part_of w))

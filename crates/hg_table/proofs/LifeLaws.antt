@@ -15,7 +15,7 @@ use Rattle.hg_table.proofs.Knowing.{itself, between, over_after}
 use Rattle.hg_table.proofs.Counted.{seats_set, seats_more}
 use Rattle.hg_table.proofs.Forward.{word_at_set}
 use Rattle.hg_table.proofs.WordSteps.{freed_word_after, keeps_rule, opened_forward}
-use Rattle.hg_table.proofs.Cuts.{cuts, joins_as}
+use Rattle.hg_table.proofs.ManyParts.{cuts, joins_all}
 use Rattle.hg_table.proofs.Initial.{opens_table}
 
 all_zero : (n i : ℕ) → get_or (replicate {A = ℕ} n 0) i 0 ≡ 0
@@ -30,7 +30,7 @@ made : (places : ℕ) (s t : Table) → LifeRule places s → (kind : Kind) (id 
 made places s t r (at_word step at) id view here m = let wide = r.all_words in subst (LifeRule places) (sym m.2) (keeps_rule places s r at id view here (omega (arith, m.0)) step m.1)
 made places s t r (split cut) id view here m = subst (LifeRule places) (sym m.1) (cuts places id cut view m.0 s r here)
 made places s t r (join other) id view here m = subst (LifeRule places) (sym m.5)
-    (joins_as places id other view m.0 m.3 m.4 s r here m.2 (set_else s.views id other _ m.2 ∙ m.1))
+    (joins_all places id other view m.0 s r here m.2 (set_else s.views id other _ m.2 ∙ m.1))
 
 pub kept : (places : ℕ) (s t : Table) → LifeRule places s → Steps s t → LifeRule places t
 kept places s t r m = made places s t r m.0 m.1 m.2 m.3 m.4

@@ -1,5 +1,5 @@
--- Seats of many parts are joined and cut.
-use Rattle.std.proofs.Common.{◌≡◌, ◌≢◌, ◌⊎◌, ℕ, zero, suc, ◌+◌, ◌<◌, List, [], ◌∷◌, ◌++◌, length, set, sym, refl, ap, ◌∙◌, subst, inl, inr, ⊎_elim, arith}
+-- Seats of many parts are joined and cut, and each cut keeps the life rule.
+use Rattle.std.proofs.Common.{◌≡◌, ◌≢◌, ◌⊎◌, ℕ, zero, suc, ◌+◌, ◌<◌, List, [], ◌∷◌, ◌++◌, map, take, drop, length, set, sym, refl, ap, ◌∙◌, subst, inl, inr, ⊎_elim, arith}
 use mathlib.Core.Option.{some, some-injective, some-ne-none}
 use mathlib.Core.Logic.{dite}
 use native.Mathlib.Decide.{ℕ_discrete}
@@ -7,10 +7,13 @@ use lib.ListN.{get_elem?}
 use Rattle.atomic_table.specs.Table.{Splits, Joins}
 use Rattle.atomic_table.proofs.Lists.{at_set, set_else, at_longer, at_last}
 use Rattle.hg_table.specs.declared.view.Part.{Part}
-use Rattle.hg_table.specs.View.{View, seats_of}
+use Rattle.hg_place.specs.declared.geometry.TheConstants.{SEGMENT_PLACES}
+use Rattle.hg_table.specs.View.{View, seats_of, blank, part_of, first_records, later_records, giving}
 use Rattle.hg_table.specs.LifeRule.{LifeRule}
+use Rattle.hg_table.specs.Steps.{Cut, second_part, first_segment, nothing, kept_by, given_by, MayCut}
 use Rattle.hg_table.proofs.Counted.{set_hit, seats_set, seats_more}
-use Rattle.hg_table.proofs.Cuts.{reshaped, whole, keeps_itself, at_end, at_none}
+use Rattle.hg_table.proofs.Cuts.{reshaped, whole, keeps_itself, at_end, at_none, splits_one}
+use Rattle.hg_table.proofs.Cuts.{first_from, later_from, cut_apart}
 
 -- what stands in the one list or behind it in the other
 at_both : (v w : View) (j : ℕ) (b : Part) → get_elem? (v ++ w) j ≡ some b → (get_elem? v j ≡ some b) ⊎ ((k : ℕ) × (j ≡ length v + k) × (get_elem? w k ≡ some b))
@@ -114,3 +117,20 @@ module _ (n id : ℕ) (v w : View) where
       (λ (o : (k : ℕ) × (j ≡ length v + k) × (get_elem? w k ≡ some b)). (length one, o.0, b, (w, at_last one w (length one) refl, o.2), keeps_itself b)) (at_both v w j b mine))
       (λ (not : i ≢ id). (i, j, b, (has.0, at_longer one (w ∷ []) i has.0 (set_else s.views id i v not ∙ has.1), has.2), keeps_itself b)))
       (let put = seats_set s.views id (v ++ w) v at in let more = seats_more one w in let both = seats_both v w in omega arith)
+
+-- each cut of a view
+pub cuts : (n id : ℕ) (cut : Cut) (view : View) → MayCut cut view → Splits (LifeRule n) id view (kept_by cut view) (given_by cut view)
+cuts n id second_part view may s r at =
+    subst (λ (z : View). Splits (LifeRule n) id z (take 1 z) (drop 1 z)) (sym may.2)
+    (splits_all n id (may.0 ∷ []) (may.1 ∷ [])) s r at
+cuts n id first_segment view may s r at = let a : Part = part_of view in let size : ℕ = SEGMENT_PLACES in let some_left = may.1 in
+    subst (λ (z : View). Splits (LifeRule n) id z (map (later_records size) z) (map (first_records size) z)) (sym may.0)
+    (splits_one n id a (later_records size a) (first_records size a) (later_from size a) (first_from size a) (cut_apart size a)
+    record { seen = λ k p w e. (k, e); ended = λ k p g e. (k, e) } (omega arith)) s r at
+cuts n id nothing view may s r at = let a : Part = part_of view in let some_left = may.1 in
+    subst (λ (z : View). Splits (LifeRule n) id z (map giving z) (blank ∷ [])) (sym may.0)
+    (splits_one n id a (giving a) blank
+    record { seen = λ k p w e. (k, e); ended = λ k p g e. (k, e); recorded = λ k l. (k, l, refl, refl) }
+    record { seen = λ k p w e. absurd (some-ne-none (p, w) (sym e)); ended = λ k p g e. absurd (some-ne-none (p, g) (sym e)); recorded = λ k l. absurd (omega arith) }
+    record { ended = λ k l p g e f. some-ne-none (p, g) (sym f); records = λ k l lk ll e. absurd (omega arith) }
+    record { seen = λ k p w e. (k, e); ended = λ k p g e. (k, e) } (omega arith)) s r at

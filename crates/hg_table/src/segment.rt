@@ -83,6 +83,8 @@ impl<N: TableName> SegmentSeat<N> {
 impl SlotWords for UnnamedSegment {
     type Other = UnnamedWorker;
 
+    type Lent = ();
+
     ghost use Rattle.hg_table.specs.Told.{IsShown};
     ghost use Rattle.hg_table.specs.Seats.{word_at, part_in, StepsOn, MeetAt};
 
@@ -94,10 +96,26 @@ impl SlotWords for UnnamedSegment {
 
     ghost steps = { λ s at found left t. StepsOn (word_at s.segment at) found left s.seat t.seat };
 
+    ghost allows = { λ s at found left. Unit {0} };
+
+    ghost quiet = { λ s. Unit {0} };
+
+    ghost quiet_allows = { λ s at word quiet. tt };
+
+    ghost stays_quiet = { λ s t at word step quiet. tt };
+
     ghost may_meet = { λ s other. s.seat.table_id ≡ other.badge.table_id };
 
     ghost meets = { λ s other at word t after. MeetAt (word_at s.segment at) word
         s.seat other.badge t.seat after.badge };
+
+    ghost may_lend = { λ s what. Unit {0} };
+
+    ghost lends = { λ s what t. t ≡ s };
+
+    ghost may_give_back = { λ s. Unit {0} };
+
+    ghost gives_back = { λ s what t. t ≡ s };
 
     ghost numbered = { λ s. s.segment_below };
 
@@ -117,6 +135,12 @@ impl SlotWords for UnnamedSegment {
 
     ghost meets_again = { λ s t other after at word met may.
         together_again s.seat t.seat other.badge after.badge met.same met.same_other may };
+
+    ghost use Rattle.std.proofs.Common.{ap, ◌∙◌};
+
+    ghost meets_lent = { λ s t other what lent may. ap (λ s. s.seat.table_id) lent ∙ may };
+
+    ghost meets_given_back = { λ s t other what given may. ap (λ s. s.seat.table_id) given ∙ may };
 
     fn segment(&self) -> u8 {
         self.segment
@@ -180,10 +204,16 @@ impl SlotWords for UnnamedSegment {
         other.badge = back.into_badge();
         found
     }
+
+    fn lend(&mut self, _what: ()) {}
+
+    fn give_back(&mut self) {}
 }
 
 impl<N: TableName> SlotWords for SegmentSeat<N> {
     type Other = WorkerSeat<N>;
+
+    type Lent = ();
 
     ghost use Rattle.hg_table.specs.Told.{IsShown};
     ghost use Rattle.hg_table.specs.Seats.{word_at, part_in, part_on, HasStepped, HaveMet};
@@ -198,11 +228,27 @@ impl<N: TableName> SlotWords for SegmentSeat<N> {
     ghost steps = { λ s at found left t. HasStepped (part_in s.inner.seat)
         (word_at s.inner.segment at) found left (part_in t.inner.seat) };
 
+    ghost allows = { λ s at found left. Unit {0} };
+
+    ghost quiet = { λ s. Unit {0} };
+
+    ghost quiet_allows = { λ s at word quiet. tt };
+
+    ghost stays_quiet = { λ s t at word step quiet. tt };
+
     ghost may_meet = { λ s other. Unit {0} };
 
     ghost meets = { λ s other at word t after. HaveMet (word_at s.inner.segment at) word
         (part_in s.inner.seat) (part_on other.inner.badge)
         (part_in t.inner.seat) (part_on after.inner.badge) };
+
+    ghost may_lend = { λ s what. Unit {0} };
+
+    ghost lends = { λ s what t. t.inner ≡ s.inner };
+
+    ghost may_give_back = { λ s. Unit {0} };
+
+    ghost gives_back = { λ s what t. t.inner ≡ s.inner };
 
     ghost numbered = { λ s. s.inner.segment_below };
 
@@ -219,6 +265,10 @@ impl<N: TableName> SlotWords for SegmentSeat<N> {
     ghost still_meets = { λ s t other at found left step may. tt };
 
     ghost meets_again = { λ s t other after at word met may. tt };
+
+    ghost meets_lent = { λ s t other what lent may. tt };
+
+    ghost meets_given_back = { λ s t other what given may. tt };
 
     fn segment(&self) -> u8 {
         self.inner.segment()
@@ -246,6 +296,14 @@ impl<N: TableName> SlotWords for SegmentSeat<N> {
 
     fn meet(&mut self, other: &mut WorkerSeat<N>, place: Place) -> u64 {
         self.inner.meet(&mut other.inner, place)
+    }
+
+    fn lend(&mut self, what: ()) {
+        self.inner.lend(what);
+    }
+
+    fn give_back(&mut self) {
+        self.inner.give_back()
     }
 }
 

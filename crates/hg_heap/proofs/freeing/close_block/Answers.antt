@@ -1,9 +1,33 @@
-use Rattle.std.proofs.Common.{sym, ap, subst}
+use Rattle.std.proofs.Common.{◌≢◌, ℕ, None, sym, ap, subst}
 use Rattle.hg_place.specs.declared.standing.Standing.{Standing}
 use Rattle.hg_place.specs.Standings.{slot_of, Fits}
 use Rattle.hg_segment.specs.Kept.{Kept}
+use Rattle.hg_heap.specs.Freeing.{free_denial, IsNeverFreed}
 use Rattle.hg_heap.proofs.Looking.{looked_of, slot_below}
 use Rattle.hg_heap.proofs.freeing.close_block.Goals as goal
+use Rattle.hg_heap.proofs.freeing.close_block.Goals.{After-standing-standing}
+use Rattle.hg_heap.proofs.freeing.close_block.Given.{Over}
+
+-- each word that is shown but one is denied
+never : (g : Over) (c : After-standing-standing g) (word : ℕ) → IsNeverFreed c.args.policy.now c.args.actor.0 c.args.handle c.standing-standing.result
+    → g.S.SlotWords.shows c.args.segment.now.slots (slot_of c.args.handle.place) word
+    → free_denial c.args.policy.now c.args.actor.0 c.args.handle word ≢ None
+never g c word none shown =
+    let f = g.met.S.SlotWords.fits c.args.segment.now.slots (slot_of c.args.handle.place) word (slot_below c.args.handle.place) shown in
+    λ e. none word f.0 (subst (λ (s : Standing). Fits s word) (sym c.standing-standing.ensures) f.1) e
+
+pub look-word-requires-clause-allowed : goal.look-word-requires-clause-allowed
+look-word-requires-clause-allowed g c = λ word shown.
+    c.requires.allowed.denied word shown (never g (goal.at.look-word-requires-clause-allowed g c).After-standing-standing word c.in_default.ensures.none shown)
+
+pub close_here-requires-clause-hit : goal.close_here-requires-clause-hit
+close_here-requires-clause-hit g c = λ shown. c.requires.allowed.served c.in-Some.expected shown c.in-Some.ensures.some.undenied
+
+pub close_here-requires-clause-miss : goal.close_here-requires-clause-miss
+close_here-requires-clause-miss g c = λ word other shown.
+    let f = g.met.S.SlotWords.fits c.args.segment.now.slots (slot_of c.args.handle.place) word (slot_below c.args.handle.place) shown in
+    c.requires.allowed.denied word shown
+    (λ e. other (c.in-Some.ensures.some.only word f.0 (subst (λ (s : Standing). Fits s word) (sym c.standing-standing.ensures) f.1) e))
 
 pub denied-requires : goal.denied-requires
 denied-requires g c = let l = c.look-word.ensures in

@@ -11,7 +11,7 @@ returns-in-Denied-clause-read g c = let w = g.S.SlotWords in let l = c.look-word
   looked_of w.number w.records w.shows w.steps c.args.handle.place c.look-word.result
       c.args.segment.now c.look-word.new.self l.shown l.step l.number l.records l.others,
   reads_denied _ c.in-Denied.rule _ _ _
-      (denied_by _ c.in-Denied.rule (sym c.in-Denied.is ∙ c.judge.ensures)) c.requires,
+      (denied_by _ c.in-Denied.rule (sym c.in-Denied.is ∙ c.judge.ensures)) c.requires.some,
 )
 
 pub returns-clause-read : goal.returns-clause-read

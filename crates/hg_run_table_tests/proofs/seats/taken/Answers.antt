@@ -5,7 +5,6 @@ use Rattle.hg_machine.specs.declared.Event.TheVariants as event
 use Rattle.hg_roles.specs.FirstParts.{idle}
 use Rattle.hg_roles.specs.Roles.{of_worker, of_segment}
 use Rattle.hg_run_table.specs.declared.part.Part.{Part}
-use Rattle.hg_run_table.specs.Asked.{AreAsked}
 use Rattle.hg_run_table.specs.Calls.{log_in}
 use Rattle.hg_run_table.specs.Seated.{HaveRoles}
 use Rattle.hg_run_table.proofs.Answering.{may_leave}
@@ -64,9 +63,19 @@ look-read-requires-clause-same c =
 pub look_asked-answered-requires-clause-same : goal.look_asked-answered-requires-clause-same
 look_asked-answered-requires-clause-same c =
     let opened = c.in_ok-table.ensures in
-    c.look-read.ensures.same ∙ c.take-taken.ensures.same ∙ c.join.ensures.same
+    c.ask.ensures.same ∙ c.look-read.ensures.same ∙ c.take-taken.ensures.same ∙ c.join.ensures.same
     ∙ (opened.each_worker 1 c.in-Some.seat
     (second_last _ _ _ c.in-Some.ensures.items (opened.workers ∙ c.requires.workers))).same
+
+pub ask-requires : goal.ask-requires
+ask-requires c =
+    let opened = c.in_ok-table.ensures in
+    record {
+      same =
+          c.look-read.ensures.same ∙ c.take-taken.ensures.same ∙ c.join.ensures.same
+          ∙ (opened.each_worker 1 c.in-Some.seat
+          (second_last _ _ _ c.in-Some.ensures.items (opened.workers ∙ c.requires.workers))).same;
+    }
 
 -- the worker's part is asked a Collect, which any look may answer
 pub look_asked-answered-requires-clause-answers : goal.look_asked-answered-requires-clause-answers
@@ -79,23 +88,24 @@ look_asked-answered-requires-clause-answers c = λ word shown.
     opened.each_segment 1 c.in-Some-pop.segment
     (second_last _ _ _ c.in-Some-pop.ensures.items (opened.segments ∙ c.requires.segments)) in
     let key = c.in_ok-table.table.table.shared.key in
-    let same = sym (c.look-read.ensures.run ∙ c.take-taken.ensures.run) in
-    may_leave key _ word word c.look-read.new.seat.seat.me.0.run
-    (looks_may_answer key _ word c.look-read.new.seat.seat.me.0.run
+    may_leave key _ word word c.ask.new.seat.seat.me.0.run
+    (looks_may_answer key _ word c.ask.new.seat.seat.me.0.run
     (of_worker (idle c.args.policy.now 1) (log_in c.in-Some.seat) ∷ of_segment 1 ∷ [])
     (log_in c.in-Some.seat) (idle c.args.policy.now 1) event.Collect []
     (record {
       has =
-          subst
+          c.ask.ensures.roles
+          (of_worker (idle c.args.policy.now 1) (log_in c.in-Some.seat) ∷ of_segment 1 ∷ [])
+          (subst
           (λ (run : List Part).
           HaveRoles run
           (of_worker (idle c.args.policy.now 1) (log_in c.in-Some.seat) ∷ of_segment 1 ∷ []))
-          same
+          (sym (c.look-read.ensures.run ∙ c.take-taken.ensures.run))
           (c.join.ensures.roles
           (of_worker (idle c.args.policy.now 1) (log_in c.in-Some.seat) ∷ [])
-          (of_segment 1 ∷ []) worker.worker segment.part);
+          (of_segment 1 ∷ []) worker.worker segment.part));
       seat = seat_of (idle c.args.policy.now 1) (log_in c.in-Some.seat) 1;
-      asked = subst (AreAsked ((event.Collect ∷ []) ∷ [])) same c.join.ensures.asked;
+      asked = c.ask.ensures.asked 1;
     })
     refl (λ a other. refl))
 
@@ -104,7 +114,7 @@ close-requires c =
     let opened = c.in_ok-table.ensures in
     record {
       same =
-          c.look_asked-answered.ensures.same ∙ c.look-read.ensures.same ∙ c.take-taken.ensures.same ∙ c.join.ensures.same
+          c.look_asked-answered.ensures.same ∙ c.ask.ensures.same ∙ c.look-read.ensures.same ∙ c.take-taken.ensures.same ∙ c.join.ensures.same
           ∙ (opened.each_worker 1 c.in-Some.seat
           (second_last _ _ _ c.in-Some.ensures.items (opened.workers ∙ c.requires.workers))).same;
     }

@@ -7,5 +7,5 @@ abbrev pub ghosts-take : goal.ghosts-take
 ghosts-take a = record { by = 1 }
 
 -- the worker is asked one event
-abbrev pub ghosts-join : goal.ghosts-join
-ghosts-join a = record { asked = (event.Collect ∷ []) ∷ [] }
+abbrev pub ghosts-ask : goal.ghosts-ask
+ghosts-ask a = record { asked = (event.Collect ∷ []) ∷ [] }

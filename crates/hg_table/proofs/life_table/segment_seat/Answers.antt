@@ -3,7 +3,7 @@ use Rattle.hg_place.specs.declared.geometry.TheConstants.{MAX_SEGMENTS}
 use Rattle.hg_table.specs.View.{View, part_of}
 use Rattle.hg_table.specs.Seats.{IsInitial}
 use Rattle.hg_table.specs.Steps.{first_segment}
-use Rattle.hg_table.proofs.Cuts.{cuts}
+use Rattle.hg_table.proofs.ManyParts.{cuts}
 use Rattle.hg_table.proofs.Initial.{cut, all_home, home_is_sane}
 use Rattle.hg_table.proofs.life_table.segment_seat.Goals as goal
 

@@ -1,6 +1,6 @@
 use Rattle.std.proofs.Common.{rules, arith, ◌≡◌, ◌+◌}
 use Rattle.hg_table.specs.Steps.{nothing}
-use Rattle.hg_table.proofs.Cuts.{cuts}
+use Rattle.hg_table.proofs.ManyParts.{cuts}
 use Rattle.hg_table.proofs.life_table.worker_seat.Goals as goal
 
 pub split_seat-seat-requires : goal.split_seat-seat-requires

@@ -8,8 +8,8 @@ use Rattle.hg_core.proofs.AllocCalls.{after_alloc, if_ok}
 use Rattle.hg_machine.specs.declared.Event.TheVariants as event
 use Rattle.hg_core.proofs.stores.Stores.alloc.Goals as goal
 
-pub alloc-given-requires : goal.alloc-given-requires
-alloc-given-requires c =
+pub alloc-given-requires-clause-policy : goal.alloc-given-requires-clause-policy
+alloc-given-requires-clause-policy c =
     of_policy c.self.invariant c.self.view_is c.requires c.from.ensures
     c.index_mut-heap.ensures.value
 

@@ -26,11 +26,10 @@ returns-then-not-holds-clause-chosen c =
     refused_by_heap c.args.self.now c.args.worker (event.Look c.args.actor c.args.place)
     c.unlisted.result (returns-then-not-holds-clause-step c)
 
-pub look-row-requires : goal.look-row-requires
-look-row-requires c = record {
-  held = here c.self.invariant c.self.view_is c.requires c.from.ensures c.index_mut-heap.ensures.value
-      c.args.place.segment (sym c.holds.ensures.value ∙ c.if-not-holds.false);
-}
+pub look-row-requires-clause-held : goal.look-row-requires-clause-held
+look-row-requires-clause-held c =
+    here c.self.invariant c.self.view_is c.requires c.from.ensures c.index_mut-heap.ensures.value
+    c.args.place.segment (sym c.holds.ensures.value ∙ c.if-not-holds.false)
 
 -- without a row, by the verdict on the word that was shown
 unlisted : (c : goal.After-unlisted-in_default) → IsAfter c.args.self.now

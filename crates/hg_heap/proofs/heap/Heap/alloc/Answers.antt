@@ -1,7 +1,10 @@
-use Rattle.std.proofs.Common.{◌≡◌, ℕ, Option, refl, ap, sym, subst, ◌∙◌, arith}
+use Rattle.std.proofs.Common.{◌≡◌, ◌<◌, ℕ, Option, refl, ap, sym, subst, ◌∙◌, arith}
 use Rattle.std.specs.Prelude.{unwrap_or}
 use Rattle.hg_machine.specs.Request.{words_for, size_of, alloc_verdict}
+use Rattle.hg_machine.specs.declared.AllocVerdict.TheVariants as verdict
 use Rattle.hg_machine.specs.declared.Answer.TheVariants as answer
+use Rattle.hg_heap.specs.Allowed.{MayOpen}
+use Rattle.hg_heap.specs.Charges.{charge_in}
 use Rattle.hg_heap.specs.Right.{IsRight}
 use Rattle.hg_heap.proofs.AllocCall.{Fits, refused_ends, no_room_ends, given_ties, fits_is}
 use Rattle.hg_heap.proofs.heap.Heap.alloc.Goals as goal
@@ -35,7 +38,7 @@ returns-in-Denied-clause-refused g c =
     let m = g.met.S.SlotWords in
     let at = (goal.at.returns-in-Denied-clause-refused g c).After-judge_alloc in (
       refl,
-      refused_ends w.number w.records m.sized m.numbered (right g at) c.requires c.args.actor
+      refused_ends w.number w.records m.sized m.numbered (right g at) c.requires.policy c.args.actor
           c.args.arena c.args.bytes c.workers-workers.ensures.sound.few_tenants
           c.charge-charge.ensures.counted _ (answer.Denied c.in-Denied.rule)
           (verdict_is g at ∙ c.in-Denied.is) (λ worker hand generation. refl),
@@ -47,7 +50,7 @@ returns-in-TooLarge-clause-refused g c =
     let m = g.met.S.SlotWords in
     let at = (goal.at.returns-in-TooLarge-clause-refused g c).After-judge_alloc in (
       refl,
-      refused_ends w.number w.records m.sized m.numbered (right g at) c.requires c.args.actor
+      refused_ends w.number w.records m.sized m.numbered (right g at) c.requires.policy c.args.actor
           c.args.arena c.args.bytes c.workers-workers.ensures.sound.few_tenants
           c.charge-charge.ensures.counted _ answer.TooLarge
           (verdict_is g at ∙ c.in-TooLarge.is) (λ worker hand generation. refl),
@@ -65,13 +68,31 @@ allot-requires-clause-owner g c =
     let s = c.workers-workers.ensures.sound in
     omega (arith, s.few_tenants, (s.admitted c.args.arena c.args.actor.0 f.admitted).1)
 
+pub allot-requires-clause-allowed : goal.allot-requires-clause-allowed
+allot-requires-clause-allowed g c =
+    let w = g.S.SlotWords in
+    let at = goal.at.allot-requires-clause-allowed g c in
+    let f = fits g at.In-Fits in
+    let s = c.workers-workers.ensures.sound in
+    let low : c.args.actor.0 < 64 =
+    omega (arith, s.few_tenants, (s.admitted c.args.arena c.args.actor.0 f.admitted).1) in
+    let size = size_is g at.In-Fits in
+    let verdict : alloc_verdict c.args.policy.now c.args.actor.0 c.args.arena
+    (words_for c.args.bytes) (charge_in w.records c.args.self.now.segments c.args.actor.0)
+    ≡ verdict.Fits (size_of c.args.bytes) =
+    ap (λ (n : ℕ). alloc_verdict c.args.policy.now c.args.actor.0 c.args.arena
+    (words_for c.args.bytes) n) (sym (c.charge-charge.ensures.counted low))
+    ∙ verdict_is g at.After-judge_alloc ∙ c.in-Fits.is ∙ ap verdict.Fits size in
+    subst (λ (n : ℕ). MayOpen w.shows w.allows w.number w.records c.args.arena n c.args.actor.0
+    c.args.self.now) (sym size) (c.requires.allowed verdict)
+
 pub returns-in_default-clause-refused : goal.returns-in_default-clause-refused
 returns-in_default-clause-refused g c =
     let w = g.S.SlotWords in
     let m = g.met.S.SlotWords in
     let at = (goal.at.returns-in_default-clause-refused g c).After-judge_alloc in (
       c.in_default.ensures.none.0,
-      no_room_ends w.number w.records m.sized m.numbered (right g at) c.requires c.args.actor
+      no_room_ends w.number w.records m.sized m.numbered (right g at) c.requires.policy c.args.actor
           c.args.arena c.args.bytes c.workers-workers.ensures.sound.few_tenants
           c.charge-charge.ensures.counted (verdict_is g at ∙ c.in-Fits.is)
           c.block_words-size.ensures.listed c.in_default.ensures.none.1
@@ -84,7 +105,7 @@ returns-clause-given g c =
     let m = g.met.S.SlotWords in
     let at = goal.at.returns-clause-given g c in (
       rw (← size_is g at.In-Fits) c.in-Some.ensures.allotted,
-      given_ties w.number w.records m.sized m.numbered (right g at.After-judge_alloc) c.requires
+      given_ties w.number w.records m.sized m.numbered (right g at.After-judge_alloc) c.requires.policy
           c.args.actor c.args.arena c.args.bytes c.workers-workers.ensures.sound.few_tenants
           c.charge-charge.ensures.counted (verdict_is g at.After-judge_alloc ∙ c.in-Fits.is)
           c.block_words-size.ensures.listed c.in-Some.ensures.allotted c.in-Some.ensures.chosen,

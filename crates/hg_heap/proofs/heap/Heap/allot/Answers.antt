@@ -7,7 +7,17 @@ use Rattle.hg_heap.specs.Requeued.{requeued}
 use Rattle.hg_heap.specs.Right.{IsRight}
 use Rattle.hg_heap.proofs.Allotting.{allotted_ready, chosen_ready, chosen_popped, given_ready}
 use Rattle.hg_heap.proofs.Allotting.{queues_ready}
+use Rattle.hg_heap.proofs.Letting.{may_give}
 use Rattle.hg_heap.proofs.heap.Heap.allot.Goals as goal
+
+pub give_out-requires-clause-allowed : goal.give_out-requires-clause-allowed
+give_out-requires-clause-allowed g c =
+    let w = g.S.SlotWords in
+    let r = subst (IsRight w.number w.records c.self.inside.table.value c.self.inside.charges
+    c.self.inside.segments.cap) c.self.view_is c.self.invariant in
+    may_give w.number w.shows w.allows w.records c.args.self.now c.page_for.new.self c.args.arena
+    c.args.class c.args.owner c.in-Some.page r.queued r.tabled.once c.in-Some.ensures.queued
+    c.in-Some.ensures.ready c.requires.allowed
 
 pub returns-clause-allotted : goal.returns-clause-allotted
 returns-clause-allotted g c =

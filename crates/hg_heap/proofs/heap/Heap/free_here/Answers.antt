@@ -23,13 +23,24 @@ use Rattle.hg_heap.proofs.FreeCall.{Frees, denied_ends, done_ends, generation_fr
 use Rattle.hg_heap.proofs.FreeCall.{has_class, owner_below, page_change, place_change, key_was}
 use Rattle.hg_heap.proofs.FreeCall.{place_now, came_home, closed_step}
 use Rattle.hg_heap.proofs.FreedRecords.{freed_alone}
+use Rattle.hg_heap.proofs.Letting.{lets_free}
 use Rattle.hg_heap.proofs.heap.Heap.free_here.Goals as goal
 use Rattle.hg_heap.proofs.heap.Heap.free_here.Goals.{After-settled, In-Ok, In-Some-class_of}
 use Rattle.hg_heap.proofs.heap.Heap.free_here.Goals.{After-arena-arena, After-requeue}
 use Rattle.hg_heap.proofs.heap.Heap.free_here.Given.{Over}
 
-pub close_block-closed-requires : goal.close_block-closed-requires
-close_block-closed-requires g c =
+pub close_block-closed-requires-clause-allowed : goal.close_block-closed-requires-clause-allowed
+close_block-closed-requires-clause-allowed g c =
+    let w = g.S.SlotWords in
+    let here = found_of w.number c.self.inside.segments.items c.args.handle.place.segment c.in-Some.found
+    c.index_mut-segment.result.now (rw (← c.self.view_is) at c.in-Some.ensures.some)
+    c.index_mut-segment.ensures.value in
+    lets_free w.number w.shows w.allows c.args.policy.now c.args.actor.0
+    c.self.inside.segments.items c.args.handle c.in-Some.found c.index_mut-segment.result.now here
+    (rw (← c.self.view_is) at c.requires.allowed)
+
+pub close_block-closed-requires-clause-segment : goal.close_block-closed-requires-clause-segment
+close_block-closed-requires-clause-segment g c =
     sym (number_is g.S.SlotWords.number _ _ c.in-Some.found _
     (found_of g.S.SlotWords.number c.self.inside.segments.items c.args.handle.place.segment
     c.in-Some.found c.index_mut-segment.result.now

@@ -3,7 +3,7 @@ use Rattle.std.proofs.lemmas.Bool.{true≢false}
 use Rattle.hg_size.specs.Sizes.{number_of_size}
 use Rattle.hg_size.specs.SizeLaws.{key_of}
 use Rattle.hg_queue.specs.Queues.{queue_of}
-use Rattle.hg_heap.proofs.Founds.{found_of}
+use Rattle.hg_heap.proofs.Founds.{found_of, found_is}
 use Rattle.hg_heap.proofs.Giving.{Gives, held_queued, place_queued, room_for, right_given}
 use Rattle.hg_heap.proofs.Giving.{class_given, opened, given_out, queues_given}
 use Rattle.hg_heap.proofs.heap.Heap.give_out.Goals as goal
@@ -38,6 +38,16 @@ gives g c =
       popped = i.popped;
       lists = i.lists;
     }
+
+pub open_in-requires-clause-allowed : goal.open_in-requires-clause-allowed
+open_in-requires-clause-allowed g c = λ index word after low pops.
+    (rw (← c.self.view_is) at c.requires.allowed) index after c.index_mut-segment.result.now low
+    (found_is g.S.SlotWords.number c.self.inside.segments.items _ c.in-Some.found
+    c.index_mut-segment.result.now
+    (found_of g.S.SlotWords.number c.self.inside.segments.items _ c.in-Some.found
+    c.index_mut-segment.result.now
+    (rw (← c.self.view_is) at c.in-Some.ensures.some) c.index_mut-segment.ensures.value))
+    pops word
 
 pub unreachable-requires : goal.unreachable-requires
 unreachable-requires g c =

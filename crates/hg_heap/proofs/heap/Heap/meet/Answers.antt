@@ -1,3 +1,4 @@
+use Rattle.std.proofs.Common.{refl}
 use Rattle.hg_segment.specs.Kept.{Kept}
 use Rattle.hg_heap.proofs.Founds.{found_of}
 use Rattle.hg_heap.proofs.MeetCall.{found_may, lists_met, right_met, met_here}
@@ -5,8 +6,8 @@ use Rattle.hg_heap.proofs.heap.Heap.meet.Goals as goal
 
 pub meet-word-requires-clause-may_meet : goal.meet-word-requires-clause-may_meet
 meet-word-requires-clause-may_meet g c = let w = g.S.SlotWords in
-    found_may w.number w.records w.shows w.meets c.self.inside.segments.items c.in-Some.found
-    c.args.place c.index_mut-segment.result.now
+    found_may w.number w.records c.self.inside.segments.items c.in-Some.found
+    c.args.place.segment c.index_mut-segment.result.now
     (found_of w.number c.self.inside.segments.items c.args.place.segment c.in-Some.found
     c.index_mut-segment.result.now (rw (← c.self.view_is) at c.in-Some.ensures.some)
     c.index_mut-segment.ensures.value)
@@ -16,8 +17,8 @@ meet-word-requires-clause-may_meet g c = let w = g.S.SlotWords in
 pub invariant_of-self : goal.invariant_of-self
 invariant_of-self g c = let w = g.S.SlotWords in let m = c.meet-word.ensures in let s =
     c.settled.ensures in
-    right_met w.number w.records w.shows w.meets c.self.inside.segments.items c.in-Some.found
-    c.args.place c.index_mut-segment.result.now
+    right_met w.number w.records c.self.inside.segments.items c.in-Some.found
+    c.args.place.segment c.index_mut-segment.result.now
     (found_of w.number c.self.inside.segments.items c.args.place.segment c.in-Some.found
     c.index_mut-segment.result.now (rw (← c.self.view_is) at c.in-Some.ensures.some)
     c.index_mut-segment.ensures.value)
@@ -38,19 +39,19 @@ invariant_of-self g c = let w = g.S.SlotWords in let m = c.meet-word.ensures in 
 pub returns-clause-met : goal.returns-clause-met
 returns-clause-met g c = let w = g.S.SlotWords in let m = c.meet-word.ensures in
     rw (← c.self.view_is)
-    (met_here w.number w.records w.shows w.meets c.self.inside.segments.items c.in-Some.found
-    c.args.place c.index_mut-segment.result.now
+    (met_here w.number w.records c.self.inside.segments.items c.in-Some.found
+    c.args.place.segment c.index_mut-segment.result.now
     (found_of w.number c.self.inside.segments.items c.args.place.segment c.in-Some.found
     c.index_mut-segment.result.now (rw (← c.self.view_is) at c.in-Some.ensures.some)
     c.index_mut-segment.ensures.value)
-    c.meet-word.new.self m.number m.records m.others c.meet-word.result c.args.other.now
+    c.meet-word.new.self m.number m.records m.others w.shows w.meets c.args.place refl c.meet-word.result c.args.other.now
     c.meet-word.new.other m.shown m.met)
 
 pub returns-clause-lists : goal.returns-clause-lists
 returns-clause-lists g c = let w = g.S.SlotWords in let m = c.meet-word.ensures in
     rw (← c.self.view_is)
-    (lists_met w.number w.records w.shows w.meets c.self.inside.segments.items c.in-Some.found
-    c.args.place c.index_mut-segment.result.now
+    (lists_met w.number w.records c.self.inside.segments.items c.in-Some.found
+    c.args.place.segment c.index_mut-segment.result.now
     (found_of w.number c.self.inside.segments.items c.args.place.segment c.in-Some.found
     c.index_mut-segment.result.now (rw (← c.self.view_is) at c.in-Some.ensures.some)
     c.index_mut-segment.ensures.value)

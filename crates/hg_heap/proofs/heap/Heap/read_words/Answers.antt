@@ -3,7 +3,17 @@ use Rattle.hg_heap.proofs.Founds.{found_of}
 use Rattle.hg_heap.proofs.Judging.{all_kept}
 use Rattle.hg_heap.proofs.Looking.{heap_lists, heap_right}
 use Rattle.hg_heap.proofs.ReadMany.{many_end}
+use Rattle.hg_heap.proofs.Letting.{lets_look}
 use Rattle.hg_heap.proofs.heap.Heap.read_words.Goals as goal
+
+pub copy_words-far-requires-clause-allowed : goal.copy_words-far-requires-clause-allowed
+copy_words-far-requires-clause-allowed g c =
+    let w = g.S.SlotWords in
+    let here = found_of w.number c.self.inside.segments.items c.args.handle.place.segment c.in-Some.found
+    c.index_mut-segment.result.now (rw (← c.self.view_is) at c.in-Some.ensures.some)
+    c.index_mut-segment.ensures.value in
+    lets_look w.number w.shows w.allows c.self.inside.segments.items c.args.handle.place c.in-Some.found
+    c.index_mut-segment.result.now here (rw (← c.self.view_is) at c.requires.allowed)
 
 pub invariant_of-self : goal.invariant_of-self
 invariant_of-self g c =

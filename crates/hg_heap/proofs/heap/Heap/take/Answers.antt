@@ -13,12 +13,19 @@ use Rattle.hg_heap.proofs.heap.Heap.take.Given.{Over}
 pub loop-page-init : goal.loop-page-init
 loop-page-init g c =
     let w = g.S.SlotWords in
-    none_taken w.number w.records w.shows w.steps c.args.segment c.args.remote.now
-    c.args.self.now (sym c.holds.ensures ∙ c.if-not-holds.false)
-    c.is_empty-is_empty.ensures.right
+    record {
+      taken =
+          none_taken w.number w.records w.shows w.steps c.args.segment c.args.remote.now
+          c.args.self.now (sym c.holds.ensures ∙ c.if-not-holds.false)
+          c.is_empty-is_empty.ensures.right;
+      quiet = c.requires.quiet;
+    }
+
+pub take_one-requires-clause-quiet : goal.take_one-requires-clause-quiet
+take_one-requires-clause-quiet g c = c.loop-page.invariant.quiet
 
 pub take_one-requires-clause-held : goal.take_one-requires-clause-held
-take_one-requires-clause-held g c = c.loop-page.invariant.held
+take_one-requires-clause-held g c = c.loop-page.invariant.taken.held
 
 -- a place came off the remote list
 comes : (g : Over) (c : In-Some g) → Comes c.in-Some.page c.in-Some.index c.loop-page.remote
@@ -35,49 +42,57 @@ comes g c = let d = c.in-Some.ensures in
 pub overflow_add-count : goal.overflow_add-count
 overflow_add-count g c =
     let w = g.S.SlotWords in
-    let less = room w.number w.records w.shows w.steps c.loop-page.invariant
+    let less = room w.number w.records w.shows w.steps c.loop-page.invariant.taken
     (comes g (goal.at.overflow_add-count g c).In-Some) in
     omega (arith, less)
 
 pub loop-page-smaller-then-take_one : goal.loop-page-smaller-then-take_one
 loop-page-smaller-then-take_one g c =
     let w = g.S.SlotWords in
-    shorter w.number w.records w.shows w.steps c.loop-page.invariant
+    shorter w.number w.records w.shows w.steps c.loop-page.invariant.taken
     (comes g (goal.at.loop-page-smaller-then-take_one g c).In-Some)
 
 pub loop-page-preserved-then-take_one : goal.loop-page-preserved-then-take_one
 loop-page-preserved-then-take_one g c =
     let w = g.S.SlotWords in
-    one_taken w.number w.records w.shows w.steps c.loop-page.invariant
-    (comes g (goal.at.loop-page-preserved-then-take_one g c).In-Some)
-    (c.take_one.ensures.taken c.if-take_one.true)
+    record {
+      taken =
+          one_taken w.number w.records w.shows w.steps c.loop-page.invariant.taken
+          (comes g (goal.at.loop-page-preserved-then-take_one g c).In-Some)
+          (c.take_one.ensures.taken c.if-take_one.true);
+      quiet = c.take_one.ensures.quiet;
+    }
 
 pub loop-page-smaller : goal.loop-page-smaller
 loop-page-smaller g c =
     let w = g.S.SlotWords in
-    shorter w.number w.records w.shows w.steps c.loop-page.invariant
+    shorter w.number w.records w.shows w.steps c.loop-page.invariant.taken
     (comes g (goal.at.loop-page-smaller g c).In-Some)
 
 pub loop-page-preserved : goal.loop-page-preserved
 loop-page-preserved g c =
     let w = g.S.SlotWords in
-    one_passed w.number w.records w.shows w.steps c.loop-page.invariant
-    (comes g (goal.at.loop-page-preserved g c).In-Some)
-    (c.take_one.ensures.passed c.if-take_one.false)
+    record {
+      taken =
+          one_passed w.number w.records w.shows w.steps c.loop-page.invariant.taken
+          (comes g (goal.at.loop-page-preserved g c).In-Some)
+          (c.take_one.ensures.passed c.if-take_one.false);
+      quiet = c.take_one.ensures.quiet;
+    }
 
 pub returns-clause-empty : goal.returns-clause-empty
 returns-clause-empty g c = λ held.
     c.in_default.ensures.unchanged
-    ∙ empty_sent c.loop-page.remote c.loop-page.invariant.right (c.in_default.ensures.none.0 refl)
+    ∙ empty_sent c.loop-page.remote c.loop-page.invariant.taken.right (c.in_default.ensures.none.0 refl)
 
 pub returns-clause-taken : goal.returns-clause-taken
 returns-clause-taken g c =
     let w = g.S.SlotWords in
-    λ held. all_taken w.number w.records w.shows w.steps c.loop-page.invariant
+    λ held. all_taken w.number w.records w.shows w.steps c.loop-page.invariant.taken
     (c.in_default.ensures.none.0 refl)
 
 pub returns-clause-few : goal.returns-clause-few
-returns-clause-few g c = let few = c.loop-page.invariant.few in omega (arith, few)
+returns-clause-few g c = let few = c.loop-page.invariant.taken.few in omega (arith, few)
 
 pub returns-then-not-holds-clause-empty : goal.returns-then-not-holds-clause-empty
 returns-then-not-holds-clause-empty g c = λ held.
@@ -101,5 +116,5 @@ returns-clause-whole g c = let w = g.S.SlotWords in
     (drained c.args.remote.now) (contents c.args.remote.now) c.args.self.now c.loop-page.self
     c.settled.ensures.once held
     (λ place. ((order_all c.args.remote.now c.is_empty-is_empty.ensures.right).same place).0)
-    (all_taken w.number w.records w.shows w.steps c.loop-page.invariant
+    (all_taken w.number w.records w.shows w.steps c.loop-page.invariant.taken
     (c.in_default.ensures.none.0 refl))

@@ -3,6 +3,7 @@ use Rattle.hg_heap.specs.Settled.{IsSettled}
 use Rattle.hg_heap.proofs.Founds.{Found, found_of, number_is}
 use Rattle.hg_heap.proofs.CameBack.{CameBack, back_of, arena_below, owner_pays}
 use Rattle.hg_heap.proofs.CameBack.{in_its_own, is_taken, right_back, is_passed, right_passed}
+use Rattle.hg_heap.proofs.Letting.{quiet_found, quiet_after}
 use Rattle.hg_heap.proofs.heap.Heap.take_one.Goals as goal
 use Rattle.hg_heap.proofs.heap.Heap.take_one.Goals.{After-settled, In-Some-owner}
 use Rattle.hg_heap.proofs.heap.Heap.take_one.Given.{Over}
@@ -30,6 +31,32 @@ stays g c = let s = c.settled.ensures in
       classes = s.all.1;
       words = s.all.2;
     }
+
+pub bring_home-owner-requires-clause-quiet : goal.bring_home-owner-requires-clause-quiet
+bring_home-owner-requires-clause-quiet g c =
+    let w = g.S.SlotWords in
+    quiet_found w.number w.quiet c.self.inside.segments.items c.args.segment c.in-Some.found
+    c.index_mut-segment.result.now
+    (found_of w.number c.self.inside.segments.items c.args.segment c.in-Some.found
+    c.index_mut-segment.result.now (rw (← c.self.view_is) at c.in-Some.ensures.some)
+    c.index_mut-segment.ensures.value)
+    (rw (← c.self.view_is) at c.requires.quiet)
+
+pub returns-in_default-owner-clause-quiet : goal.returns-in_default-owner-clause-quiet
+returns-in_default-owner-clause-quiet g c =
+    let w = g.S.SlotWords in
+    let at = (goal.at.returns-in_default-owner-clause-quiet g c).After-settled in
+    quiet_after w.number w.quiet c.self.inside.segments.items c.args.segment c.in-Some.found
+    c.index_mut-segment.result.now c.bring_home-owner.new.segment (here g at)
+    c.bring_home-owner.ensures.number c.bring_home-owner.ensures.quiet
+
+pub returns-clause-quiet : goal.returns-clause-quiet
+returns-clause-quiet g c =
+    let w = g.S.SlotWords in
+    let at = (goal.at.returns-clause-quiet g c).After-settled in
+    quiet_after w.number w.quiet c.self.inside.segments.items c.args.segment c.in-Some.found
+    c.index_mut-segment.result.now c.bring_home-owner.new.segment (here g at)
+    c.bring_home-owner.ensures.number c.bring_home-owner.ensures.quiet
 
 pub invariant_of-self : goal.invariant_of-self
 invariant_of-self g c =

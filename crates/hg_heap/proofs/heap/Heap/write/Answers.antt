@@ -7,7 +7,17 @@ use Rattle.hg_heap.proofs.Judging.{rule_reached, judged_as, all_kept, wrote, on_
 use Rattle.hg_heap.proofs.Looking.{heap_lists, heap_right, stepped}
 use Rattle.hg_heap.proofs.Reached.{never_elsewhere}
 use Rattle.hg_heap.proofs.WriteCall.{write_ends}
+use Rattle.hg_heap.proofs.Letting.{lets_look}
 use Rattle.hg_heap.proofs.heap.Heap.write.Goals as goal
+
+pub write_word-written-requires : goal.write_word-written-requires
+write_word-written-requires g c =
+    let w = g.S.SlotWords in
+    let here = found_of w.number c.self.inside.segments.items c.args.handle.place.segment c.in-Some.found
+    c.index_mut-segment.result.now (rw (← c.self.view_is) at c.in-Some.ensures.some)
+    c.index_mut-segment.ensures.value in
+    lets_look w.number w.shows w.allows c.self.inside.segments.items c.args.handle.place c.in-Some.found
+    c.index_mut-segment.result.now here (rw (← c.self.view_is) at c.requires.allowed)
 
 pub invariant_of-self : goal.invariant_of-self
 invariant_of-self g c =

@@ -1,5 +1,7 @@
 use Rattle.std.proofs.Common.{rules, arith, refl}
-use Rattle.hg_run_table.proofs.AllowedAnswers.{parts_answering}
+use Rattle.hg_table.specs.Steps.{part_from}
+use Rattle.hg_run_table.proofs.Allowed.{exchange_is}
+use Rattle.hg_run_table.proofs.AllowedAnswers.{exchanges_answering}
 use Rattle.hg_run_table.proofs.table.RunTable.part_asked.Goals as goal
 
 pub compare_exchange-requires : goal.compare_exchange-requires
@@ -9,7 +11,7 @@ compare_exchange-requires g c =
       search rules,
       omega (arith, c.requires.place),
       rw at
-          (parts_answering _ _ _ _ _ c.requires.place g.P.StepsBy.by _ c.requires.may c.requires.answers),
+          (exchanges_answering _ _ _ _ _ c.requires.place part_from exchange_is g.P.StepsBy.by _ c.requires.may c.requires.answers),
     )
 
 pub returns-clause-shown : goal.returns-clause-shown

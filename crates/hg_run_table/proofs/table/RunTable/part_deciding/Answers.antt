@@ -1,5 +1,6 @@
 use Rattle.std.proofs.Common.{rules, arith}
-use Rattle.hg_run_table.proofs.Allowed.{parts}
+use Rattle.hg_table.specs.Steps.{part_from}
+use Rattle.hg_run_table.proofs.Allowed.{exchange_is, exchanges}
 use Rattle.hg_run_table.proofs.table.RunTable.part_deciding.Goals as goal
 
 pub compare_exchange-requires : goal.compare_exchange-requires
@@ -9,5 +10,5 @@ compare_exchange-requires g c =
       search rules,
       omega (arith, c.requires.place),
       rw at
-          (parts _ _ _ _ _ (omega (arith, c.requires.place)) _ g.D.Decision.made g.D.Decision.change c.requires.roles g.P.StepsBy.by _ c.requires.may c.requires.decides),
+          (exchanges _ _ _ _ _ (omega (arith, c.requires.place)) _ g.D.Decision.made g.D.Decision.change c.requires.roles part_from exchange_is g.P.StepsBy.by _ c.requires.may c.requires.decides),
     )

@@ -1,6 +1,6 @@
 use Rattle.std.proofs.Common.{◌≡◌, ap, arith}
 use Rattle.hg_segment.proofs.KeptBlocks.{class_read}
-use Rattle.hg_segment.proofs.WentOut.{small, vacant, low, fits, outward}
+use Rattle.hg_segment.proofs.WentOut.{small, vacant, low, fits, pops_shown, outward}
 use Rattle.hg_segment.proofs.segment.Segment.open_in.Goals as goal
 
 pub invariant_of-place : goal.invariant_of-place
@@ -20,6 +20,15 @@ open-handle-requires-clause-unworn g c = omega (
       (class_read _ c.args.page c.in-Some.class c.get.result c.get.ensures c.in-Some.is)
       c.index_mut-lists.ensures.value c.in-Some-pop_refilled.ensures.linked c.in-Some-pop_refilled.ensures.some c.in-Some-pop_refilled.ensures.others c.in-Some-pop_refilled.ensures.shape,
 )
+
+pub open-handle-requires-clause-allowed : goal.open-handle-requires-clause-allowed
+open-handle-requires-clause-allowed g c = λ word shown. (rw (← c.self.view_is) at c.requires.allowed) c.in-Some-pop_refilled.index word _
+    (small _ _ _ _ _ _ _ _ _ _ _ _ c.self.invariant c.requires.page (g.met.S.SlotWords.sized c.self.inside.slots)
+    (class_read _ c.args.page c.in-Some.class c.get.result c.get.ensures c.in-Some.is)
+    c.index_mut-lists.ensures.value c.in-Some-pop_refilled.ensures.linked c.in-Some-pop_refilled.ensures.some c.in-Some-pop_refilled.ensures.others c.in-Some-pop_refilled.ensures.shape)
+    (pops_shown _ _ _ _ _ _ _ _ _ _ _ _ c.self.invariant c.requires.page (g.met.S.SlotWords.sized c.self.inside.slots)
+    (class_read _ c.args.page c.in-Some.class c.get.result c.get.ensures c.in-Some.is)
+    c.index_mut-lists.ensures.value c.in-Some-pop_refilled.ensures.linked c.in-Some-pop_refilled.ensures.some c.in-Some-pop_refilled.ensures.others c.in-Some-pop_refilled.ensures.shape) shown
 
 pub zero-requires : goal.zero-requires
 zero-requires g c = omega (

@@ -2,14 +2,14 @@ use Rattle.std.proofs.Common.{rules, arith, ◌≡◌, ◌+◌, ap, length}
 use Rattle.hg_place.specs.declared.geometry.TheConstants.{SEGMENT_PLACES}
 use Rattle.hg_table.specs.View.{part_of}
 use Rattle.hg_table.proofs.Allowed.{meetings}
-use Rattle.hg_table.proofs.Cuts.{joins_as}
+use Rattle.hg_table.proofs.ManyParts.{joins_all}
 use Rattle.hg_table.proofs.Meeting.{were_apart}
 use Rattle.hg_table.proofs.segment.UnnamedSegment.apart.Goals as goal
 
 pub join_seat-requires : goal.join_seat-requires
 join_seat-requires c =
     let wide : c.deref.result.now.shared.table_id.words ≡ c.deref.result.now.shared.key + 1 = search rules in
-    (search rules, search rules, search rules, omega arith, joins_as _ _ _ _ _ c.args.self.one c.args.other.one)
+    (search rules, search rules, search rules, omega arith, joins_all _ _ _ _ _)
 
 pub load-requires : goal.load-requires
 load-requires c =

@@ -1,6 +1,6 @@
 use Rattle.std.proofs.Common.{rules, arith, ◌+◌, ◌≡◌, ◌∷◌, [], ap}
 use Rattle.hg_table.proofs.Allowed.{meetings}
-use Rattle.hg_table.proofs.Cuts.{cuts, joins_as}
+use Rattle.hg_table.proofs.ManyParts.{cuts, joins_all}
 use Rattle.hg_table.specs.Steps.{second_part}
 use Rattle.hg_table.proofs.Told.{out_of}
 use Rattle.hg_table.proofs.Meeting.{after_is, they_met, met_of}
@@ -10,7 +10,7 @@ pub join_seat-requires : goal.join_seat-requires
 join_seat-requires c =
     let is : c.args.other.now.badge.views ≡ c.into_seat-theirs.result.me.0 ∷ [] = search rules in
     let wide : c.deref.result.now.shared.table_id.words ≡ c.deref.result.now.shared.key + 1 = search rules in
-    (search rules, search rules, search rules, omega arith, joins_as _ _ _ _ _ c.args.self.now.one (out_of _ _ c.args.other.now.one is).0)
+    (search rules, search rules, search rules, omega arith, joins_all _ _ _ _ _)
 
 pub load-found-requires : goal.load-found-requires
 load-found-requires c = (search rules, search rules, meetings _ _ _ _ _ (search rules))

@@ -1,7 +1,7 @@
 use Rattle.std.proofs.Common.{rules, arith, ◌+◌, ◌≡◌, ◌∷◌, [], ap}
 use Rattle.hg_table.specs.Steps.{second_part}
 use Rattle.hg_table.proofs.Allowed.{meetings}
-use Rattle.hg_table.proofs.Cuts.{cuts, joins_as}
+use Rattle.hg_table.proofs.ManyParts.{cuts, joins_all}
 use Rattle.hg_table.proofs.Told.{out_of}
 use Rattle.hg_table.proofs.Meeting.{after_is, both_met_of}
 use Rattle.hg_table.proofs.worker.UnnamedWorker.meet.Goals as goal
@@ -11,7 +11,7 @@ join_seat-requires c =
     let is : c.args.self.now.badge.views ≡ c.into_seat-seat.result.me.0 ∷ [] = search rules in
     let other_is : c.args.other.now.badge.views ≡ c.into_seat-theirs.result.me.0 ∷ [] = search rules in
     let wide : c.deref.result.now.shared.table_id.words ≡ c.deref.result.now.shared.key + 1 = search rules in
-    (search rules, search rules, search rules, omega arith, joins_as _ _ _ _ _ (out_of _ _ c.args.self.now.one is).0 (out_of _ _ c.args.other.now.one other_is).0)
+    (search rules, search rules, search rules, omega arith, joins_all _ _ _ _ _)
 
 pub load-found-requires : goal.load-found-requires
 load-found-requires c = (search rules, search rules, meetings _ _ _ _ _ (search rules))
