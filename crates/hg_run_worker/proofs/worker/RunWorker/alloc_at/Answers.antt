@@ -1,0 +1,194 @@
+use Rattle.std.specs.Prelude.{option_map}
+use Rattle.std.proofs.Common.{◌≡◌, ℕ, ◌∙◌, List, Option, Some, None, Result, Ok, Err, IfOk, IfErr, refl, sym, ap, subst, arith}
+use Rattle.std.proofs.lemmas.Bool.{eqb-true}
+use Rattle.hg_place.specs.declared.Handle.{Handle}
+use Rattle.hg_place.specs.Lives.{live_word}
+use Rattle.hg_place.specs.Places.{number_of, segment_of}
+use Rattle.hg_machine.specs.declared.Answer.TheVariants as answer
+use Rattle.hg_machine.specs.declared.Event.TheVariants as event
+use Rattle.hg_machine.specs.Policy.{Policy}
+use Rattle.hg_machine.specs.Request.{size_of}
+use Rattle.hg_heap.specs.Allotted.{IsAllotted}
+use Rattle.hg_heap.specs.Allowed.{MayAlloc}
+use Rattle.hg_heap.specs.Answers.{refused_answer}
+use Rattle.hg_heap.specs.Choice.{chosen_place}
+use Rattle.hg_heap.specs.Policies.{AreOf}
+use Rattle.hg_heap.specs.Ties.{HeapTies, shown_at}
+use Rattle.hg_heap.specs.declared.refused.Refused.{Refused}
+use Rattle.hg_heap.proofs.PolicyKept.{kinds_keep_policy}
+use Rattle.hg_agreement.specs.Agreement.{Ties}
+use Rattle.hg_agreement.specs.Views.{Shown, View}
+use Rattle.hg_run_worker.specs.AtWork.{number_in, records_in, shows_in, steps_in}
+use Rattle.hg_run_worker.proofs.AllocEnds.{Ended, end_held, end_kinds, end_log, end_loan, end_refused, end_same, end_work}
+use Rattle.hg_run_worker.proofs.ChosenStays.{chosen_stays}
+use Rattle.hg_run_worker.proofs.Course.{kinds_stay, ready_again, rest_twice, view_again}
+use Rattle.hg_run_worker.proofs.Lettable.{allows_in, may_alloc}
+use Rattle.hg_run_worker.proofs.worker.RunWorker.alloc_at.Goals as goal
+use Rattle.hg_run_worker.proofs.worker.RunWorker.alloc_at.Goals.{After-settled, After-alloc-given}
+use Rattle.hg_run_worker.proofs.worker.RunWorker.alloc_at.Given.{Over}
+
+-- the segments are as the policy has them, and the same place is chosen
+of_lent : (g : Over) (c : After-settled g)
+    → AreOf number_in c.args.self.now.policy c.lend.new.self.heap.segments
+of_lent g c =
+    let l = c.lend.ensures.lent in
+    kinds_keep_policy number_in c.args.self.now.policy c.args.self.now.heap.segments
+    c.lend.new.self.heap.segments (kinds_stay l.once l.lent) c.requires.ready.of
+
+chosen_in : (g : Over) (c : After-settled g)
+    → option_map segment_of
+    (chosen_place number_in records_in c.lend.new.self.heap c.args.arena (size_of c.args.bytes))
+    ≡ Some c.args.segment
+chosen_in g c =
+    let l = c.lend.ensures.lent in
+    ap (option_map segment_of)
+    (ap
+    (λ (q : List (List ℕ)).
+    chosen_place number_in records_in (record { segments = c.lend.new.self.heap.segments; queues = q })
+    c.args.arena (size_of c.args.bytes))
+    c.lend.ensures.queues
+    ∙ chosen_stays l.once l.lent c.lend.ensures.lists c.args.self.now.heap.queues c.args.arena
+    (size_of c.args.bytes))
+    ∙ c.requires.chosen
+
+pub alloc-given-requires-clause-policy : goal.alloc-given-requires-clause-policy
+alloc-given-requires-clause-policy g c =
+    subst (λ (p : Policy). AreOf number_in p c.lend.new.self.heap.segments)
+    (sym c.lend.ensures.rest.policy)
+    (of_lent g (goal.at.alloc-given-requires-clause-policy g c).After-settled)
+
+pub alloc-given-requires-clause-allowed : goal.alloc-given-requires-clause-allowed
+alloc-given-requires-clause-allowed g c =
+    let at = (goal.at.alloc-given-requires-clause-allowed g c).After-settled in
+    subst
+    (λ (p : Policy).
+    MayAlloc shows_in allows_in number_in records_in p c.args.actor.0 c.args.arena c.args.bytes
+    c.lend.new.self.heap)
+    (sym c.lend.ensures.rest.policy)
+    (may_alloc c.lend.ensures.lent c.requires.asked c.args.self.now.below (of_lent g at)
+    c.settled.ensures.once c.settled.ensures.each c.settled.ensures.queued c.requires.sized
+    (chosen_in g at))
+
+-- it ends so
+ended : (g : Over) (c : After-alloc-given g)
+    → option_map segment_of
+    (chosen_place number_in records_in c.lend.new.self.heap c.args.arena (size_of c.args.bytes))
+    ≡ Some c.args.segment
+    → Ended c.lend.ensures.lent c.requires.asked c.args.self.now.below c.alloc-given.new.self.segments
+    c.alloc-given.result
+ended g c its =
+    go c.alloc-given.result c.alloc-given.ensures.given c.alloc-given.ensures.chosen
+    c.alloc-given.ensures.refused
+  where
+    go : (r : Result Handle Refused)
+        → IfOk r
+        (λ handle.
+        (given : IsAllotted number_in records_in shows_in steps_in (size_of c.args.bytes) c.args.actor.0
+        handle c.lend.new.self.heap.segments c.alloc-given.new.self.segments)
+        × HeapTies number_in records_in c.lend.new.self.policy (shown_at handle.place given.word)
+        (shown_at handle.place (live_word handle.generation c.args.actor.0))
+        (event.Alloc c.args.actor c.args.arena c.args.bytes) (answer.Block handle)
+        c.lend.new.self.heap.segments c.alloc-given.new.self.segments)
+        → IfOk r
+        (λ handle.
+        chosen_place number_in records_in c.lend.new.self.heap c.args.arena (size_of c.args.bytes)
+        ≡ Some (number_of handle.place))
+        → IfErr r
+        (λ refused.
+        (c.alloc-given.new.self ≡ c.lend.new.self.heap)
+        × ((shown : Option Shown)
+        → HeapTies number_in records_in c.lend.new.self.policy shown shown
+        (event.Alloc c.args.actor c.args.arena c.args.bytes) (refused_answer refused)
+        c.lend.new.self.heap.segments c.lend.new.self.heap.segments))
+        → Ended c.lend.ensures.lent c.requires.asked c.args.self.now.below
+        c.alloc-given.new.self.segments r
+    go (Ok handle) given chosen refused = (
+      given.0.word,
+      record {
+        inside =
+            (let both : Some (segment_of (number_of handle.place)) ≡ Some c.args.segment =
+            sym (ap (option_map segment_of) chosen) ∙ its in
+            let same : segment_of (number_of handle.place) ≡ c.args.segment = cc in
+            let a = handle.place.page_below in
+            let b = handle.place.index_below in
+            omega (arith, same, a, b));
+        stepped = given.0.stepped;
+        ties =
+            subst
+            (λ (p : Policy).
+            HeapTies number_in records_in p (shown_at handle.place given.0.word)
+            (shown_at handle.place (live_word handle.generation c.args.actor.0))
+            (event.Alloc c.args.actor c.args.arena c.args.bytes) (answer.Block handle)
+            c.lend.new.self.heap.segments c.alloc-given.new.self.segments)
+            c.lend.ensures.rest.policy given.1;
+        alone = λ other t. sym (eqb-true (number_of handle.place) other t);
+      },
+    )
+    go (Err f) given chosen refused = (
+      ap (λ h. h.segments) refused.0,
+      subst
+          (λ (p : Policy).
+          HeapTies number_in records_in p None None
+          (event.Alloc c.args.actor c.args.arena c.args.bytes) (refused_answer f)
+          c.lend.new.self.heap.segments c.lend.new.self.heap.segments)
+          c.lend.ensures.rest.policy (refused.1 None),
+    )
+
+pub take_back-requires-clause-held : goal.take_back-requires-clause-held
+take_back-requires-clause-held g c =
+    end_held c.lend.ensures.lent c.requires.asked c.args.self.now.below c.alloc-given.new.self.segments
+    c.alloc-given.result (ended g (goal.at.take_back-requires-clause-held g c).After-alloc-given (chosen_in g (goal.at.take_back-requires-clause-held g c).After-settled))
+
+pub take_back-requires-clause-loan : goal.take_back-requires-clause-loan
+take_back-requires-clause-loan g c =
+    end_loan c.lend.ensures.lent c.requires.asked c.args.self.now.below c.alloc-given.new.self.segments
+    c.alloc-given.result (ended g (goal.at.take_back-requires-clause-loan g c).After-alloc-given (chosen_in g (goal.at.take_back-requires-clause-loan g c).After-settled))
+
+pub returns-clause-ready : goal.returns-clause-ready
+returns-clause-ready g c =
+    let e = ended g (goal.at.returns-clause-ready g c).After-alloc-given (chosen_in g (goal.at.returns-clause-ready g c).After-settled) in
+    let l = c.lend.ensures.lent in
+    let zs = c.alloc-given.new.self.segments in
+    ready_again c.args.self.now c.take_back.new.self c.requires.ready
+    (rest_twice c.args.self.now c.lend.new.self c.take_back.new.self c.lend.ensures.rest
+    (record {
+      table = c.take_back.ensures.rest.table;
+      policy = c.take_back.ensures.rest.policy;
+      number = c.take_back.ensures.rest.number;
+      hand = c.take_back.ensures.rest.hand;
+    }))
+    (end_kinds l c.requires.asked c.args.self.now.below zs c.take_back.ensures.back c.alloc-given.result e)
+    (end_work l c.requires.asked c.args.self.now.below zs c.take_back.ensures.back c.alloc-given.result e)
+
+pub returns-clause-log : goal.returns-clause-log
+returns-clause-log g c =
+    end_log c.lend.ensures.lent c.requires.asked c.args.self.now.below c.alloc-given.new.self.segments
+    c.take_back.ensures.back c.alloc-given.result
+    (ended g (goal.at.returns-clause-log g c).After-alloc-given (chosen_in g (goal.at.returns-clause-log g c).After-settled))
+
+pub returns-clause-same_log : goal.returns-clause-same_log
+returns-clause-same_log g c =
+    end_same c.lend.ensures.lent c.requires.asked c.args.self.now.below c.alloc-given.new.self.segments
+    c.take_back.ensures.back c.alloc-given.result
+    (ended g (goal.at.returns-clause-same_log g c).After-alloc-given (chosen_in g (goal.at.returns-clause-same_log g c).After-settled))
+
+pub returns-clause-refused : goal.returns-clause-refused
+returns-clause-refused g c =
+    let at = goal.at.returns-clause-refused g c in
+    subst
+    (λ (v : View).
+    IfErr c.alloc-given.result
+    (λ refused.
+    Ties v None (event.Alloc c.args.actor c.args.arena c.args.bytes) (refused_answer refused) v None))
+    (sym
+    (view_again c.args.self.now c.take_back.new.self
+    (rest_twice c.args.self.now c.lend.new.self c.take_back.new.self c.lend.ensures.rest
+    (record {
+      table = c.take_back.ensures.rest.table;
+      policy = c.take_back.ensures.rest.policy;
+      number = c.take_back.ensures.rest.number;
+      hand = c.take_back.ensures.rest.hand;
+    }))))
+    (end_refused c.lend.ensures.lent c.requires.asked c.args.self.now.below
+    c.alloc-given.new.self.segments c.take_back.ensures.back c.alloc-given.result
+    (ended g at.After-alloc-given (chosen_in g at.After-settled)))

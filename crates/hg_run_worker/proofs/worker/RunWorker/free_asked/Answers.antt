@@ -1,0 +1,79 @@
+use Rattle.std.proofs.Common.{◌≡◌, ℕ, ◌∙◌, ◌-◌, refl, subst, sym, List, Ok, Err, Result, OnOk, IfErr, ap}
+use Rattle.std.proofs.lemmas.Bool.{eqb-true}
+use Rattle.hg_place.specs.Places.{number_of}
+use Rattle.hg_machine.specs.Policy.{Policy}
+use Rattle.hg_machine.specs.declared.Event.TheVariants as event
+use Rattle.hg_machine.specs.declared.Answer.TheVariants as answer
+use Rattle.hg_machine.specs.declared.Answer.{Answer}
+use Rattle.hg_heap.specs.Answers.{done_answer}
+use Rattle.hg_heap.specs.Ties.{HeapTies, shown_at}
+use Rattle.hg_heap.specs.Allowed.{MayFree}
+use Rattle.hg_run_worker.specs.AtWork.{number_in, records_in, shows_in}
+use Rattle.hg_run_worker.specs.Lent.{IsTiedStep}
+use Rattle.hg_run_worker.proofs.Course.{at_work, course_kinds, has_loan, held_still, held_there, logged, ready_again, rest_twice}
+use Rattle.hg_run_worker.proofs.Lettable.{allows_in, may_free}
+use Rattle.hg_run_worker.proofs.Ends.{free_ends}
+use Rattle.hg_run_worker.proofs.worker.RunWorker.free_asked.Goals as goal
+use Rattle.hg_run_worker.proofs.worker.RunWorker.free_asked.Goals.{After-free_here-freed}
+use Rattle.hg_run_worker.proofs.worker.RunWorker.free_asked.Given.{Over}
+
+pub free_here-freed-requires : goal.free_here-freed-requires
+free_here-freed-requires g c = record {
+  allowed =
+      subst
+      (λ (p : Policy).
+      MayFree shows_in allows_in number_in p c.args.actor.0 c.args.handle c.lend.new.self.heap.segments)
+      (sym c.lend.ensures.rest.policy)
+      (may_free c.lend.ensures.lent c.requires.asked c.args.self.now.below);
+}
+
+-- the step at which the Free is tied
+stepped : (g : Over) (c : After-free_here-freed g) → (word : ℕ) × (left : ℕ)
+    × IsTiedStep c.args.self.now.policy c.args.handle.place.segment c.args.handle.place word left
+    (event.Free c.args.actor c.args.handle) (done_answer c.free_here-freed.result)
+    c.lend.new.self.heap.segments c.free_here-freed.new.self.segments
+stepped g c =
+    let l = c.lend.ensures.lent in
+    let s =
+    free_ends c.lend.new.self.policy c.args.actor c.args.handle c.lend.new.self.heap.segments
+    c.free_here-freed.new.self.segments c.free_here-freed.result c.free_here-freed.ensures.freed
+    (c.free_here-freed.ensures.denied (held_there l.once l.lent)) in (
+      s.0,
+      s.1,
+      subst
+          (λ (p : Policy).
+          IsTiedStep p c.args.handle.place.segment c.args.handle.place s.0 s.1
+          (event.Free c.args.actor c.args.handle) (done_answer c.free_here-freed.result)
+          c.lend.new.self.heap.segments c.free_here-freed.new.self.segments)
+          c.lend.ensures.rest.policy s.2,
+    )
+
+pub take_back-requires-clause-held : goal.take_back-requires-clause-held
+take_back-requires-clause-held g c =
+    let s = stepped g (goal.at.take_back-requires-clause-held g c).After-free_here-freed in
+    held_still c.lend.ensures.lent c.requires.asked s.2 c.args.self.now.below
+
+pub take_back-requires-clause-loan : goal.take_back-requires-clause-loan
+take_back-requires-clause-loan g c =
+    let s = stepped g (goal.at.take_back-requires-clause-loan g c).After-free_here-freed in
+    has_loan c.lend.ensures.lent c.requires.asked s.2 c.args.self.now.below
+
+pub returns-clause-ready : goal.returns-clause-ready
+returns-clause-ready g c =
+    let s = stepped g (goal.at.returns-clause-ready g c).After-free_here-freed in
+    let l = c.lend.ensures.lent in
+    ready_again c.args.self.now c.take_back.new.self c.requires.ready
+    (rest_twice c.args.self.now c.lend.new.self c.take_back.new.self c.lend.ensures.rest
+    (record {
+      table = c.take_back.ensures.rest.table;
+      policy = c.take_back.ensures.rest.policy;
+      number = c.take_back.ensures.rest.number;
+      hand = c.take_back.ensures.rest.hand;
+    }))
+    (course_kinds l c.requires.asked s.2 c.args.self.now.below c.take_back.ensures.back)
+    (at_work l c.requires.asked s.2 c.args.self.now.below c.take_back.ensures.back)
+
+pub returns-clause-log : goal.returns-clause-log
+returns-clause-log g c =
+    let s = stepped g (goal.at.returns-clause-log g c).After-free_here-freed in
+    logged c.lend.ensures.lent c.requires.asked s.2 c.args.self.now.below c.take_back.ensures.back

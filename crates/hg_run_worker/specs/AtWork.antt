@@ -1,0 +1,88 @@
+-- A worker over a table that keeps one run, while it makes no call: what it has, by its part of the run and
+-- its heap.
+use Rattle.std.specs.Prelude.{◌≡◌, ℕ, List, [], ◌∷◌, Option, Some, None, slice_get, option_map, map}
+use Rattle.std.specs.Arc.{arc_value}
+use Rattle.std.specs.Box.{boxed_slice_items}
+use Rattle.atomic_table.specs.Seated.{TableId}
+use Rattle.hg_place.specs.declared.Handle.{Handle}
+use Rattle.hg_place.specs.declared.standing.Standing.{Standing}
+use Rattle.hg_place.specs.Places.{number_of}
+use Rattle.hg_machine.specs.Policy.{Policy}
+use Rattle.hg_segment.specs.Kept.{Kept}
+use Rattle.hg_agreement.specs.Views.{View}
+use Rattle.hg_heap.specs.Policies.{AreOf}
+use Rattle.hg_heap.specs.Ties.{heap_view}
+use Rattle.hg_roles.specs.Roles.{of_segment}
+use Rattle.hg_run_table.specs.declared.segment.RunSegment.{RunSegment}
+use Rattle.hg_run_table.specs.declared.table.RunSeat.{RunSeat}
+use Rattle.hg_run_table.specs.Calls.{IsWorkers}
+use Rattle.hg_run_table.specs.Seated.{HaveRoles}
+use Rattle.hg_run_table.specs.Segments.{StepsIn}
+use Rattle.hg_table.specs.Seats.{word_at}
+use Rattle.hg_table.specs.Told.{IsShown}
+use Rattle.hg_table.specs.View.{part_of}
+use Rattle.hg_run_worker.specs.declared.worker.RunWorker.{RunWorker}
+
+-- the number of a segment's seat, and its records
+abbrev pub number_in : RunSegment → ℕ
+number_in seat = seat.segment
+
+abbrev pub records_in : RunSegment → List Standing
+records_in seat = boxed_slice_items seat.records
+
+-- the words that its steps may find, and its steps
+abbrev pub shows_in : RunSegment → ℕ → ℕ → Type 0
+shows_in s at word = IsShown (word_at s.segment at) word (part_of s.seat.seat.me.0.lives)
+
+abbrev pub steps_in : RunSegment → ℕ → ℕ → ℕ → RunSegment → Type 0
+steps_in s at found left t = StepsIn s.segment at found left s.seat t.seat
+
+-- the numbers of segments
+abbrev pub numbers_in : List (Kept RunSegment) → List ℕ
+numbers_in = map (λ k. number_in k.slots)
+
+-- the place in hand, and the generation of the life in hand
+abbrev pub hand_place : Option Handle → Option ℕ
+hand_place hand = option_map (λ handle. number_of handle.place) hand
+
+abbrev pub hand_generation : Option Handle → ℕ
+hand_generation None = 0
+hand_generation (Some handle) = handle.generation
+
+-- what the worker of a number has
+abbrev pub worker_view : Policy → ℕ → Option Handle → List (Kept RunSegment) → View
+worker_view policy number hand segments =
+    heap_view number_in records_in policy number (hand_place hand) (hand_generation hand) segments
+
+abbrev pub view_in : RunWorker → View
+view_in worker = worker_view worker.policy worker.number worker.hand worker.heap.segments
+
+-- the seat of a segment is of the table, and has its part of the run alone
+pub record IsSeated (id : TableId) (one : RunSegment) : Type 0 where
+  pub same : one.seat.seat.table_id ≡ id
+  pub part : HaveRoles one.seat.seat.me.0.run (of_segment one.segment ∷ [])
+
+-- The worker's part of the run is in a seat that has nothing of words and lives, and has what the worker has
+-- and has logged; the seat of each segment that it holds has its part alone
+pub record IsAtWork (id : TableId) (policy : Policy) (number : ℕ) (hand : Option Handle)
+    (segments : List (Kept RunSegment)) (call : RunSeat) : Type 0 where
+  pub same : call.seat.table_id ≡ id
+  pub bare : call.seat.me.0.lives ≡ []
+  pub worker : IsWorkers call (worker_view policy number hand segments)
+  pub seated :
+      (at : ℕ) (k : Kept RunSegment) → slice_get segments at ≡ Some k → IsSeated id k.slots
+
+-- A worker that makes no call is at work, its segments are as the policy has them, and the table is of its policy
+pub record IsReady (worker : RunWorker) : Type 0 where
+  pub work :
+      IsAtWork (arc_value worker.table).table.shared.table_id worker.policy worker.number worker.hand
+      worker.heap.segments worker.call
+  pub of : AreOf number_in worker.policy worker.heap.segments
+  pub key : (arc_value worker.table).table.shared.key ≡ worker.policy
+
+-- table, policy, number and hand are as they were
+pub record KeepsRest (old new : RunWorker) : Type 0 where
+  pub table : arc_value new.table ≡ arc_value old.table
+  pub policy : new.policy ≡ old.policy
+  pub number : new.number ≡ old.number
+  pub hand : new.hand ≡ old.hand

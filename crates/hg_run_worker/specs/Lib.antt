@@ -1,0 +1,2 @@
+pub mod AtWork
+pub mod Lent
