@@ -1,2 +1,3 @@
 pub mod AtWork
 pub mod Lent
+pub mod Pools

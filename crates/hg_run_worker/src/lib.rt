@@ -2,9 +2,13 @@
 #![tactic(auto)]
 
 mod allocating;
+mod collecting;
 mod freeing;
 mod lending;
+mod pool;
 mod reading;
+mod refilling;
 mod worker;
 
+pub use pool::RunPool;
 pub use worker::RunWorker;
