@@ -436,8 +436,8 @@ module _ {id : TableId} {policy : Policy} {number : ℕ} {hand : Option Handle}
       pub back_keeps : KeepsAll number_in records_in zs ws
       back_keeps = all_stays once_stepped given
 
--- who keeps the rest is ready again where it is at work by what it had, and its segments are of the kinds that
--- they were
+-- Who keeps the rest is ready again where it is at work by what it had, and its segments are as the policy has
+-- them, or of the kinds that they were
 pub rest_twice : (old mid new : RunWorker) → KeepsRest old mid → KeepsRest mid new → KeepsRest old new
 rest_twice old mid new one two = record {
   table = two.table ∙ one.table;
@@ -446,11 +446,11 @@ rest_twice old mid new one two = record {
   hand = two.hand ∙ one.hand;
 }
 
-pub ready_again : (old new : RunWorker) → IsReady old → KeepsRest old new
-    → kinds number_in new.heap.segments ≡ kinds number_in old.heap.segments
+pub ready_from : (old new : RunWorker) → IsReady old → KeepsRest old new
+    → AreOf number_in old.policy new.heap.segments
     → IsAtWork (arc_value old.table).table.shared.table_id old.policy old.number old.hand
     new.heap.segments new.call → IsReady new
-ready_again old new ready rest same work = record {
+ready_from old new ready rest of work = record {
   work =
       subst
       (λ (t : RunTable).
@@ -471,11 +471,17 @@ ready_again old new ready rest same work = record {
       IsAtWork (arc_value old.table).table.shared.table_id old.policy old.number h new.heap.segments
       new.call)
       (sym rest.hand) work)));
-  of =
-      subst (λ (p : Policy). AreOf number_in p new.heap.segments) (sym rest.policy)
-      (kinds_keep_policy number_in old.policy old.heap.segments new.heap.segments same ready.of);
+  of = subst (λ (p : Policy). AreOf number_in p new.heap.segments) (sym rest.policy) of;
   key = ap (λ (t : RunTable). t.table.shared.key) rest.table ∙ ready.key ∙ sym rest.policy;
 }
+
+pub ready_again : (old new : RunWorker) → IsReady old → KeepsRest old new
+    → kinds number_in new.heap.segments ≡ kinds number_in old.heap.segments
+    → IsAtWork (arc_value old.table).table.shared.table_id old.policy old.number old.hand
+    new.heap.segments new.call → IsReady new
+ready_again old new ready rest same =
+    ready_from old new ready rest
+    (kinds_keep_policy number_in old.policy old.heap.segments new.heap.segments same ready.of)
 
 -- and has what it had, by its segments
 pub view_again : (old new : RunWorker) → KeepsRest old new

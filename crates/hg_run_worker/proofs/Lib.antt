@@ -4,3 +4,7 @@ pub mod Ends
 pub mod Refusals
 pub mod ChosenStays
 pub mod AllocEnds
+pub mod DecidedLike
+pub mod PoolParts
+pub mod NextTaken
+pub mod Refills

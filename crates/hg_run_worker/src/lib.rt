@@ -2,6 +2,7 @@
 #![tactic(auto)]
 
 mod allocating;
+mod beginning;
 mod collecting;
 mod freeing;
 mod lending;

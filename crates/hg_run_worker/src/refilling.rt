@@ -1,6 +1,6 @@
 //! A worker takes a segment from the pool.
 
-ghost use Rattle.std.specs.Prelude.{◌≡◌, true, false, [], ◌∷◌, ◌++◌, Some, IfSome, IfNone, option_map, ⊥};
+ghost use Rattle.std.specs.Prelude.{◌≡◌, true, false, [], ◌∷◌, ◌++◌, Some, IfSome, IfNone, option_map};
 ghost use Rattle.std.specs.Arc.{arc_value};
 ghost use Rattle.hg_machine.specs.declared.Event.TheVariants as Event;
 ghost use Rattle.hg_heap.specs.Held.{is_held};
@@ -71,6 +71,9 @@ impl RunWorker {
         ensures left { pool.new.pool ≡ left_pool (next_in pool.old.pool arena) pool.old.pool }
         ensures rest { KeepsRest self.old self.new }
     {
+        // these hand out what a pool keeps, and that a policy is sound
+        let _there = pool.pool.has(0);
+        let _workers = self.policy.workers();
         let Some(one) = pool.pool.next_of(arena) else {
             self.call_with::<W, P>(pool);
             return None;
