@@ -8,3 +8,4 @@ pub mod DecidedLike
 pub mod PoolParts
 pub mod NextTaken
 pub mod Refills
+pub mod NewPools

@@ -1,3 +1,4 @@
 pub mod AtWork
 pub mod Lent
+pub mod NewPools
 pub mod Pools

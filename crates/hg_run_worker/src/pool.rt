@@ -1,13 +1,14 @@
 //! The segments that no worker holds.
 
-ghost use Rattle.std.specs.Prelude.{◌≡◌, ℕ, [], length, slice_get, Some, IfOk};
+ghost use Rattle.std.specs.Prelude.{◌≡◌, ◌<◌, ℕ, [], length, slice_get, Some, IfOk};
 ghost use Rattle.std.specs.Arc.{arc_value};
 ghost use Rattle.hg_roles.specs.FirstParts.{full};
 ghost use Rattle.hg_roles.specs.Roles.{of_pool};
 ghost use Rattle.hg_run_table.specs.NewSeats.{IsNewOther, IsNewSegment};
+ghost use Rattle.hg_run_worker.specs.AtWork.{number_in};
+ghost use Rattle.hg_run_worker.specs.NewPools.{IsUnused};
 ghost use Rattle.hg_run_worker.specs.Pools.{IsPoolOf};
 
-use hg_place::SEGMENT_PLACES;
 use hg_policy::Policy;
 use hg_pool::Pool;
 use hg_run_table::{RunSeat, RunSegment, RunTable};
@@ -43,8 +44,9 @@ impl RunPool {
     {
         let mut seats = seats;
         let mut pool = Pool::new(alloc)?;
+        let mut number = policy.segments();
         while let Some(seat) = seats.pop() {
-            let number = seats.len() as u8;
+            number -= 1;
             pool.put_fresh(fresh_segment(alloc, table, policy, seat, number)?);
         }
         drop(seats);
@@ -59,10 +61,19 @@ fn fresh_segment(
     policy: &Policy,
     seat: RunSeat,
     number: u8,
-) -> Result<Segment<RunSegment>, AllocError> {
-    let slots = RunSegment::new(alloc, table, seat, number)?;
+) -> Result<Segment<RunSegment>, AllocError>
+    requires key { (arc_value table.now).table.shared.key ≡ policy.now }
+    requires there { number < length policy.now.segments }
+    requires new { IsNewSegment (arc_value table.now).table.shared.table_id number seat }
+    ensures number { IfOk result (λ one. number_in one.slots ≡ number) }
+    ensures seat { IfOk result (λ one. one.slots.seat ≡ seat) }
+    ensures unused { IfOk result
+        (IsUnused (arc_value table.now).table.shared.table_id policy.now) }
+{
     let Some(arena) = policy.arena_of(number) else {
         unreachable!()
     };
-    Segment::new(alloc, number, arena, policy.max_generation(), slots)
+    let greatest = policy.max_generation();
+    let slots = RunSegment::new(alloc, table, seat, number)?;
+    Segment::new(alloc, number, arena, greatest, slots)
 }
