@@ -8,4 +8,5 @@ pub mod DecidedLike
 pub mod PoolParts
 pub mod NextTaken
 pub mod Refills
+pub mod Collected
 pub mod NewPools

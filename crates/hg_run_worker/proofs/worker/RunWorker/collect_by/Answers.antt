@@ -1,0 +1,54 @@
+use Rattle.std.proofs.Common.{◌≡◌, ℕ, ◌<◌, List, None, refl, sym, ap, subst, ◌∙◌}
+use Rattle.std.specs.Arc.{arc_value}
+use Rattle.hg_machine.specs.declared.Answer.TheVariants as answer
+use Rattle.hg_machine.specs.declared.Event.TheVariants as event
+use Rattle.hg_machine.specs.Policy.{Policy}
+use Rattle.hg_segment.specs.Kept.{Kept}
+use Rattle.hg_heap.specs.Held.{Held, kinds}
+use Rattle.hg_run_table.specs.declared.segment.RunSegment.{RunSegment}
+use Rattle.hg_run_table.specs.Calls.{IsTiedAlone}
+use Rattle.hg_run_worker.specs.AtWork.{IsAtWork, hand_generation, hand_place, number_in, worker_view}
+use Rattle.hg_run_worker.proofs.Collected.{seated_still}
+use Rattle.hg_run_worker.proofs.Course.{ready_again}
+use Rattle.hg_run_worker.proofs.worker.RunWorker.collect_by.Goals as goal
+
+pub call_alone-requires-clause-tied : goal.call_alone-requires-clause-tied
+call_alone-requires-clause-tied g c =
+    let s = c.args.self.now in
+    let key = c.requires.ready.key in
+    let now = worker_view s.policy s.number s.hand c.collect-pages.new.self.segments in
+    subst (λ (T : Type 0). T)
+    (λ i.
+    IsTiedAlone (sym key i) (sym c.requires.before i)
+    ((ap (λ n. (event.Collect, answer.Pages n)) c.collect-pages.ensures.pages ∙ sym c.requires.call) i)
+    now)
+    (record {
+      own = record { worker = s.below; same = refl; own = refl };
+      none = λ other lt. refl;
+      ties =
+          c.collect-pages.ensures.ties s.policy None c.requires.ready.of s.number (hand_place s.hand)
+          (hand_generation s.hand) s.below;
+    })
+
+pub returns-clause-ready : goal.returns-clause-ready
+returns-clause-ready g c =
+    let s = c.args.self.now in
+    let e = c.call_alone.ensures in
+    let now : c.call_alone.new.self.heap.segments ≡ c.collect-pages.new.self.segments =
+    ap (λ (h : Held RunSegment). h.segments) e.heap in
+    ready_again s c.call_alone.new.self c.requires.ready
+    (record { table = e.rest.table; policy = e.rest.policy; number = e.rest.number; hand = e.rest.hand })
+    (ap (kinds number_in) now ∙ c.collect-pages.ensures.kinds)
+    (subst
+    (λ (xs : List (Kept RunSegment)).
+    IsAtWork (arc_value s.table).table.shared.table_id s.policy s.number s.hand xs
+    c.call_alone.new.self.call)
+    (sym now)
+    (record {
+      same = e.same ∙ c.requires.ready.work.same;
+      bare = e.lives ∙ c.requires.ready.work.bare;
+      worker = e.worker;
+      seated =
+          seated_still s.heap.segments c.collect-pages.new.self.segments
+          c.collect-pages.ensures.collected.rest c.requires.ready.work.seated;
+    }))
