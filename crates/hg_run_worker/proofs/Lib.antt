@@ -9,4 +9,5 @@ pub mod PoolParts
 pub mod NextTaken
 pub mod Refills
 pub mod Collected
+pub mod Abandons
 pub mod NewPools

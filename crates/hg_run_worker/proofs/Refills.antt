@@ -1,8 +1,10 @@
--- What a refill owes, and what the worker and the pool have behind it.
+-- What a refill owes, and what the worker and the pool have behind it, and behind an Abandon.
 use Rattle.std.specs.Prelude.{option_map}
 use Rattle.std.proofs.Common.{◌≡◌, ◌⊎◌, ℕ, ◌<◌, not, List, [], ◌∷◌, ◌++◌, length, get_or, Option, Some, None}
 use Rattle.std.proofs.Common.{Contains, IfSome, refl, sym, ap, subst, ◌∙◌, arith, inl, inr, slice_get, false}
-use Rattle.std.proofs.lemmas.List.Elements.{Contains-append_cases, filter-append}
+use Rattle.std.proofs.lemmas.List.Elements.{Contains-append_cases, Contains-append_left, Contains-append_right, filter-append}
+use Rattle.std.specs.Prelude.{IsPermutation}
+use Rattle.std.proofs.lemmas.List.Sorted.{Contains-permutation, IsPermutation-sym}
 use Rattle.std.proofs.lemmas.Option.{slice_get-get_or, slice_get_within, get_or_from_slice_get}
 use Rattle.atomic_table.specs.Seated.{TableId}
 use Rattle.hg_lists.specs.Repeats.{HasNoRepeats}
@@ -12,7 +14,7 @@ use Rattle.hg_machine.specs.Policy.{Policy, arena_of}
 use Rattle.hg_machine.specs.SoundPolicy.{IsSoundPolicy}
 use Rattle.hg_segment.specs.Kept.{Kept}
 use Rattle.hg_heap.specs.Held.{is_held}
-use Rattle.hg_heap.specs.Policies.{AreOf}
+use Rattle.hg_heap.specs.Policies.{AreOf, IsOf}
 use Rattle.hg_heap.proofs.Allotting.{found_first}
 use Rattle.hg_heap.proofs.Filtered.{contained_filter}
 use Rattle.hg_heap.proofs.Founds.{Contains-get, found_is}
@@ -25,13 +27,13 @@ use Rattle.hg_run_table.specs.JoinedCalls.{IsOthers, IsTiedTogether}
 use Rattle.hg_run_table.proofs.NamedSteps.{no_refill_tied, refill_tied}
 use Rattle.hg_run_worker.specs.AtWork.{IsAtWork, IsSeated, number_in, records_in, worker_view}
 use Rattle.hg_run_worker.specs.declared.pool.RunPool.{RunPool}
-use Rattle.hg_run_worker.specs.Pools.{IsPoolOf, left_pool, pool_part, pooled_in, refill_answer, with_taken}
+use Rattle.hg_run_worker.specs.Pools.{IsPoolOf, left_pool, pool_part, pooled_in, refill_answer, with_orphan, with_taken}
 use Rattle.hg_run_worker.proofs.DecidedLike.{tied_like}
 use Rattle.hg_run_worker.proofs.NextTaken.{inside, next_is, next_there}
 use Rattle.hg_run_worker.proofs.PoolParts.{left_like, taken_like}
 
 -- what stands somewhere is there
-at_place : {X : Type 0} (xs : List X) (x : X) (c : Contains xs x) → slice_get xs c.0 ≡ Some x
+pub at_place : {X : Type 0} (xs : List X) (x : X) (c : Contains xs x) → slice_get xs c.0 ≡ Some x
 at_place xs x c = slice_get-get_or xs c.0 x c.1 ∙ ap Some c.2
 
 -- a segment of the pool is the one of its number
@@ -157,3 +159,59 @@ pool_again policy o old new was left same bare part = record {
       (left_there o old.pool k
       (subst (λ (p : Pooled RunSegment). Contains (pooled_in p) k) left there));
 }
+
+-- what the pool has then is what it had, or the one that came
+pub put_there : (pool : Pooled RunSegment) (one k : Kept RunSegment)
+    → Contains (pooled_in (with_orphan (Some one) pool)) k → Contains (pooled_in pool) k ⊎ (one ≡ k)
+put_there pool one k c =
+    elim (Contains-append_cases (pool.orphans ++ one ∷ []) pool.fresh k c) [
+      | inl l ↦
+          elim (Contains-append_cases pool.orphans (one ∷ []) k l) [
+            | inl a ↦ inl (Contains-append_left pool.orphans pool.fresh k a)
+            | inr b ↦ inr (only one k b)
+          ]
+      | inr r ↦ inl (Contains-append_right pool.orphans pool.fresh k r)
+    ]
+
+-- so it is as it should be, where that one is
+pub pool_with : {id : TableId} (policy : Policy) (one : Kept RunSegment) (old new : RunPool)
+    → IsPoolOf id policy old → IsOf number_in policy one → IsSeated id one.slots
+    → new.pool ≡ with_orphan (Some one) old.pool → new.call.seat.table_id ≡ id
+    → new.call.seat.me.0.lives ≡ []
+    → IsOthers new.call (of_pool (pool_part policy (with_orphan (Some one) old.pool)))
+    → IsPoolOf id policy new
+pool_with {id} policy one old new was here seated now same bare part = record {
+  same = same;
+  bare = bare;
+  part =
+      subst (λ (p : Pooled RunSegment). IsOthers new.call (of_pool (pool_part policy p))) (sym now) part;
+  of =
+      subst (λ (p : Pooled RunSegment). AreOf number_in policy (pooled_in p)) (sym now)
+      (record {
+        arena = λ k c.
+            elim (put_there old.pool one k c) [
+              | inl l ↦ was.of.arena k l
+              | inr e ↦
+                  subst (λ (j : Kept RunSegment). arena_of policy (number_in j.slots) ≡ Some j.arena) e
+                  here.0
+            ];
+        greatest = λ k c.
+            elim (put_there old.pool one k c) [
+              | inl l ↦ was.of.greatest k l
+              | inr e ↦ subst (λ (j : Kept RunSegment). j.greatest ≡ policy.max_generation) e here.1
+            ];
+      });
+  seated = λ k c.
+      elim
+      (put_there old.pool one k (subst (λ (p : Pooled RunSegment). Contains (pooled_in p) k) now c)) [
+        | inl l ↦ was.seated k l
+        | inr e ↦ subst (λ (j : Kept RunSegment). IsSeated id j.slots) e seated
+      ];
+}
+
+-- what a worker has left it had
+pub was_there : (old new : List (Kept RunSegment)) (one k : Kept RunSegment)
+    → IsPermutation old (one ∷ new) → Contains new k → Contains old k
+was_there old new one k p c =
+    Contains-permutation (one ∷ new) old k (IsPermutation-sym old (one ∷ new) p)
+    (Contains-append_right (one ∷ []) new k c)

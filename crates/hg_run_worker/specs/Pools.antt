@@ -1,5 +1,5 @@
 -- The pool of a table that keeps one run: its part of the run, by the segments that no worker holds.
-use Rattle.std.specs.Prelude.{◌≡◌, ℕ, ◌%◌, ◌==◌, true, nat_lt, List, [], ◌∷◌, ◌++◌, length, map}
+use Rattle.std.specs.Prelude.{◌≡◌, ℕ, ◌%◌, ◌==◌, Bool, true, false, nat_lt, List, [], ◌∷◌, ◌++◌, length, map}
 use Rattle.std.specs.Prelude.{Option, Some, None, Contains, if◌then◌else◌}
 use Rattle.std.specs.List.{list_any}
 use Rattle.atomic_table.specs.Seated.{TableId}
@@ -67,3 +67,13 @@ with_taken (Some one) segments = segments ++ one ∷ []
 abbrev pub refill_answer : Option ℕ → Answer
 refill_answer None = answer.NoSegment
 refill_answer (Some segment) = answer.Refilled segment
+
+-- the pool with a segment that was given to it, if one was, as its last orphan
+abbrev pub with_orphan : Option (Kept RunSegment) → Pooled RunSegment → Pooled RunSegment
+with_orphan None pool = pool
+with_orphan (Some one) pool = record { orphans = pool.orphans ++ one ∷ []; fresh = pool.fresh }
+
+-- what a worker is answered that held the segment, or didn't
+abbrev pub abandon_answer : Bool → Answer
+abandon_answer true = answer.Done
+abandon_answer false = answer.NotHeld

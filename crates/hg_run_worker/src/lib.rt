@@ -1,9 +1,11 @@
 //! A worker over a table that keeps one run of all calls: each call logs its event and its answer.
 #![tactic(auto)]
 
+mod abandoning;
 mod allocating;
 mod beginning;
 mod collecting;
+mod deciding;
 mod freeing;
 mod lending;
 mod pool;

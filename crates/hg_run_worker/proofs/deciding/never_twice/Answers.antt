@@ -1,7 +1,7 @@
 use Rattle.std.proofs.Common.{◌≡◌, ◌++◌, ◌∷◌, [], ap, length, refl, sym, subst, ◌∙◌, arith}
 use Rattle.hg_table.specs.View.{View, part_of}
 use Rattle.hg_run_table.specs.Told.{ArePartsApart}
-use Rattle.hg_run_worker.proofs.refilling.never_twice.Goals as goal
+use Rattle.hg_run_worker.proofs.deciding.never_twice.Goals as goal
 
 pub returns : goal.returns
 returns c =
