@@ -4,6 +4,7 @@ use Rattle.std.specs.Prelude.{option_map}
 use Rattle.std.proofs.Common.{◌≡◌, ℕ, ◌+◌, ◌*◌, ◌/◌, ◌<◌, ◌≤◌, true, List, [], ◌∷◌, ◌++◌, length, Option, Some, None}
 use Rattle.std.proofs.Common.{Result, Ok, Err, IfOk, IfErr, refl, sym, ap, subst, ◌∙◌, arith}
 use Rattle.std.proofs.lemmas.Bool.{eqb-true}
+use Rattle.std.specs.Arc.{arc_value}
 use Rattle.atomic_table.specs.Seated.{TableId}
 use Rattle.hg_place.specs.declared.Actor.{Actor}
 use Rattle.hg_place.specs.declared.Handle.{Handle}
@@ -19,16 +20,16 @@ use Rattle.hg_agreement.specs.Views.{View}
 use Rattle.hg_agreement.specs.Agreement.{Ties}
 use Rattle.hg_heap.specs.Allotted.{IsAllotted}
 use Rattle.hg_heap.specs.Answers.{refused_answer}
-use Rattle.hg_heap.specs.Held.{Held, is_held, kinds, segment_in}
+use Rattle.hg_heap.specs.Held.{is_held, segment_in}
 use Rattle.hg_heap.specs.Ties.{HeapTies, shown_at}
 use Rattle.hg_heap.specs.declared.refused.Refused.{Refused}
 use Rattle.hg_run_table.specs.declared.segment.RunSegment.{RunSegment}
 use Rattle.hg_run_table.specs.declared.table.RunSeat.{RunSeat}
-use Rattle.hg_run_table.specs.Calls.{log_in}
-use Rattle.hg_run_worker.specs.AtWork.{IsAtWork, number_in, records_in, shows_in, steps_in, worker_view, hand_place, hand_generation}
+use Rattle.hg_run_worker.specs.declared.worker.RunWorker.{RunWorker}
+use Rattle.hg_run_worker.specs.AtWork.{HasCalledHere, IsReady, IsStill, KeepsRest, hand_generation, hand_place, number_in, records_in, view_in}
 use Rattle.hg_run_worker.specs.Lent.{HasComeBack, IsLent, IsTiedStep}
-use Rattle.hg_run_worker.proofs.Course.{at_work, course_kinds, has_loan, held_still, held_there, logged}
-use Rattle.hg_run_worker.proofs.Course.{unstepped_kinds, unstepped_loan, unstepped_logged, unstepped_work, unstepped_view}
+use Rattle.hg_run_worker.proofs.Course.{has_called, has_loan, held_still, held_there, holds_same, ready_again, view_again}
+use Rattle.hg_run_worker.proofs.Course.{unstepped_kinds, unstepped_loan, unstepped_logged, unstepped_view, unstepped_work}
 
 module _ {id : TableId} {policy : Policy} {number : ℕ} {hand : Option Handle}
     {asked : List (List Event)} {xs ys : List (Kept RunSegment)} {call : RunSeat} {segment : ℕ}
@@ -58,35 +59,37 @@ module _ {id : TableId} {policy : Policy} {number : ℕ} {hand : Option Handle}
       unstepped_loan l is_asked one
       (subst (λ (z : List (Kept RunSegment)). segment_in number_in z segment ≡ Some one) e.0 there)
 
-  module _ {ws : List (Kept RunSegment)} {back : RunSeat} (given : HasComeBack segment zs back ws) where
-    -- nothing has changed, so it came back from there
-    came : zs ≡ ys → HasComeBack segment ys back ws
-    came same = subst (λ (z : List (Kept RunSegment)). HasComeBack segment z back ws) same given
+-- and the worker's part came back
+module _ {asked : List (List Event)} {ys : List (Kept RunSegment)} {segment : ℕ} (old new : RunWorker)
+    (l : IsLent (arc_value old.table).table.shared.table_id old.policy old.number old.hand asked segment
+    old.heap.segments old.call ys) {actor : Actor} {arena bytes : ℕ}
+    (is_asked : asked ≡ (event.Alloc actor arena bytes ∷ []) ∷ []) (zs : List (Kept RunSegment))
+    (given : HasComeBack segment zs new.call new.heap.segments) where
+  abbrev Ends : Result Handle Refused → Type 0
+  Ends = Ended l is_asked old.below zs
 
-    pub end_kinds : (r : Result Handle Refused) → Ended r → kinds number_in ws ≡ kinds number_in xs
-    end_kinds (Ok handle) e = course_kinds l is_asked e.1 below given
-    end_kinds (Err refused) e = unstepped_kinds l is_asked (came e.0)
+  pub end_called : (r : Result Handle Refused) → Ends r → IsReady old → KeepsRest old new
+      → IfOk r (λ handle. HasCalledHere (event.Alloc actor arena bytes) (answer.Block handle) old new)
+  end_called (Ok handle) e ready rest = has_called old new l is_asked e.1 ready rest given
+  end_called (Err refused) e ready rest = tt
 
-    pub end_work : (r : Result Handle Refused) → Ended r → IsAtWork id policy number hand ws back
-    end_work (Ok handle) e = at_work l is_asked e.1 below given
-    end_work (Err refused) e = unstepped_work l is_asked (came e.0)
-
-    pub end_log : (r : Result Handle Refused) → Ended r
-        → IfOk r (λ handle. log_in back ≡ log_in call ++ (event.Alloc actor arena bytes, answer.Block handle) ∷ [])
-    end_log (Ok handle) e = logged l is_asked e.1 below given
-    end_log (Err refused) e = tt
-
-    pub end_same : (r : Result Handle Refused) → Ended r → IfErr r (λ refused. log_in back ≡ log_in call)
-    end_same (Ok handle) e = tt
-    end_same (Err refused) e = unstepped_logged l is_asked (came e.0)
-
-    pub end_refused : (r : Result Handle Refused) → Ended r
-        → IfErr r (λ refused.
-        Ties (worker_view policy number hand ws) None (event.Alloc actor arena bytes)
-        (refused_answer refused) (worker_view policy number hand ws) None)
-    end_refused (Ok handle) e = tt
-    end_refused (Err refused) e =
+  pub end_refused : (r : Result Handle Refused) → Ends r → IsReady old → KeepsRest old new
+      → IfErr r (λ refused.
+      IsStill old new
+      × Ties (view_in new) None (event.Alloc actor arena bytes) (refused_answer refused) (view_in new) None)
+  end_refused (Ok handle) e ready rest = tt
+  end_refused (Err refused) e ready rest =
+      let came : HasComeBack segment ys new.call new.heap.segments =
+      subst (λ (z : List (Kept RunSegment)). HasComeBack segment z new.call new.heap.segments) e.0 given in
+      let same = unstepped_kinds l is_asked came in (
+        record {
+          ready = ready_again old new ready rest same (unstepped_work l is_asked came);
+          log = unstepped_logged l is_asked came;
+          rest = rest;
+          holds = holds_same old new same;
+        },
         subst
-        (λ (v : View). Ties v None (event.Alloc actor arena bytes) (refused_answer refused) v None)
-        (sym (unstepped_view l is_asked (came e.0)))
-        (e.1 number (hand_place hand) (hand_generation hand) below)
+            (λ (v : View). Ties v None (event.Alloc actor arena bytes) (refused_answer refused) v None)
+            (sym (view_again old new rest ∙ unstepped_view l is_asked came))
+            (e.1 old.number (hand_place old.hand) (hand_generation old.hand) old.below),
+      )

@@ -2,9 +2,10 @@
 -- part comes back with the call in its log.
 use Rattle.std.proofs.Common.{◌≡◌, ◌≢◌, ◌⊎◌, ◌==◌, ℕ, ◌+◌, ◌-◌, ◌*◌, ◌<◌, ◌≤◌, inl, inr, true, List, [], ◌∷◌, ◌++◌}
 use Rattle.std.proofs.Common.{map, length, take, drop, get_or, Option, Some, refl, sym, ap, subst, ◌∙◌, arith}
-use Rattle.std.proofs.Common.{slice_get, slice_set, is_some}
+use Rattle.std.proofs.Common.{slice_get, slice_set, is_some, find}
 use Rattle.std.specs.List.{position_or_len}
 use Rattle.std.proofs.lemmas.Bool.{cases_eq}
+use Rattle.std.proofs.lemmas.Simd.{map-map}
 use Rattle.std.proofs.lemmas.Grind.{get_or-set_at}
 use Rattle.std.proofs.lemmas.List.{length-set, get_or-set_other}
 use Rattle.std.proofs.lemmas.Option.{get_or_from_slice_get, slice_get-get_or}
@@ -31,7 +32,7 @@ use Rattle.hg_heap.specs.Ties.{holding, heap_view, HeapTies, Stepped, shown_at}
 use Rattle.std.proofs.lemmas.List.Folds.{find_at}
 use Rattle.hg_heap.proofs.Allotting.{found_first}
 use Rattle.hg_heap.proofs.Judging.{rest_same}
-use Rattle.hg_heap.proofs.Founds.{Found, found_is, found_after, first_by, inside_of, map_same, numbers, numbers_same}
+use Rattle.hg_heap.proofs.Founds.{Found, found_is, found_after, held_by, first_by, inside_of, map_same, numbers, numbers_same}
 use Rattle.hg_roles.specs.Roles.{Call, of_worker, of_segment}
 use Rattle.hg_table.specs.Seats.{word_at}
 use Rattle.hg_table.specs.Told.{IsShown}
@@ -50,7 +51,7 @@ use Rattle.hg_run_table.proofs.LentSeats.{asks_behind}
 use Rattle.hg_run_table.proofs.RolesOfViews.{cut_have}
 use Rattle.hg_run_table.proofs.WorkerSteps.{log_is, own_log}
 use Rattle.hg_run_worker.specs.AtWork.{IsAtWork, IsSeated, number_in, records_in, worker_view, hand_place, hand_generation}
-use Rattle.hg_run_worker.specs.AtWork.{shows_in, steps_in, numbers_in, view_in, IsReady, KeepsRest}
+use Rattle.hg_run_worker.specs.AtWork.{shows_in, steps_in, numbers_in, view_in, HasCalledHere, HoldsSame, IsReady, KeepsRest}
 use Rattle.hg_run_worker.specs.declared.worker.RunWorker.{RunWorker}
 use Rattle.hg_run_table.specs.declared.table.RunTable.{RunTable}
 use Rattle.std.specs.Arc.{arc_value}
@@ -436,8 +437,6 @@ module _ {id : TableId} {policy : Policy} {number : ℕ} {hand : Option Handle}
       pub back_keeps : KeepsAll number_in records_in zs ws
       back_keeps = all_stays once_stepped given
 
--- Who keeps the rest is ready again where it is at work by what it had, and its segments are as the policy has
--- them, or of the kinds that they were
 pub rest_twice : (old mid new : RunWorker) → KeepsRest old mid → KeepsRest mid new → KeepsRest old new
 rest_twice old mid new one two = record {
   table = two.table ∙ one.table;
@@ -446,32 +445,20 @@ rest_twice old mid new one two = record {
   hand = two.hand ∙ one.hand;
 }
 
-pub ready_from : (old new : RunWorker) → IsReady old → KeepsRest old new
-    → AreOf number_in old.policy new.heap.segments
-    → IsAtWork (arc_value old.table).table.shared.table_id old.policy old.number old.hand
-    new.heap.segments new.call → IsReady new
-ready_from old new ready rest of work = record {
+-- Who keeps the rest is ready again where it is at work by what it had, and its segments are as the policy has
+-- them, or of the kinds that they were
+pub ready_from : (old new : RunWorker) (xs : List (Kept RunSegment)) → IsReady old → KeepsRest old new
+    → new.heap.segments ≡ xs → AreOf number_in old.policy xs
+    → IsAtWork (arc_value old.table).table.shared.table_id old.policy old.number old.hand xs new.call
+    → IsReady new
+ready_from old new xs ready rest now of work = record {
   work =
-      subst
-      (λ (t : RunTable).
-      IsAtWork t.table.shared.table_id new.policy new.number new.hand new.heap.segments new.call)
-      (sym rest.table)
-      (subst
-      (λ (p : Policy).
-      IsAtWork (arc_value old.table).table.shared.table_id p new.number new.hand new.heap.segments
-      new.call)
-      (sym rest.policy)
-      (subst
-      (λ n.
-      IsAtWork (arc_value old.table).table.shared.table_id old.policy n new.hand new.heap.segments
-      new.call)
-      (sym rest.number)
-      (subst
-      (λ (h : Option Handle).
-      IsAtWork (arc_value old.table).table.shared.table_id old.policy old.number h new.heap.segments
-      new.call)
-      (sym rest.hand) work)));
-  of = subst (λ (p : Policy). AreOf number_in p new.heap.segments) (sym rest.policy) of;
+      subst (λ (T : Type 0). T)
+      (λ i.
+      IsAtWork (sym rest.table i).table.shared.table_id (sym rest.policy i) (sym rest.number i)
+      (sym rest.hand i) (sym now i) new.call)
+      work;
+  of = subst (λ (T : Type 0). T) (λ i. AreOf number_in (sym rest.policy i) (sym now i)) of;
   key = ap (λ (t : RunTable). t.table.shared.key) rest.table ∙ ready.key ∙ sym rest.policy;
 }
 
@@ -480,11 +467,54 @@ pub ready_again : (old new : RunWorker) → IsReady old → KeepsRest old new
     → IsAtWork (arc_value old.table).table.shared.table_id old.policy old.number old.hand
     new.heap.segments new.call → IsReady new
 ready_again old new ready rest same =
-    ready_from old new ready rest
+    ready_from old new new.heap.segments ready rest refl
     (kinds_keep_policy number_in old.policy old.heap.segments new.heap.segments same ready.of)
+
+-- and where its part alone has made a call
+pub still_ready : (old new : RunWorker) → IsReady old → KeepsRest old new
+    → new.heap.segments ≡ old.heap.segments
+    → new.call.seat.table_id ≡ old.call.seat.table_id → new.call.seat.me.0.lives ≡ []
+    → IsWorkers new.call (view_in old) → IsReady new
+still_ready old new ready rest now same bare worker =
+    ready_from old new old.heap.segments ready rest now ready.of
+    (record {
+      same = same ∙ ready.work.same;
+      bare = bare;
+      worker = worker;
+      seated = ready.work.seated;
+    })
 
 -- and has what it had, by its segments
 pub view_again : (old new : RunWorker) → KeepsRest old new
     → view_in new ≡ worker_view old.policy old.number old.hand new.heap.segments
 view_again old new rest =
     λ i. worker_view (rest.policy i) (rest.number i) (rest.hand i) new.heap.segments
+
+-- the same segments are held where kinds stay
+pub holds_same : (old new : RunWorker)
+    → kinds number_in new.heap.segments ≡ kinds number_in old.heap.segments → HoldsSame old new
+holds_same old new same segment =
+    held_by number_in new.heap.segments segment
+    ∙ ap (λ (ns : List ℕ). is_some (find (λ n. n == segment) ns))
+    (sym (map-map (λ k. k.number) (kind_of number_in) new.heap.segments)
+    ∙ ap (map (λ (k : Kind). k.number)) same
+    ∙ map-map (λ k. k.number) (kind_of number_in) old.heap.segments)
+    ∙ sym (held_by number_in old.heap.segments segment)
+
+-- a call that is tied at a step is made
+pub has_called : {asked : List (List Event)} {ys zs : List (Kept RunSegment)} {segment : ℕ}
+    (old new : RunWorker)
+    (l : IsLent (arc_value old.table).table.shared.table_id old.policy old.number old.hand asked segment
+    old.heap.segments old.call ys) {e : Event} (is_asked : asked ≡ (e ∷ []) ∷ []) {place : Place}
+    {word left : ℕ} {a : Answer} (s : IsTiedStep old.policy segment place word left e a ys zs)
+    → IsReady old → KeepsRest old new → HasComeBack segment zs new.call new.heap.segments
+    → HasCalledHere e a old new
+has_called old new l is_asked s ready rest back =
+    let same = course_kinds l is_asked s old.below back in (
+      record {
+        ready = ready_again old new ready rest same (at_work l is_asked s old.below back);
+        log = logged l is_asked s old.below back;
+        rest = rest;
+      },
+      holds_same old new same,
+    )

@@ -1,21 +1,24 @@
 -- A worker over a table that keeps one run, while it makes no call: what it has, by its part of the run and
 -- its heap.
-use Rattle.std.specs.Prelude.{◌≡◌, ℕ, List, [], ◌∷◌, Option, Some, None, slice_get, option_map, map}
+use Rattle.std.specs.Prelude.{◌≡◌, ℕ, List, [], ◌∷◌, ◌++◌, Option, Some, None, slice_get, option_map, map}
 use Rattle.std.specs.Arc.{arc_value}
 use Rattle.std.specs.Box.{boxed_slice_items}
 use Rattle.atomic_table.specs.Seated.{TableId}
 use Rattle.hg_place.specs.declared.Handle.{Handle}
 use Rattle.hg_place.specs.declared.standing.Standing.{Standing}
 use Rattle.hg_place.specs.Places.{number_of}
+use Rattle.hg_machine.specs.declared.Answer.{Answer}
+use Rattle.hg_machine.specs.declared.Event.{Event}
 use Rattle.hg_machine.specs.Policy.{Policy}
 use Rattle.hg_segment.specs.Kept.{Kept}
 use Rattle.hg_agreement.specs.Views.{View}
+use Rattle.hg_heap.specs.Held.{is_held}
 use Rattle.hg_heap.specs.Policies.{AreOf}
 use Rattle.hg_heap.specs.Ties.{heap_view}
 use Rattle.hg_roles.specs.Roles.{of_segment}
 use Rattle.hg_run_table.specs.declared.segment.RunSegment.{RunSegment}
 use Rattle.hg_run_table.specs.declared.table.RunSeat.{RunSeat}
-use Rattle.hg_run_table.specs.Calls.{IsWorkers}
+use Rattle.hg_run_table.specs.Calls.{IsWorkers, log_in}
 use Rattle.hg_run_table.specs.Seated.{HaveRoles}
 use Rattle.hg_run_table.specs.Segments.{StepsIn}
 use Rattle.hg_table.specs.Seats.{word_at}
@@ -86,3 +89,26 @@ pub record KeepsRest (old new : RunWorker) : Type 0 where
   pub policy : new.policy ≡ old.policy
   pub number : new.number ≡ old.number
   pub hand : new.hand ≡ old.hand
+
+-- A worker that was ready made a call: it is ready again, its log is longer by the call with its answer, and its
+-- table, policy, number and hand are as they were
+pub record HasCalled (event : Event) (answer : Answer) (old new : RunWorker) : Type 0 where
+  pub ready : IsReady new
+  pub log : log_in new.call ≡ log_in old.call ++ (event, answer) ∷ []
+  pub rest : KeepsRest old new
+
+-- and it holds the segments that it held
+abbrev pub HoldsSame : RunWorker → RunWorker → Type 0
+HoldsSame old new =
+    (segment : ℕ)
+    → is_held number_in new.heap.segments segment ≡ is_held number_in old.heap.segments segment
+
+abbrev pub HasCalledHere : Event → Answer → RunWorker → RunWorker → Type 0
+HasCalledHere event answer old new = HasCalled event answer old new × HoldsSame old new
+
+-- nothing that is told of it has changed but slot words
+pub record IsStill (old new : RunWorker) : Type 0 where
+  pub ready : IsReady new
+  pub log : log_in new.call ≡ log_in old.call
+  pub rest : KeepsRest old new
+  pub holds : HoldsSame old new

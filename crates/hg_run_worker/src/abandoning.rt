@@ -1,13 +1,12 @@
 //! A worker gives a segment to the pool.
 
-ghost use Rattle.std.specs.Prelude.{◌≡◌, ◌≢◌, ℕ, false, [], ◌∷◌, ◌++◌};
+ghost use Rattle.std.specs.Prelude.{◌≡◌, ◌≢◌, ℕ, false, [], ◌∷◌};
 ghost use Rattle.std.specs.Arc.{arc_value};
 ghost use Rattle.hg_machine.specs.declared.Event.TheVariants as Event;
 ghost use Rattle.hg_heap.specs.Held.{is_held, segment_in};
 ghost use Rattle.hg_heap.specs.Releasing.{without_segment};
 ghost use Rattle.hg_roles.specs.Roles.{of_pool};
-ghost use Rattle.hg_run_table.specs.Calls.{log_in};
-ghost use Rattle.hg_run_worker.specs.AtWork.{IsReady, KeepsRest, number_in, view_in, worker_view};
+ghost use Rattle.hg_run_worker.specs.AtWork.{HasCalled, IsReady, number_in, view_in, worker_view};
 ghost use Rattle.hg_run_worker.specs.Pools.{IsPoolOf, abandon_answer, pool_part, with_orphan};
 
 use crate::deciding::never_twice;
@@ -23,17 +22,15 @@ impl RunWorker {
         requires ready { IsReady self.old }
         requires pool { IsPoolOf (arc_value self.old.table).table.shared.table_id self.old.policy
             pool.old }
-        ensures ready { IsReady self.new }
+        ensures called { HasCalled (Event.Abandon segment)
+            (abandon_answer result) self.old self.new }
         ensures pool { IsPoolOf (arc_value self.old.table).table.shared.table_id self.old.policy
             pool.new }
-        ensures log { log_in self.new.call ≡ log_in self.old.call
-            ++ (Event.Abandon segment, abandon_answer result) ∷ [] }
         ensures held { result ≡ is_held number_in self.old.heap.segments segment }
         ensures left { self.new.heap.segments
             ≡ without_segment number_in self.old.heap.segments segment }
         ensures put { pool.new.pool ≡ with_orphan
             (segment_in number_in self.old.heap.segments segment) pool.old.pool }
-        ensures rest { KeepsRest self.old self.new }
     {
         self.abandon_by::<Brand, Brand>(segment, pool)
     }
@@ -44,24 +41,24 @@ impl RunWorker {
         requires pool { IsPoolOf (arc_value self.old.table).table.shared.table_id self.old.policy
             pool.old }
         requires before { W.before ≡ view_in self.old }
-        requires call { W.call ≡ (Event.Abandon segment,
-            abandon_answer (is_held number_in self.old.heap.segments segment)) }
+        requires call { W.call ≡ (
+          Event.Abandon segment,
+          abandon_answer (is_held number_in self.old.heap.segments segment),
+        ) }
         requires after { W.after ≡ worker_view self.old.policy self.old.number self.old.hand
             (without_segment number_in self.old.heap.segments segment) }
         requires role { P.role ≡ of_pool (pool_part self.old.policy pool.old.pool) }
         requires left { P.left ≡ of_pool (pool_part self.old.policy
             (with_orphan (segment_in number_in self.old.heap.segments segment) pool.old.pool)) }
-        ensures ready { IsReady self.new }
+        ensures called { HasCalled (Event.Abandon segment)
+            (abandon_answer result) self.old self.new }
         ensures pool { IsPoolOf (arc_value self.old.table).table.shared.table_id self.old.policy
             pool.new }
-        ensures log { log_in self.new.call ≡ log_in self.old.call
-            ++ (Event.Abandon segment, abandon_answer result) ∷ [] }
         ensures held { result ≡ is_held number_in self.old.heap.segments segment }
         ensures left { self.new.heap.segments
             ≡ without_segment number_in self.old.heap.segments segment }
         ensures put { pool.new.pool ≡ with_orphan
             (segment_in number_in self.old.heap.segments segment) pool.old.pool }
-        ensures rest { KeepsRest self.old self.new }
     {
         let Some(one) = self.heap.release(segment) else {
             self.refuse::<W>();

@@ -1,6 +1,6 @@
 //! Blocks are given out of segments that the worker holds.
 
-ghost use Rattle.std.specs.Prelude.{◌≡◌, true, None, Some, [], ◌∷◌, ◌++◌, IfOk, IfErr, Contains};
+ghost use Rattle.std.specs.Prelude.{◌≡◌, true, None, Some, [], ◌∷◌, IfOk, IfErr, Contains};
 ghost use Rattle.std.specs.Prelude.{option_map};
 ghost use Rattle.hg_place.specs.Places.{segment_of};
 ghost use Rattle.hg_size.specs.Sizes.{sizes};
@@ -11,8 +11,8 @@ ghost use Rattle.hg_agreement.specs.Agreement.{Ties};
 ghost use Rattle.hg_heap.specs.Answers.{alloc_answer, refused_answer};
 ghost use Rattle.hg_heap.specs.Choice.{chosen_place};
 ghost use Rattle.hg_heap.specs.Held.{is_held};
-ghost use Rattle.hg_run_table.specs.Calls.{log_in};
-ghost use Rattle.hg_run_worker.specs.AtWork.{IsReady, KeepsRest, number_in, records_in, view_in};
+ghost use Rattle.hg_run_worker.specs.AtWork.{HasCalledHere, IsReady, IsStill, number_in};
+ghost use Rattle.hg_run_worker.specs.AtWork.{records_in, view_in};
 
 use crate::RunWorker;
 use hg_decision::{AllocVerdict, judge_alloc};
@@ -26,10 +26,8 @@ impl RunWorker {
     /// Gives out a block of so many bytes of an arena, and logs the Alloc with its answer.
     pub fn alloc(&mut self, actor: Actor, arena: u8, bytes: u64) -> Result<Handle, Refused>
         requires ready { IsReady self.old }
-        ensures ready { IsReady self.new }
-        ensures log { log_in self.new.call ≡ log_in self.old.call
-            ++ (Event.Alloc actor arena bytes, alloc_answer result) ∷ [] }
-        ensures rest { KeepsRest self.old self.new }
+        ensures called { HasCalledHere (Event.Alloc actor arena bytes) (alloc_answer result)
+            self.old self.new }
     {
         let segment = match self.segment_for(actor, arena, bytes) {
             Ok(segment) => segment,
@@ -90,13 +88,12 @@ impl RunWorker {
             ≡ Some segment }
         requires sized { Contains sizes (size_of bytes) }
         requires asked { E.asked ≡ (Event.Alloc actor arena bytes ∷ []) ∷ [] }
-        ensures ready { IsReady self.new }
-        ensures log { IfOk result (λ handle. log_in self.new.call ≡ log_in self.old.call
-            ++ (Event.Alloc actor arena bytes, Answer.Block handle) ∷ []) }
-        ensures same_log { IfErr result (λ refused. log_in self.new.call ≡ log_in self.old.call) }
-        ensures refused { IfErr result (λ refused. Ties (view_in self.new) None
-            (Event.Alloc actor arena bytes) (refused_answer refused) (view_in self.new) None) }
-        ensures rest { KeepsRest self.old self.new }
+        ensures called { IfOk result (λ handle.
+            HasCalledHere (Event.Alloc actor arena bytes) (Answer.Block handle)
+            self.old self.new) }
+        ensures refused { IfErr result (λ refused. IsStill self.old self.new
+            × Ties (view_in self.new) None (Event.Alloc actor arena bytes)
+            (refused_answer refused) (view_in self.new) None) }
     {
         self.lend::<E>(segment);
         self.heap.settled();
@@ -113,12 +110,9 @@ impl RunWorker {
         requires call { W.call ≡ (Event.Alloc actor arena bytes, refused_answer refused) }
         requires tied { Ties (view_in self.old) None (Event.Alloc actor arena bytes)
             (refused_answer refused) (view_in self.old) None }
-        ensures ready { IsReady self.new }
-        ensures log { log_in self.new.call ≡ log_in self.old.call
-            ++ (Event.Alloc actor arena bytes, refused_answer refused) ∷ [] }
-        ensures rest { KeepsRest self.old self.new }
+        ensures called { HasCalledHere (Event.Alloc actor arena bytes) (refused_answer refused)
+            self.old self.new }
     {
-        let table = &self.table;
-        table.call_alone::<W>(&mut self.call);
+        self.call_alone::<W>();
     }
 }

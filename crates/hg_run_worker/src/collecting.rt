@@ -1,11 +1,10 @@
 //! Pages without open places lose their class.
 
-ghost use Rattle.std.specs.Prelude.{◌≡◌, [], ◌∷◌, ◌++◌};
+ghost use Rattle.std.specs.Prelude.{◌≡◌, [], ◌∷◌};
 ghost use Rattle.hg_machine.specs.declared.Answer.TheVariants as Answer;
 ghost use Rattle.hg_machine.specs.declared.Event.TheVariants as Event;
 ghost use Rattle.hg_heap.specs.Idle.{Collected, idle_pages};
-ghost use Rattle.hg_run_table.specs.Calls.{log_in};
-ghost use Rattle.hg_run_worker.specs.AtWork.{IsReady, KeepsRest, number_in, records_in, view_in};
+ghost use Rattle.hg_run_worker.specs.AtWork.{HasCalledHere, IsReady, number_in, records_in, view_in};
 
 use crate::RunWorker;
 use hg_run_table::OwnCall;
@@ -16,12 +15,9 @@ impl RunWorker {
     /// tells from how many. Logs the Collect with its answer.
     pub fn collect(&mut self) -> u32
         requires ready { IsReady self.old }
-        ensures ready { IsReady self.new }
-        ensures log { log_in self.new.call ≡ log_in self.old.call
-            ++ (Event.Collect, Answer.Pages result) ∷ [] }
+        ensures called { HasCalledHere Event.Collect (Answer.Pages result) self.old self.new }
         ensures pages { result ≡ idle_pages number_in records_in self.old.heap.segments }
         ensures collected { Collected number_in records_in self.old.heap self.new.heap }
-        ensures rest { KeepsRest self.old self.new }
     {
         self.collect_by::<Brand>()
     }
@@ -30,14 +26,13 @@ impl RunWorker {
     fn collect_by<W: OwnCall>(&mut self) -> u32
         requires ready { IsReady self.old }
         requires before { W.before ≡ view_in self.old }
-        requires call { W.call ≡ (Event.Collect,
-            Answer.Pages (idle_pages number_in records_in self.old.heap.segments)) }
-        ensures ready { IsReady self.new }
-        ensures log { log_in self.new.call ≡ log_in self.old.call
-            ++ (Event.Collect, Answer.Pages result) ∷ [] }
+        requires call { W.call ≡ (
+          Event.Collect,
+          Answer.Pages (idle_pages number_in records_in self.old.heap.segments),
+        ) }
+        ensures called { HasCalledHere Event.Collect (Answer.Pages result) self.old self.new }
         ensures pages { result ≡ idle_pages number_in records_in self.old.heap.segments }
         ensures collected { Collected number_in records_in self.old.heap self.new.heap }
-        ensures rest { KeepsRest self.old self.new }
     {
         let pages = self.heap.collect();
         self.call_alone::<Brand>();

@@ -1,11 +1,10 @@
 //! Blocks that the worker holds are freed.
 
-ghost use Rattle.std.specs.Prelude.{◌≡◌, true, [], ◌∷◌, ◌++◌};
+ghost use Rattle.std.specs.Prelude.{◌≡◌, true, [], ◌∷◌};
 ghost use Rattle.hg_machine.specs.declared.Event.TheVariants as Event;
 ghost use Rattle.hg_heap.specs.Answers.{done_answer};
 ghost use Rattle.hg_heap.specs.Held.{is_held};
-ghost use Rattle.hg_run_table.specs.Calls.{log_in};
-ghost use Rattle.hg_run_worker.specs.AtWork.{IsReady, KeepsRest, number_in};
+ghost use Rattle.hg_run_worker.specs.AtWork.{HasCalledHere, IsReady, number_in};
 
 use crate::RunWorker;
 use hg_heap::Refused;
@@ -18,10 +17,8 @@ impl RunWorker {
     pub fn free_here(&mut self, actor: Actor, handle: Handle) -> Result<(), Refused>
         requires ready { IsReady self.old }
         requires held { is_held number_in self.old.heap.segments handle.place.segment ≡ true }
-        ensures ready { IsReady self.new }
-        ensures log { log_in self.new.call ≡ log_in self.old.call
-            ++ (Event.Free actor handle, done_answer result) ∷ [] }
-        ensures rest { KeepsRest self.old self.new }
+        ensures called { HasCalledHere (Event.Free actor handle)
+            (done_answer result) self.old self.new }
     {
         self.free_asked::<Brand>(actor, handle)
     }
@@ -31,10 +28,8 @@ impl RunWorker {
         requires ready { IsReady self.old }
         requires held { is_held number_in self.old.heap.segments handle.place.segment ≡ true }
         requires asked { E.asked ≡ (Event.Free actor handle ∷ []) ∷ [] }
-        ensures ready { IsReady self.new }
-        ensures log { log_in self.new.call ≡ log_in self.old.call
-            ++ (Event.Free actor handle, done_answer result) ∷ [] }
-        ensures rest { KeepsRest self.old self.new }
+        ensures called { HasCalledHere (Event.Free actor handle)
+            (done_answer result) self.old self.new }
     {
         self.lend::<E>(handle.place.segment);
         let freed = self.heap.free_here(&self.policy, actor, handle);

@@ -1,12 +1,11 @@
 //! Words of blocks that the worker holds.
 
-ghost use Rattle.std.specs.Prelude.{◌≡◌, true, [], ◌∷◌, ◌++◌};
+ghost use Rattle.std.specs.Prelude.{◌≡◌, true, [], ◌∷◌};
 ghost use Rattle.hg_machine.specs.declared.Event.TheVariants as Event;
 ghost use Rattle.hg_heap.specs.Answers.{done_answer, list_denial, read_answer, row_answer};
 ghost use Rattle.hg_heap.specs.Held.{is_held};
 ghost use Rattle.hg_heap.specs.Keeping.{KeepsAll};
-ghost use Rattle.hg_run_table.specs.Calls.{log_in};
-ghost use Rattle.hg_run_worker.specs.AtWork.{IsReady, KeepsRest, number_in, records_in};
+ghost use Rattle.hg_run_worker.specs.AtWork.{HasCalledHere, IsReady, number_in, records_in};
 
 use crate::RunWorker;
 use hg_heap::Refused;
@@ -20,13 +19,11 @@ impl RunWorker {
     pub fn read_here(&mut self, actor: Actor, handle: Handle, index: u32) -> Result<u64, Refused>
         requires ready { IsReady self.old }
         requires held { is_held number_in self.old.heap.segments handle.place.segment ≡ true }
-        ensures ready { IsReady self.new }
-        ensures log { log_in self.new.call ≡ log_in self.old.call
-            ++ (Event.Read actor handle index, read_answer result) ∷ [] }
+        ensures called { HasCalledHere (Event.Read actor handle index)
+            (read_answer result) self.old self.new }
         ensures kept { KeepsAll number_in records_in self.old.heap.segments
             self.new.heap.segments }
         ensures queues { self.new.heap.queues ≡ self.old.heap.queues }
-        ensures rest { KeepsRest self.old self.new }
     {
         self.read_asked::<Brand>(actor, handle, index)
     }
@@ -41,13 +38,11 @@ impl RunWorker {
         requires ready { IsReady self.old }
         requires held { is_held number_in self.old.heap.segments handle.place.segment ≡ true }
         requires asked { E.asked ≡ (Event.Read actor handle index ∷ []) ∷ [] }
-        ensures ready { IsReady self.new }
-        ensures log { log_in self.new.call ≡ log_in self.old.call
-            ++ (Event.Read actor handle index, read_answer result) ∷ [] }
+        ensures called { HasCalledHere (Event.Read actor handle index)
+            (read_answer result) self.old self.new }
         ensures kept { KeepsAll number_in records_in self.old.heap.segments
             self.new.heap.segments }
         ensures queues { self.new.heap.queues ≡ self.old.heap.queues }
-        ensures rest { KeepsRest self.old self.new }
     {
         self.lend::<E>(handle.place.segment);
         let value = self.heap.read(&self.policy, actor, handle, index);
@@ -65,10 +60,8 @@ impl RunWorker {
     ) -> Result<(), Refused>
         requires ready { IsReady self.old }
         requires held { is_held number_in self.old.heap.segments handle.place.segment ≡ true }
-        ensures ready { IsReady self.new }
-        ensures log { log_in self.new.call ≡ log_in self.old.call
-            ++ (Event.Write actor handle index value, done_answer result) ∷ [] }
-        ensures rest { KeepsRest self.old self.new }
+        ensures called { HasCalledHere (Event.Write actor handle index value)
+            (done_answer result) self.old self.new }
     {
         self.write_asked::<Brand>(actor, handle, index, value)
     }
@@ -84,10 +77,8 @@ impl RunWorker {
         requires ready { IsReady self.old }
         requires held { is_held number_in self.old.heap.segments handle.place.segment ≡ true }
         requires asked { E.asked ≡ (Event.Write actor handle index value ∷ []) ∷ [] }
-        ensures ready { IsReady self.new }
-        ensures log { log_in self.new.call ≡ log_in self.old.call
-            ++ (Event.Write actor handle index value, done_answer result) ∷ [] }
-        ensures rest { KeepsRest self.old self.new }
+        ensures called { HasCalledHere (Event.Write actor handle index value)
+            (done_answer result) self.old self.new }
     {
         self.lend::<E>(handle.place.segment);
         let written = self.heap.write(&self.policy, actor, handle, index, value);
@@ -100,12 +91,8 @@ impl RunWorker {
     pub fn look_here(&mut self, actor: Actor, place: Place, shown: &mut u64) -> Option<Row>
         requires ready { IsReady self.old }
         requires held { is_held number_in self.old.heap.segments place.segment ≡ true }
-        ensures ready { IsReady self.new }
-        ensures log { log_in self.new.call ≡ log_in self.old.call ++ (
-          Event.Look actor place,
-          row_answer result (list_denial self.old.policy actor place shown.new),
-        ) ∷ [] }
-        ensures rest { KeepsRest self.old self.new }
+        ensures called { HasCalledHere (Event.Look actor place)
+            (row_answer result (list_denial self.old.policy actor place shown.new)) self.old self.new }
     {
         self.look_asked::<Brand>(actor, place, shown)
     }
@@ -115,12 +102,8 @@ impl RunWorker {
         requires ready { IsReady self.old }
         requires held { is_held number_in self.old.heap.segments place.segment ≡ true }
         requires asked { E.asked ≡ (Event.Look actor place ∷ []) ∷ [] }
-        ensures ready { IsReady self.new }
-        ensures log { log_in self.new.call ≡ log_in self.old.call ++ (
-          Event.Look actor place,
-          row_answer result (list_denial self.old.policy actor place shown.new),
-        ) ∷ [] }
-        ensures rest { KeepsRest self.old self.new }
+        ensures called { HasCalledHere (Event.Look actor place)
+            (row_answer result (list_denial self.old.policy actor place shown.new)) self.old self.new }
     {
         self.lend::<E>(place.segment);
         let row = self.heap.look(&self.policy, actor, place, shown);

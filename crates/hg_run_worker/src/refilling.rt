@@ -1,13 +1,12 @@
 //! A worker takes a segment from the pool.
 
-ghost use Rattle.std.specs.Prelude.{◌≡◌, false, [], ◌∷◌, ◌++◌, IfSome, option_map};
+ghost use Rattle.std.specs.Prelude.{◌≡◌, false, [], ◌∷◌, IfSome, option_map};
 ghost use Rattle.std.specs.Arc.{arc_value};
 ghost use Rattle.hg_machine.specs.declared.Event.TheVariants as Event;
 ghost use Rattle.hg_heap.specs.Held.{is_held};
 ghost use Rattle.hg_pool.specs.Pooled.{next_in};
 ghost use Rattle.hg_roles.specs.Roles.{of_pool};
-ghost use Rattle.hg_run_table.specs.Calls.{log_in};
-ghost use Rattle.hg_run_worker.specs.AtWork.{IsReady, KeepsRest, number_in, view_in, worker_view};
+ghost use Rattle.hg_run_worker.specs.AtWork.{HasCalled, IsReady, number_in, view_in, worker_view};
 ghost use Rattle.hg_run_worker.specs.Pools.{IsPoolOf, left_pool, pool_part, refill_answer, with_taken};
 
 use crate::deciding::never_twice;
@@ -23,11 +22,9 @@ impl RunWorker {
         requires ready { IsReady self.old }
         requires pool { IsPoolOf (arc_value self.old.table).table.shared.table_id self.old.policy
             pool.old }
-        ensures ready { IsReady self.new }
+        ensures called { HasCalled (Event.Refill arena) (refill_answer result) self.old self.new }
         ensures pool { IsPoolOf (arc_value self.old.table).table.shared.table_id self.old.policy
             pool.new }
-        ensures log { log_in self.new.call ≡ log_in self.old.call
-            ++ (Event.Refill arena, refill_answer result) ∷ [] }
         ensures next { result ≡ option_map (λ one. number_in one.slots)
             (next_in pool.old.pool arena) }
         ensures unheld { IfSome result (λ segment.
@@ -35,7 +32,6 @@ impl RunWorker {
         ensures taken { self.new.heap.segments
             ≡ with_taken (next_in pool.old.pool arena) self.old.heap.segments }
         ensures left { pool.new.pool ≡ left_pool (next_in pool.old.pool arena) pool.old.pool }
-        ensures rest { KeepsRest self.old self.new }
     {
         self.refill_by::<Brand, Brand>(arena, pool)
     }
@@ -46,18 +42,19 @@ impl RunWorker {
         requires pool { IsPoolOf (arc_value self.old.table).table.shared.table_id self.old.policy
             pool.old }
         requires before { W.before ≡ view_in self.old }
-        requires call { W.call ≡ (Event.Refill arena, refill_answer
-            (option_map (λ one. number_in one.slots) (next_in pool.old.pool arena))) }
+        requires call { W.call ≡ (
+          Event.Refill arena,
+          refill_answer
+              (option_map (λ one. number_in one.slots) (next_in pool.old.pool arena)),
+        ) }
         requires after { W.after ≡ worker_view self.old.policy self.old.number self.old.hand
             (with_taken (next_in pool.old.pool arena) self.old.heap.segments) }
         requires role { P.role ≡ of_pool (pool_part self.old.policy pool.old.pool) }
         requires left { P.left ≡ of_pool (pool_part self.old.policy
             (left_pool (next_in pool.old.pool arena) pool.old.pool)) }
-        ensures ready { IsReady self.new }
+        ensures called { HasCalled (Event.Refill arena) (refill_answer result) self.old self.new }
         ensures pool { IsPoolOf (arc_value self.old.table).table.shared.table_id self.old.policy
             pool.new }
-        ensures log { log_in self.new.call ≡ log_in self.old.call
-            ++ (Event.Refill arena, refill_answer result) ∷ [] }
         ensures next { result ≡ option_map (λ one. number_in one.slots)
             (next_in pool.old.pool arena) }
         ensures unheld { IfSome result (λ segment.
@@ -65,7 +62,6 @@ impl RunWorker {
         ensures taken { self.new.heap.segments
             ≡ with_taken (next_in pool.old.pool arena) self.old.heap.segments }
         ensures left { pool.new.pool ≡ left_pool (next_in pool.old.pool arena) pool.old.pool }
-        ensures rest { KeepsRest self.old self.new }
     {
         // these hand out what a pool keeps, and that a policy is sound
         let _there = pool.pool.has(0);

@@ -5,7 +5,6 @@ use Rattle.hg_machine.specs.declared.Answer.TheVariants as answer
 use Rattle.hg_machine.specs.declared.Event.TheVariants as event
 use Rattle.hg_segment.specs.Kept.{Kept}
 use Rattle.hg_heap.specs.Held.{Held, is_held, segment_in}
-use Rattle.hg_heap.specs.Policies.{AreOf}
 use Rattle.hg_heap.proofs.Founds.{Contains-get}
 use Rattle.hg_heap.proofs.ViewRoom.{found_one, view_holds}
 use Rattle.hg_pool.specs.Pooled.{Pooled}
@@ -14,10 +13,10 @@ use Rattle.hg_run_table.specs.declared.segment.RunSegment.{RunSegment}
 use Rattle.hg_run_table.specs.Calls.{IsRefused, IsWorkers, log_in}
 use Rattle.hg_run_table.specs.JoinedCalls.{IsOthers, IsTiedTogether}
 use Rattle.hg_run_table.proofs.NamedSteps.{abandon_tied}
-use Rattle.hg_run_worker.specs.AtWork.{IsAtWork, number_in, records_in, worker_view}
+use Rattle.hg_run_worker.specs.AtWork.{KeepsRest, number_in, records_in, worker_view}
 use Rattle.hg_run_worker.specs.Pools.{abandon_answer, pool_part, pooled_in, with_orphan}
 use Rattle.hg_run_worker.proofs.Abandons.{let_go_like, put_back_like}
-use Rattle.hg_run_worker.proofs.Course.{at_position, ready_from}
+use Rattle.hg_run_worker.proofs.Course.{at_position, ready_from, still_ready}
 use Rattle.hg_run_worker.proofs.DecidedLike.{tied_like}
 use Rattle.hg_run_worker.proofs.Refills.{are_of_part, at_place, pool_with, was_there}
 use Rattle.hg_run_worker.proofs.worker.RunWorker.abandon_by.Goals as goal
@@ -42,25 +41,27 @@ refuse-requires-clause-refused g c =
           ∙ ap (λ (o : Option (Kept RunSegment)). is_some o) none);
     })
 
-pub returns-in_default-clause-ready : goal.returns-in_default-clause-ready
-returns-in_default-clause-ready g c =
+pub returns-in_default-clause-called : goal.returns-in_default-clause-called
+returns-in_default-clause-called g c =
     let s = c.args.self.now in
     let e = c.refuse.ensures in
-    let same : c.refuse.new.self.heap.segments ≡ s.heap.segments =
-    ap (λ (h : Held RunSegment). h.segments) (e.heap ∙ c.in_default.ensures.unchanged) in
-    ready_from s c.refuse.new.self c.requires.ready
-    (record { table = e.rest.table; policy = e.rest.policy; number = e.rest.number; hand = e.rest.hand })
-    (subst (AreOf number_in s.policy) (sym same) c.requires.ready.of)
-    (subst
-    (λ (xs : List (Kept RunSegment)).
-    IsAtWork (arc_value s.table).table.shared.table_id s.policy s.number s.hand xs c.refuse.new.self.call)
-    (sym same)
-    (record {
-      same = e.same ∙ c.requires.ready.work.same;
-      bare = e.lives ∙ c.requires.ready.work.bare;
-      worker = subst (IsWorkers c.refuse.new.self.call) c.requires.before e.worker;
-      seated = c.requires.ready.work.seated;
-    }))
+    let none : segment_in number_in s.heap.segments c.args.segment ≡ None =
+    sym c.release.ensures.released ∙ c.in_default.is in
+    let rest : KeepsRest s c.refuse.new.self =
+    record { table = e.rest.table; policy = e.rest.policy; number = e.rest.number; hand = e.rest.hand } in
+    record {
+      ready =
+          still_ready s c.refuse.new.self c.requires.ready rest
+          (ap (λ (h : Held RunSegment). h.segments) (e.heap ∙ c.in_default.ensures.unchanged)) e.same
+          (e.lives ∙ c.requires.ready.work.bare)
+          (subst (IsWorkers c.refuse.new.self.call) c.requires.before e.worker);
+      log =
+          e.log
+          ∙ ap (λ call. log_in s.call ++ call ∷ [])
+          (c.requires.call
+          ∙ ap (λ (o : Option (Kept RunSegment)). (event.Abandon c.args.segment, abandon_answer (is_some o))) none);
+      rest = rest;
+    }
 
 -- the segment that goes
 goes : (g : Over) (c : In-Some g)
@@ -110,35 +111,39 @@ call_with-requires-clause-tied g c =
     (view_holds number_in records_in s.heap.segments c.args.segment
     ∙ ap (λ (o : Option (Kept RunSegment)). is_some o) there)))
 
-pub returns-clause-ready : goal.returns-clause-ready
-returns-clause-ready g c =
+pub returns-clause-called : goal.returns-clause-called
+returns-clause-called g c =
     let s = c.args.self.now in
     let e = c.call_with.ensures in
-    let now : c.call_with.new.self.heap.segments ≡ c.release.new.self.segments =
-    ap (λ (h : Held RunSegment). h.segments) e.heap in
+    let there = goes g (goal.at.returns-clause-called g c).In-Some in
     let was : (k : Kept RunSegment) → Contains c.release.new.self.segments k → Contains s.heap.segments k =
     λ k. was_there s.heap.segments c.release.new.self.segments c.in-Some.one k c.in-Some.ensures.rest in
-    ready_from s c.call_with.new.self c.requires.ready
-    (record { table = e.rest.table; policy = e.rest.policy; number = e.rest.number; hand = e.rest.hand })
-    (subst (AreOf number_in s.policy) (sym now)
-    (are_of_part s.policy s.heap.segments c.release.new.self.segments was c.requires.ready.of))
-    (subst
-    (λ (xs : List (Kept RunSegment)).
-    IsAtWork (arc_value s.table).table.shared.table_id s.policy s.number s.hand xs
-    c.call_with.new.self.call)
-    (sym now)
-    (record {
-      same = e.same ∙ c.requires.ready.work.same;
-      bare = e.bare;
-      worker =
-          subst (IsWorkers c.call_with.new.self.call)
-          (c.requires.after
-          ∙ sym (ap (worker_view s.policy s.number s.hand) c.release.ensures.segments))
-          e.worker;
-      seated = λ at k there.
-          let before = was k (Contains-get c.release.new.self.segments at k there) in
-          c.requires.ready.work.seated before.0 k (at_place s.heap.segments k before);
-    }))
+    let rest : KeepsRest s c.call_with.new.self =
+    record { table = e.rest.table; policy = e.rest.policy; number = e.rest.number; hand = e.rest.hand } in
+    record {
+      ready =
+          ready_from s c.call_with.new.self c.release.new.self.segments c.requires.ready rest
+          (ap (λ (h : Held RunSegment). h.segments) e.heap)
+          (are_of_part s.policy s.heap.segments c.release.new.self.segments was c.requires.ready.of)
+          (record {
+            same = e.same ∙ c.requires.ready.work.same;
+            bare = e.bare;
+            worker =
+                subst (IsWorkers c.call_with.new.self.call)
+                (c.requires.after
+                ∙ sym (ap (worker_view s.policy s.number s.hand) c.release.ensures.segments))
+                e.worker;
+            seated = λ at k here.
+                let before = was k (Contains-get c.release.new.self.segments at k here) in
+                c.requires.ready.work.seated before.0 k (at_place s.heap.segments k before);
+          });
+      log =
+          e.log
+          ∙ ap (λ call. log_in s.call ++ call ∷ [])
+          (c.requires.call
+          ∙ ap (λ (o : Option (Kept RunSegment)). (event.Abandon c.args.segment, abandon_answer (is_some o))) there);
+      rest = rest;
+    }
 
 pub returns-clause-pool : goal.returns-clause-pool
 returns-clause-pool g c =

@@ -18,13 +18,13 @@ use Rattle.hg_heap.specs.declared.refused.Refused.{Refused}
 use Rattle.hg_heap.proofs.PolicyKept.{kinds_keep_policy}
 use Rattle.hg_agreement.specs.Agreement.{Ties}
 use Rattle.hg_agreement.specs.Views.{Shown, View}
-use Rattle.hg_run_worker.specs.AtWork.{number_in, records_in, shows_in, steps_in}
-use Rattle.hg_run_worker.proofs.AllocEnds.{Ended, end_held, end_kinds, end_log, end_loan, end_refused, end_same, end_work}
+use Rattle.hg_run_worker.specs.AtWork.{KeepsRest, number_in, records_in, shows_in, steps_in}
+use Rattle.hg_run_worker.proofs.AllocEnds.{Ended, end_called, end_held, end_loan, end_refused}
 use Rattle.hg_run_worker.proofs.ChosenStays.{chosen_stays}
-use Rattle.hg_run_worker.proofs.Course.{kinds_stay, ready_again, rest_twice, view_again}
+use Rattle.hg_run_worker.proofs.Course.{kinds_stay, rest_twice}
 use Rattle.hg_run_worker.proofs.Lettable.{allows_in, may_alloc}
 use Rattle.hg_run_worker.proofs.worker.RunWorker.alloc_at.Goals as goal
-use Rattle.hg_run_worker.proofs.worker.RunWorker.alloc_at.Goals.{After-settled, After-alloc-given}
+use Rattle.hg_run_worker.proofs.worker.RunWorker.alloc_at.Goals.{After-settled, After-alloc-given, After-take_back}
 use Rattle.hg_run_worker.proofs.worker.RunWorker.alloc_at.Given.{Over}
 
 -- the segments are as the policy has them, and the same place is chosen
@@ -144,51 +144,23 @@ take_back-requires-clause-loan g c =
     end_loan c.lend.ensures.lent c.requires.asked c.args.self.now.below c.alloc-given.new.self.segments
     c.alloc-given.result (ended g (goal.at.take_back-requires-clause-loan g c).After-alloc-given (chosen_in g (goal.at.take_back-requires-clause-loan g c).After-settled))
 
-pub returns-clause-ready : goal.returns-clause-ready
-returns-clause-ready g c =
-    let e = ended g (goal.at.returns-clause-ready g c).After-alloc-given (chosen_in g (goal.at.returns-clause-ready g c).After-settled) in
-    let l = c.lend.ensures.lent in
-    let zs = c.alloc-given.new.self.segments in
-    ready_again c.args.self.now c.take_back.new.self c.requires.ready
-    (rest_twice c.args.self.now c.lend.new.self c.take_back.new.self c.lend.ensures.rest
-    (record {
-      table = c.take_back.ensures.rest.table;
-      policy = c.take_back.ensures.rest.policy;
-      number = c.take_back.ensures.rest.number;
-      hand = c.take_back.ensures.rest.hand;
-    }))
-    (end_kinds l c.requires.asked c.args.self.now.below zs c.take_back.ensures.back c.alloc-given.result e)
-    (end_work l c.requires.asked c.args.self.now.below zs c.take_back.ensures.back c.alloc-given.result e)
+-- table, policy, number and hand stay
+rest : (g : Over) (c : After-take_back g) → KeepsRest c.args.self.now c.take_back.new.self
+rest g c =
+    let e = c.take_back.ensures.rest in
+    rest_twice c.args.self.now c.lend.new.self c.take_back.new.self c.lend.ensures.rest
+    (record { table = e.table; policy = e.policy; number = e.number; hand = e.hand })
 
-pub returns-clause-log : goal.returns-clause-log
-returns-clause-log g c =
-    end_log c.lend.ensures.lent c.requires.asked c.args.self.now.below c.alloc-given.new.self.segments
-    c.take_back.ensures.back c.alloc-given.result
-    (ended g (goal.at.returns-clause-log g c).After-alloc-given (chosen_in g (goal.at.returns-clause-log g c).After-settled))
-
-pub returns-clause-same_log : goal.returns-clause-same_log
-returns-clause-same_log g c =
-    end_same c.lend.ensures.lent c.requires.asked c.args.self.now.below c.alloc-given.new.self.segments
-    c.take_back.ensures.back c.alloc-given.result
-    (ended g (goal.at.returns-clause-same_log g c).After-alloc-given (chosen_in g (goal.at.returns-clause-same_log g c).After-settled))
+pub returns-clause-called : goal.returns-clause-called
+returns-clause-called g c =
+    let at = goal.at.returns-clause-called g c in
+    end_called c.args.self.now c.take_back.new.self c.lend.ensures.lent c.requires.asked
+    c.alloc-given.new.self.segments c.take_back.ensures.back c.alloc-given.result
+    (ended g at.After-alloc-given (chosen_in g at.After-settled)) c.requires.ready (rest g at.After-take_back)
 
 pub returns-clause-refused : goal.returns-clause-refused
 returns-clause-refused g c =
     let at = goal.at.returns-clause-refused g c in
-    subst
-    (λ (v : View).
-    IfErr c.alloc-given.result
-    (λ refused.
-    Ties v None (event.Alloc c.args.actor c.args.arena c.args.bytes) (refused_answer refused) v None))
-    (sym
-    (view_again c.args.self.now c.take_back.new.self
-    (rest_twice c.args.self.now c.lend.new.self c.take_back.new.self c.lend.ensures.rest
-    (record {
-      table = c.take_back.ensures.rest.table;
-      policy = c.take_back.ensures.rest.policy;
-      number = c.take_back.ensures.rest.number;
-      hand = c.take_back.ensures.rest.hand;
-    }))))
-    (end_refused c.lend.ensures.lent c.requires.asked c.args.self.now.below
+    end_refused c.args.self.now c.take_back.new.self c.lend.ensures.lent c.requires.asked
     c.alloc-given.new.self.segments c.take_back.ensures.back c.alloc-given.result
-    (ended g at.After-alloc-given (chosen_in g at.After-settled)))
+    (ended g at.After-alloc-given (chosen_in g at.After-settled)) c.requires.ready (rest g at.After-take_back)

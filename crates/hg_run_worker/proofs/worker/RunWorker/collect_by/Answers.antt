@@ -1,15 +1,14 @@
-use Rattle.std.proofs.Common.{◌≡◌, ℕ, ◌<◌, List, None, refl, sym, ap, subst, ◌∙◌}
+use Rattle.std.proofs.Common.{◌≡◌, List, [], ◌∷◌, ◌++◌, None, refl, sym, ap, subst, ◌∙◌}
 use Rattle.std.specs.Arc.{arc_value}
 use Rattle.hg_machine.specs.declared.Answer.TheVariants as answer
 use Rattle.hg_machine.specs.declared.Event.TheVariants as event
-use Rattle.hg_machine.specs.Policy.{Policy}
-use Rattle.hg_segment.specs.Kept.{Kept}
 use Rattle.hg_heap.specs.Held.{Held, kinds}
+use Rattle.hg_heap.proofs.PolicyKept.{kinds_keep_policy}
 use Rattle.hg_run_table.specs.declared.segment.RunSegment.{RunSegment}
-use Rattle.hg_run_table.specs.Calls.{IsTiedAlone}
-use Rattle.hg_run_worker.specs.AtWork.{IsAtWork, hand_generation, hand_place, number_in, worker_view}
+use Rattle.hg_run_table.specs.Calls.{IsTiedAlone, log_in}
+use Rattle.hg_run_worker.specs.AtWork.{IsReady, KeepsRest, hand_generation, hand_place, number_in, worker_view}
 use Rattle.hg_run_worker.proofs.Collected.{seated_still}
-use Rattle.hg_run_worker.proofs.Course.{ready_again}
+use Rattle.hg_run_worker.proofs.Course.{holds_same, ready_from}
 use Rattle.hg_run_worker.proofs.worker.RunWorker.collect_by.Goals as goal
 
 pub call_alone-requires-clause-tied : goal.call_alone-requires-clause-tied
@@ -30,20 +29,19 @@ call_alone-requires-clause-tied g c =
           (hand_generation s.hand) s.below;
     })
 
-pub returns-clause-ready : goal.returns-clause-ready
-returns-clause-ready g c =
+pub returns-clause-called : goal.returns-clause-called
+returns-clause-called g c =
     let s = c.args.self.now in
     let e = c.call_alone.ensures in
     let now : c.call_alone.new.self.heap.segments ≡ c.collect-pages.new.self.segments =
     ap (λ (h : Held RunSegment). h.segments) e.heap in
-    ready_again s c.call_alone.new.self c.requires.ready
-    (record { table = e.rest.table; policy = e.rest.policy; number = e.rest.number; hand = e.rest.hand })
-    (ap (kinds number_in) now ∙ c.collect-pages.ensures.kinds)
-    (subst
-    (λ (xs : List (Kept RunSegment)).
-    IsAtWork (arc_value s.table).table.shared.table_id s.policy s.number s.hand xs
-    c.call_alone.new.self.call)
-    (sym now)
+    let rest : KeepsRest s c.call_alone.new.self =
+    record { table = e.rest.table; policy = e.rest.policy; number = e.rest.number; hand = e.rest.hand } in
+    let same = ap (kinds number_in) now ∙ c.collect-pages.ensures.kinds in
+    let ready : IsReady c.call_alone.new.self =
+    ready_from s c.call_alone.new.self c.collect-pages.new.self.segments c.requires.ready rest now
+    (kinds_keep_policy number_in s.policy s.heap.segments c.collect-pages.new.self.segments
+    c.collect-pages.ensures.kinds c.requires.ready.of)
     (record {
       same = e.same ∙ c.requires.ready.work.same;
       bare = e.lives ∙ c.requires.ready.work.bare;
@@ -51,4 +49,10 @@ returns-clause-ready g c =
       seated =
           seated_still s.heap.segments c.collect-pages.new.self.segments
           c.collect-pages.ensures.collected.rest c.requires.ready.work.seated;
-    }))
+    }) in
+    let log : log_in c.call_alone.new.self.call ≡ log_in s.call
+    ++ (event.Collect, answer.Pages c.collect-pages.result) ∷ [] =
+    e.log
+    ∙ ap (λ call. log_in s.call ++ call ∷ [])
+    (c.requires.call ∙ ap (λ n. (event.Collect, answer.Pages n)) (sym c.collect-pages.ensures.pages)) in
+    (record { ready = ready; log = log; rest = rest }, holds_same s c.call_alone.new.self same)

@@ -10,7 +10,7 @@ use Rattle.hg_heap.specs.Ties.{HeapTies, shown_at}
 use Rattle.hg_heap.specs.Allowed.{MayFree}
 use Rattle.hg_run_worker.specs.AtWork.{number_in, records_in, shows_in}
 use Rattle.hg_run_worker.specs.Lent.{IsTiedStep}
-use Rattle.hg_run_worker.proofs.Course.{at_work, course_kinds, has_loan, held_still, held_there, logged, ready_again, rest_twice}
+use Rattle.hg_run_worker.proofs.Course.{has_called, has_loan, held_still, held_there, rest_twice}
 use Rattle.hg_run_worker.proofs.Lettable.{allows_in, may_free}
 use Rattle.hg_run_worker.proofs.Ends.{free_ends}
 use Rattle.hg_run_worker.proofs.worker.RunWorker.free_asked.Goals as goal
@@ -58,22 +58,14 @@ take_back-requires-clause-loan g c =
     let s = stepped g (goal.at.take_back-requires-clause-loan g c).After-free_here-freed in
     has_loan c.lend.ensures.lent c.requires.asked s.2 c.args.self.now.below
 
-pub returns-clause-ready : goal.returns-clause-ready
-returns-clause-ready g c =
-    let s = stepped g (goal.at.returns-clause-ready g c).After-free_here-freed in
-    let l = c.lend.ensures.lent in
-    ready_again c.args.self.now c.take_back.new.self c.requires.ready
-    (rest_twice c.args.self.now c.lend.new.self c.take_back.new.self c.lend.ensures.rest
-    (record {
-      table = c.take_back.ensures.rest.table;
-      policy = c.take_back.ensures.rest.policy;
-      number = c.take_back.ensures.rest.number;
-      hand = c.take_back.ensures.rest.hand;
-    }))
-    (course_kinds l c.requires.asked s.2 c.args.self.now.below c.take_back.ensures.back)
-    (at_work l c.requires.asked s.2 c.args.self.now.below c.take_back.ensures.back)
-
-pub returns-clause-log : goal.returns-clause-log
-returns-clause-log g c =
-    let s = stepped g (goal.at.returns-clause-log g c).After-free_here-freed in
-    logged c.lend.ensures.lent c.requires.asked s.2 c.args.self.now.below c.take_back.ensures.back
+pub returns : goal.returns
+returns g c =
+    let s = stepped g (goal.at.returns g c).After-free_here-freed in
+    let e = c.take_back.ensures in
+    record {
+      called =
+          has_called c.args.self.now c.take_back.new.self c.lend.ensures.lent c.requires.asked s.2 c.requires.ready
+          (rest_twice c.args.self.now c.lend.new.self c.take_back.new.self c.lend.ensures.rest
+          (record { table = e.rest.table; policy = e.rest.policy; number = e.rest.number; hand = e.rest.hand }))
+          e.back;
+    }

@@ -5,8 +5,7 @@ use Rattle.hg_heap.specs.Answers.{read_answer}
 use Rattle.hg_run_table.proofs.Answering.{may_leave}
 use Rattle.hg_run_table.proofs.AnswersAre.{looks_may_answer}
 use Rattle.hg_run_worker.specs.Lent.{IsTiedStep}
-use Rattle.hg_run_worker.proofs.Course.{all_stays, at_work, back_keeps, course_kinds, has_loan, held_still, held_there, lent_asks, logged}
-use Rattle.hg_run_worker.proofs.Course.{ready_again, rest_twice}
+use Rattle.hg_run_worker.proofs.Course.{all_stays, back_keeps, has_called, has_loan, held_still, held_there, lent_asks, rest_twice}
 use Rattle.hg_machine.specs.Policy.{Policy}
 use Rattle.hg_heap.specs.Ties.{HeapTies, shown_at}
 use Rattle.hg_run_worker.specs.AtWork.{number_in, records_in}
@@ -56,25 +55,14 @@ take_back-requires-clause-loan g c =
     let s = stepped g (goal.at.take_back-requires-clause-loan g c).After-read-value in
     has_loan c.lend.ensures.lent c.requires.asked s.1 c.args.self.now.below
 
-pub returns-clause-ready : goal.returns-clause-ready
-returns-clause-ready g c =
-    let s = stepped g (goal.at.returns-clause-ready g c).After-read-value in
-    let l = c.lend.ensures.lent in
-    ready_again c.args.self.now c.take_back.new.self c.requires.ready
+pub returns-clause-called : goal.returns-clause-called
+returns-clause-called g c =
+    let s = stepped g (goal.at.returns-clause-called g c).After-read-value in
+    let e = c.take_back.ensures in
+    has_called c.args.self.now c.take_back.new.self c.lend.ensures.lent c.requires.asked s.1 c.requires.ready
     (rest_twice c.args.self.now c.lend.new.self c.take_back.new.self c.lend.ensures.rest
-    (record {
-      table = c.take_back.ensures.rest.table;
-      policy = c.take_back.ensures.rest.policy;
-      number = c.take_back.ensures.rest.number;
-      hand = c.take_back.ensures.rest.hand;
-    }))
-    (course_kinds l c.requires.asked s.1 c.args.self.now.below c.take_back.ensures.back)
-    (at_work l c.requires.asked s.1 c.args.self.now.below c.take_back.ensures.back)
-
-pub returns-clause-log : goal.returns-clause-log
-returns-clause-log g c =
-    let s = stepped g (goal.at.returns-clause-log g c).After-read-value in
-    logged c.lend.ensures.lent c.requires.asked s.1 c.args.self.now.below c.take_back.ensures.back
+    (record { table = e.rest.table; policy = e.rest.policy; number = e.rest.number; hand = e.rest.hand }))
+    e.back
 
 pub returns-clause-kept : goal.returns-clause-kept
 returns-clause-kept g c =

@@ -4,15 +4,14 @@ use Rattle.std.specs.Arc.{arc_value}
 use Rattle.hg_machine.specs.declared.Event.TheVariants as event
 use Rattle.hg_segment.specs.Kept.{Kept}
 use Rattle.hg_heap.specs.Held.{Held, is_held}
-use Rattle.hg_heap.specs.Policies.{AreOf}
 use Rattle.hg_pool.specs.Pooled.{next_in}
 use Rattle.hg_roles.specs.Roles.{of_pool}
 use Rattle.hg_run_table.specs.declared.segment.RunSegment.{RunSegment}
 use Rattle.hg_run_table.specs.Calls.{IsWorkers, log_in}
 use Rattle.hg_run_table.specs.JoinedCalls.{IsOthers, IsTiedTogether}
-use Rattle.hg_run_worker.specs.AtWork.{IsAtWork, number_in, worker_view}
+use Rattle.hg_run_worker.specs.AtWork.{KeepsRest, number_in, worker_view}
 use Rattle.hg_run_worker.specs.Pools.{left_pool, pool_part, refill_answer, with_taken}
-use Rattle.hg_run_worker.proofs.Course.{at_position, ready_from}
+use Rattle.hg_run_worker.proofs.Course.{at_position, ready_from, still_ready}
 use Rattle.hg_run_worker.proofs.NextTaken.{next_there}
 use Rattle.hg_run_worker.proofs.Refills.{are_of_more, arena_low, more_seated, pool_again, refill_owes}
 use Rattle.hg_run_worker.proofs.worker.RunWorker.refill_by.Goals as goal
@@ -44,30 +43,26 @@ pub call_with-requires-clause-tied : goal.call_with-requires-clause-tied
 call_with-requires-clause-tied g c =
     owed g (goal.at.call_with-requires-clause-tied g c).After-next_of None c.in_default.is tt
 
-pub returns-in_default-clause-ready : goal.returns-in_default-clause-ready
-returns-in_default-clause-ready g c =
+pub returns-in_default-clause-called : goal.returns-in_default-clause-called
+returns-in_default-clause-called g c =
     let s = c.args.self.now in
     let e = c.call_with.ensures in
     let none : next_in c.args.pool.now.pool c.args.arena ≡ None = sym c.next_of.ensures.next ∙ c.in_default.is in
-    let same : c.call_with.new.self.heap.segments ≡ s.heap.segments =
-    ap (λ (h : Held RunSegment). h.segments) e.heap in
-    ready_from s c.call_with.new.self c.requires.ready e.rest
-    (subst (AreOf number_in s.policy) (sym same) c.requires.ready.of)
-    (subst
-    (λ (xs : List (Kept RunSegment)).
-    IsAtWork (arc_value s.table).table.shared.table_id s.policy s.number s.hand xs
-    c.call_with.new.self.call)
-    (sym same)
-    (record {
-      same = e.same ∙ c.requires.ready.work.same;
-      bare = e.bare;
-      worker =
-          subst (IsWorkers c.call_with.new.self.call)
+    record {
+      ready =
+          still_ready s c.call_with.new.self c.requires.ready e.rest
+          (ap (λ (h : Held RunSegment). h.segments) e.heap) e.same e.bare
+          (subst (IsWorkers c.call_with.new.self.call)
           (c.requires.after
           ∙ ap (λ (q : Option (Kept RunSegment)). worker_view s.policy s.number s.hand (with_taken q s.heap.segments)) none)
-          e.worker;
-      seated = c.requires.ready.work.seated;
-    }))
+          e.worker);
+      log =
+          e.log
+          ∙ ap (λ call. log_in s.call ++ call ∷ [])
+          (c.requires.call
+          ∙ ap (λ (q : Option (Kept RunSegment)). (event.Refill c.args.arena, refill_answer (option_map (λ one. number_in one.slots) q))) none);
+      rest = e.rest;
+    }
 
 pub returns-in_default-clause-pool : goal.returns-in_default-clause-pool
 returns-in_default-clause-pool g c =
@@ -115,38 +110,44 @@ adopt-requires-clause-arena g c =
     (next_there c.args.pool.now.pool c.args.arena c.in-Some.one
     (taken_there g (goal.at.adopt-requires-clause-arena g c).In-Some)))
 
-pub returns-clause-ready : goal.returns-clause-ready
-returns-clause-ready g c =
+pub returns-clause-called : goal.returns-clause-called
+returns-clause-called g c =
     let s = c.args.self.now in
     let p = c.args.pool.now in
     let one = c.in-Some.one in
     let e = c.call_with-2.ensures in
-    let next = taken_there g (goal.at.returns-clause-ready g c).In-Some in
+    let next = taken_there g (goal.at.returns-clause-called g c).In-Some in
     let there = next_there p.pool c.args.arena one next in
     let now : c.adopt.new.self.segments ≡ s.heap.segments ++ one ∷ [] =
     c.adopt.ensures.segments
     ∙ ap (λ (h : Held RunSegment). h.segments ++ one ∷ []) (e.heap ∙ c.in_default-release.ensures.unchanged) in
-    ready_from s _ c.requires.ready (record { table = e.rest.table; policy = e.rest.policy; number = e.rest.number; hand = e.rest.hand })
-    (subst (AreOf number_in s.policy) (sym now)
-    (are_of_more p.pool s.heap.segments one there c.requires.pool.seated c.requires.pool.of
-    c.requires.ready.of))
-    (subst
-    (λ (xs : List (Kept RunSegment)).
-    IsAtWork (arc_value s.table).table.shared.table_id s.policy s.number s.hand xs
-    c.call_with-2.new.self.call)
-    (sym now)
-    (record {
-      same = e.same ∙ c.requires.ready.work.same;
-      bare = e.bare;
-      worker =
-          subst (IsWorkers c.call_with-2.new.self.call)
-          (c.requires.after
-          ∙ ap (λ (q : Option (Kept RunSegment)). worker_view s.policy s.number s.hand (with_taken q s.heap.segments)) next)
-          e.worker;
-      seated =
-          more_seated p.pool s.heap.segments one there c.requires.pool.seated c.requires.pool.of
-          c.requires.ready.work.seated;
-    }))
+    let rest : KeepsRest s _ =
+    record { table = e.rest.table; policy = e.rest.policy; number = e.rest.number; hand = e.rest.hand } in
+    record {
+      ready =
+          ready_from s _ (s.heap.segments ++ one ∷ []) c.requires.ready rest now
+          (are_of_more p.pool s.heap.segments one there c.requires.pool.seated c.requires.pool.of
+          c.requires.ready.of)
+          (record {
+            same = e.same ∙ c.requires.ready.work.same;
+            bare = e.bare;
+            worker =
+                subst (IsWorkers c.call_with-2.new.self.call)
+                (c.requires.after
+                ∙ ap (λ (q : Option (Kept RunSegment)). worker_view s.policy s.number s.hand (with_taken q s.heap.segments)) next)
+                e.worker;
+            seated =
+                more_seated p.pool s.heap.segments one there c.requires.pool.seated c.requires.pool.of
+                c.requires.ready.work.seated;
+          });
+      log =
+          e.log
+          ∙ ap (λ call. log_in s.call ++ call ∷ [])
+          (c.requires.call
+          ∙ ap (λ (q : Option (Kept RunSegment)). (event.Refill c.args.arena, refill_answer (option_map (λ one. number_in one.slots) q))) next
+          ∙ ap (λ n. (event.Refill c.args.arena, refill_answer (Some n))) (sym c.number-segment.ensures));
+      rest = rest;
+    }
 
 pub returns-clause-pool : goal.returns-clause-pool
 returns-clause-pool g c =
