@@ -1,9 +1,9 @@
 -- What the pool's part has and what a worker has, as a segment goes to the pool.
 use Rattle.std.specs.Prelude.{find, option_map, is_some}
 use Rattle.std.specs.Option.{option_or}
-use Rattle.std.proofs.Common.{◌≡◌, ◌≢◌, ℕ, ◌%◌, ◌<◌, ◌==◌, ◌&&◌, Bool, true, false, cond, not, List, [], ◌∷◌, ◌++◌}
-use Rattle.std.proofs.Common.{length, map, Option, Some, None, Contains, refl, sym, ap, ◌∙◌, inl, inr, if◌then◌else◌}
-use Rattle.std.proofs.lemmas.Bool.{cases_eq, eq-eqb, ne_eqb, eqb-true, true≢false, and_left}
+use Rattle.std.proofs.Common.{◌≡◌, ◌≢◌, ℕ, ◌%◌, ◌==◌, ◌&&◌, Bool, true, false, cond, not, List, [], ◌∷◌, ◌++◌}
+use Rattle.std.proofs.Common.{map, Option, Some, None, refl, sym, ap, ◌∙◌, inl, inr, if◌then◌else◌}
+use Rattle.std.proofs.lemmas.Bool.{cases_eq, eq-eqb, ne_eqb, true≢false}
 use Rattle.std.proofs.lemmas.List.{map-append}
 use Rattle.std.proofs.lemmas.List.Folds.{find-append}
 use Rattle.hg_place.specs.declared.Handle.{Handle}
@@ -17,7 +17,6 @@ use Rattle.hg_heap.specs.Held.{is_held, segment_in}
 use Rattle.hg_heap.specs.Ties.{holding}
 use Rattle.hg_heap.proofs.ViewRoom.{holding_in, view_holds}
 use Rattle.hg_roles.specs.Pooling.{let_go, put_back}
-use Rattle.hg_roles.specs.Roles as roles
 use Rattle.hg_run_table.specs.declared.segment.RunSegment.{RunSegment}
 use Rattle.hg_run_worker.specs.AtWork.{number_in, records_in, worker_view}
 use Rattle.hg_run_worker.specs.Pools.{holdings_in, pool_part, pooled_in, with_orphan}

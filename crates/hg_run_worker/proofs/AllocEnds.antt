@@ -1,34 +1,31 @@
 -- How an allocation at a segment to which the worker's part was lent ends: by a step that gives a block out, or by
 -- none.
-use Rattle.std.specs.Prelude.{option_map}
-use Rattle.std.proofs.Common.{◌≡◌, ℕ, ◌+◌, ◌*◌, ◌/◌, ◌<◌, ◌≤◌, true, List, [], ◌∷◌, ◌++◌, length, Option, Some, None}
-use Rattle.std.proofs.Common.{Result, Ok, Err, IfOk, IfErr, refl, sym, ap, subst, ◌∙◌, arith}
-use Rattle.std.proofs.lemmas.Bool.{eqb-true}
+use Rattle.std.proofs.Common.{◌≡◌, ℕ, ◌<◌, ◌≤◌, true, List, [], ◌∷◌, length, Option, Some, None}
+use Rattle.std.proofs.Common.{Result, Ok, Err, IfOk, IfErr, sym, ap, subst, ◌∙◌}
 use Rattle.std.specs.Arc.{arc_value}
 use Rattle.atomic_table.specs.Seated.{TableId}
 use Rattle.hg_place.specs.declared.Actor.{Actor}
 use Rattle.hg_place.specs.declared.Handle.{Handle}
 use Rattle.hg_place.specs.Lives.{live_word}
-use Rattle.hg_place.specs.Places.{number_of, segment_of}
 use Rattle.hg_machine.specs.declared.Answer.TheVariants as answer
 use Rattle.hg_machine.specs.declared.Event.{Event}
 use Rattle.hg_machine.specs.declared.Event.TheVariants as event
 use Rattle.hg_machine.specs.Policy.{Policy}
-use Rattle.hg_machine.specs.Request.{size_of}
 use Rattle.hg_segment.specs.Kept.{Kept}
 use Rattle.hg_agreement.specs.Views.{View}
 use Rattle.hg_agreement.specs.Agreement.{Ties}
-use Rattle.hg_heap.specs.Allotted.{IsAllotted}
 use Rattle.hg_heap.specs.Answers.{refused_answer}
 use Rattle.hg_heap.specs.Held.{is_held, segment_in}
-use Rattle.hg_heap.specs.Ties.{HeapTies, shown_at}
+use Rattle.hg_heap.specs.Ties.{HeapTies}
 use Rattle.hg_heap.specs.declared.refused.Refused.{Refused}
 use Rattle.hg_run_table.specs.declared.segment.RunSegment.{RunSegment}
 use Rattle.hg_run_table.specs.declared.table.RunSeat.{RunSeat}
 use Rattle.hg_run_worker.specs.declared.worker.RunWorker.{RunWorker}
 use Rattle.hg_run_worker.specs.AtWork.{HasCalledHere, IsReady, IsStill, KeepsRest, hand_generation, hand_place, number_in, records_in, view_in}
 use Rattle.hg_run_worker.specs.Lent.{HasComeBack, IsLent, IsTiedStep}
-use Rattle.hg_run_worker.proofs.Course.{has_called, has_loan, held_still, held_there, holds_same, ready_again, view_again}
+use Rattle.hg_run_worker.proofs.Course.{has_loan, held_still}
+use Rattle.hg_run_worker.proofs.SlotsLent.{held_there}
+use Rattle.hg_run_worker.proofs.Ready.{has_called, holds_same, ready_again, view_again}
 use Rattle.hg_run_worker.proofs.Course.{unstepped_kinds, unstepped_loan, unstepped_logged, unstepped_view, unstepped_work}
 
 module _ {id : TableId} {policy : Policy} {number : ℕ} {hand : Option Handle}

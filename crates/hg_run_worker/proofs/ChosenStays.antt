@@ -10,14 +10,14 @@ use Rattle.hg_size.specs.Runs.{may_begin}
 use Rattle.hg_segment.specs.Kept.{Kept, class_at}
 use Rattle.hg_segment.specs.Right.{vacant_in}
 use Rattle.hg_heap.specs.Choice.{begun_or, blank_by, blank_of, blank_on, chosen_place, front_page, next_index}
-use Rattle.hg_heap.specs.Held.{all_pages, is_some_place, KeepsLists, lists_on, segment_in}
+use Rattle.hg_heap.specs.Held.{all_pages, is_some_place, KeepsLists, segment_in}
 use Rattle.hg_heap.specs.Keeping.{Rest, rest_of}
 use Rattle.hg_heap.specs.SlotsChanged.{SlotsChanged}
 use Rattle.hg_heap.proofs.Founds.{map_same, pair, told_in}
 use Rattle.hg_heap.proofs.Judging.{rest_same}
 use Rattle.hg_run_table.specs.declared.segment.RunSegment.{RunSegment}
 use Rattle.hg_run_worker.specs.AtWork.{number_in, records_in, shows_in, numbers_in}
-use Rattle.hg_run_worker.proofs.Course.{changed_one}
+use Rattle.hg_run_worker.proofs.SlotsLent.{changed_one}
 
 -- the places of a page that may get a class, by all that is told of its segment
 abbrev room_told : ℕ → ℕ → ℕ → Rest → Bool → List ℕ

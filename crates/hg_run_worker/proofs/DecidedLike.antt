@@ -1,14 +1,12 @@
 -- What a call of a worker and the pool owes is owed as well where each has then what a sound state can't tell from
 -- it.
-use Rattle.std.proofs.Common.{◌≡◌, ℕ, List, [], ◌∷◌, ◌++◌, None, refl, sym, ◌∙◌}
+use Rattle.std.proofs.Common.{◌≡◌, List, None, refl, ◌∙◌}
 use Rattle.hg_machine.specs.Policy.{Policy}
 use Rattle.hg_machine.specs.Soundness.{IsSound}
 use Rattle.hg_machine.specs.State.{State}
 use Rattle.hg_agreement.specs.Views.{View}
 use Rattle.hg_agreement.specs.Changed.{IsLike}
 use Rattle.hg_agreement.proofs.Frames.{like_agrees}
-use Rattle.hg_history.specs.History.{log_of}
-use Rattle.hg_history.specs.Service.{IsIn}
 use Rattle.hg_roles.specs.Joined.{both_called}
 use Rattle.hg_roles.specs.Roles.{Call, Pooled, Role, of_worker, of_remote, of_pool, of_segment}
 use Rattle.hg_roles.specs.Roles.{PoolAgrees, RoleAgrees, calls_in, name_of}

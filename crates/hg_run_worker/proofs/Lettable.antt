@@ -1,8 +1,8 @@
 -- What slot words allow of an allocation, where the worker's part is lent to the segment of the chosen place and
 -- is asked the allocation.
 use Rattle.std.specs.Prelude.{option_map}
-use Rattle.std.proofs.Common.{◌≡◌, ◌≢◌, ℕ, ◌+◌, ◌-◌, ◌*◌, ◌/◌, ◌%◌, ◌<◌, ◌==◌, ◌&&◌, nat_lt, not, Bool, true, false, cond, List, [], ◌∷◌, length}
-use Rattle.std.proofs.Common.{Option, Some, None, refl, sym, ap, subst, ◌∙◌, arith, Contains, map, inl, inr}
+use Rattle.std.proofs.Common.{◌≡◌, ◌≢◌, ℕ, ◌+◌, ◌-◌, ◌*◌, ◌%◌, ◌<◌, ◌==◌, ◌&&◌, nat_lt, not, Bool, true, false, cond, List, [], ◌∷◌}
+use Rattle.std.proofs.Common.{Option, Some, None, refl, sym, ap, subst, ◌∙◌, arith, Contains, inl, inr}
 use Rattle.std.specs.Arc.{arc_value}
 use Rattle.std.proofs.lemmas.Bool.{and_parts, eqb-true, or_cases, true≢false}
 use Rattle.hg_size.specs.Sizes.{places_of}
@@ -15,7 +15,6 @@ use Rattle.atomic_table.specs.Seated.{TableId}
 use Rattle.hg_lists.specs.Repeats.{HasNoRepeats}
 use Rattle.hg_place.specs.declared.Actor.{Actor}
 use Rattle.hg_place.specs.declared.Handle.{Handle}
-use Rattle.hg_place.specs.declared.Place.{Place}
 use Rattle.hg_place.specs.declared.standing.Standing.{Standing}
 use Rattle.hg_place.specs.declared.standing.Standing.TheVariants.{Home, Open}
 use Rattle.hg_place.specs.Lives.{live_word}
@@ -33,7 +32,6 @@ use Rattle.hg_segment.specs.Kept.{Kept}
 use Rattle.hg_agreement.specs.Views.{View}
 use Rattle.hg_agreement.specs.Agreement.{Ties}
 use Rattle.hg_agreement.specs.Changed.{opened}
-use Rattle.hg_agreement.specs.Holdings.{standing_told}
 use Rattle.hg_agreement.specs.Seen.{refusal_in, alloc_in, is_room_in, is_open_to_in, has_open_in}
 use Rattle.hg_agreement.specs.Changed.{freed}
 use Rattle.hg_agreement.proofs.Allocs.{alloc_is_tied}
@@ -49,7 +47,7 @@ use Rattle.hg_heap.specs.Held.{Held, segment_in}
 use Rattle.hg_heap.specs.Policies.{AreOf}
 use Rattle.hg_heap.specs.Queues.{AreQueued}
 use Rattle.hg_heap.specs.Settled.{IsSettled}
-use Rattle.hg_heap.specs.Ties.{heap_view, holding, shown_at}
+use Rattle.hg_heap.specs.Ties.{heap_view, shown_at}
 use Rattle.hg_heap.proofs.AllocCall.{same_verdict}
 use Rattle.hg_heap.proofs.AllocRooms.{chosen_room}
 use Rattle.std.specs.List.{position_or_len}
@@ -66,7 +64,8 @@ use Rattle.hg_run_table.proofs.Answering.{may_leave}
 use Rattle.hg_run_table.proofs.AnswersAre.{ties_may_answer}
 use Rattle.hg_run_worker.specs.AtWork.{number_in, records_in, shows_in, steps_in, numbers_in, hand_place, hand_generation}
 use Rattle.hg_run_worker.specs.Lent.{IsLent}
-use Rattle.hg_run_worker.proofs.Course.{at_position, lent_asks, view_stays}
+use Rattle.hg_run_worker.proofs.Course.{lent_asks}
+use Rattle.hg_run_worker.proofs.SlotsLent.{at_position, view_stays}
 
 -- the steps that a segment's seat allows
 abbrev pub allows_in : RunSegment → ℕ → ℕ → ℕ → Type 0

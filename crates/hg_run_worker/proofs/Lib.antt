@@ -1,4 +1,6 @@
+pub mod SlotsLent
 pub mod Course
+pub mod Ready
 pub mod Lettable
 pub mod Ends
 pub mod Refusals

@@ -1,21 +1,19 @@
 -- What the pool's part has and what a worker has, as a segment goes from the one to the other.
-use Rattle.std.specs.Prelude.{find, option_map, is_some, nat_lt, if◌then◌else◌}
-use Rattle.std.specs.List.{list_any, range_with_len, count_by, AllByRecursion}
+use Rattle.std.specs.Prelude.{option_map, is_some, nat_lt, if◌then◌else◌}
+use Rattle.std.specs.List.{list_any, count_by}
 use Rattle.std.specs.Option.{option_or}
-use Rattle.std.proofs.Common.{◌≡◌, ◌≢◌, ℕ, zero, suc, ◌+◌, ◌%◌, ◌<◌, ◌≤◌, ◌==◌, ◌&&◌, ◌||◌, Bool, true, false}
-use Rattle.std.proofs.Common.{cond, not, List, [], ◌∷◌, ◌++◌, length, map, filter, Option, Some, None, Contains}
-use Rattle.std.proofs.Common.{refl, sym, ap, subst, ◌∙◌, arith, inl, inr}
-use Rattle.std.proofs.lemmas.Bool.{cases_eq, cases_Bool, cases_lt, eq-eqb, ne_eqb, eqb-true, lt-ltb, true≢false}
+use Rattle.std.proofs.Common.{◌≡◌, ◌≢◌, ℕ, ◌%◌, ◌<◌, ◌==◌, ◌&&◌, ◌||◌, Bool, true, false}
+use Rattle.std.proofs.Common.{cond, not, List, [], ◌∷◌, ◌++◌, length, map, filter, Option, Some, None}
+use Rattle.std.proofs.Common.{refl, sym, ap, ◌∙◌, arith, inl, inr}
+use Rattle.std.proofs.lemmas.Bool.{cases_eq, cases_Bool, eq-eqb, ne_eqb, eqb-true, lt-ltb, true≢false}
 use Rattle.std.proofs.lemmas.List.Elements.{filter-append}
 use Rattle.std.proofs.lemmas.List.Folds.{find-append}
 use Rattle.hg_place.specs.declared.Handle.{Handle}
-use Rattle.hg_place.specs.declared.standing.Standing.{Standing}
 use Rattle.hg_place.specs.Places.{segment_of, segment_of_page}
 use Rattle.hg_place.specs.Words.{bit_of}
 use Rattle.hg_machine.specs.Holders.{is_fresh, is_orphan}
 use Rattle.hg_machine.specs.Policy.{Policy}
-use Rattle.hg_machine.specs.Soundness.{IsSound}
-use Rattle.hg_machine.specs.State.{State, Holder, fresh, orphan, held, holder_at}
+use Rattle.hg_machine.specs.State.{Holder, fresh, orphan, held, holder_at}
 use Rattle.hg_segment.specs.Kept.{Kept}
 use Rattle.hg_pool.specs.Pooled.{Pooled, is_numbered, numbers, segment_of as pooled_at, without_number, without_segment}
 use Rattle.hg_agreement.specs.Changed.{IsLike}

@@ -7,7 +7,6 @@ use Rattle.std.specs.Prelude.{IsPermutation}
 use Rattle.std.proofs.lemmas.List.Sorted.{Contains-permutation, IsPermutation-sym}
 use Rattle.std.proofs.lemmas.Option.{slice_get-get_or, slice_get_within, get_or_from_slice_get}
 use Rattle.atomic_table.specs.Seated.{TableId}
-use Rattle.hg_lists.specs.Repeats.{HasNoRepeats}
 use Rattle.hg_place.specs.declared.Handle.{Handle}
 use Rattle.hg_machine.specs.declared.Event.TheVariants as event
 use Rattle.hg_machine.specs.Policy.{Policy, arena_of}
@@ -18,14 +17,12 @@ use Rattle.hg_heap.specs.Policies.{AreOf, IsOf}
 use Rattle.hg_heap.proofs.Allotting.{found_first}
 use Rattle.hg_heap.proofs.Filtered.{contained_filter}
 use Rattle.hg_heap.proofs.Founds.{Contains-get, found_is}
-use Rattle.hg_pool.specs.Pooled.{IsRight, Pooled, is_numbered, next_in, numbers, segment_of as pooled_at, without_segment}
+use Rattle.hg_pool.specs.Pooled.{IsRight, Pooled, is_numbered, next_in, segment_of as pooled_at}
 use Rattle.hg_roles.specs.Roles.{Call, of_pool}
 use Rattle.hg_run_table.specs.declared.segment.RunSegment.{RunSegment}
-use Rattle.hg_run_table.specs.declared.table.RunSeat.{RunSeat}
-use Rattle.hg_run_table.specs.Calls.{IsWorkers}
 use Rattle.hg_run_table.specs.JoinedCalls.{IsOthers, IsTiedTogether}
 use Rattle.hg_run_table.proofs.NamedSteps.{no_refill_tied, refill_tied}
-use Rattle.hg_run_worker.specs.AtWork.{IsAtWork, IsSeated, number_in, records_in, worker_view}
+use Rattle.hg_run_worker.specs.AtWork.{IsSeated, number_in, records_in, worker_view}
 use Rattle.hg_run_worker.specs.declared.pool.RunPool.{RunPool}
 use Rattle.hg_run_worker.specs.Pools.{IsPoolOf, left_pool, pool_part, pooled_in, refill_answer, with_orphan, with_taken}
 use Rattle.hg_run_worker.proofs.DecidedLike.{tied_like}

@@ -1,7 +1,7 @@
 -- An allocation that the heap refuses, whatever word any place has.
 use Rattle.std.specs.Prelude.{option_map, find}
 use Rattle.std.proofs.Common.{◌≡◌, ℕ, ◌+◌, ◌*◌, ◌<◌, ◌≤◌, Bool, true, false, cond, List, [], ◌∷◌, length}
-use Rattle.std.proofs.Common.{Option, Some, None, refl, sym, ap, subst, ◌∙◌, arith, Contains, inl, inr}
+use Rattle.std.proofs.Common.{Option, Some, None, refl, sym, ap, ◌∙◌, arith, Contains, inl, inr}
 use Rattle.std.proofs.lemmas.Bool.{cases_Bool, ltb-true}
 use Rattle.hg_lists.specs.Repeats.{HasNoRepeats}
 use Rattle.hg_place.specs.declared.Actor.{Actor}
@@ -11,7 +11,7 @@ use Rattle.hg_size.specs.Sizes.{sizes}
 use Rattle.hg_machine.specs.declared.AllocVerdict.{AllocVerdict}
 use Rattle.hg_machine.specs.declared.Answer.{Answer}
 use Rattle.hg_machine.specs.declared.Event.TheVariants as event
-use Rattle.hg_machine.specs.Policy.{Policy, is_tenant}
+use Rattle.hg_machine.specs.Policy.{Policy}
 use Rattle.hg_machine.specs.Request.{words_for, alloc_verdict}
 use Rattle.hg_segment.specs.Kept.{Kept}
 use Rattle.hg_agreement.specs.Views.{View}

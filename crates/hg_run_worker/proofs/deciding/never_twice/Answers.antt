@@ -1,5 +1,5 @@
-use Rattle.std.proofs.Common.{◌≡◌, ◌++◌, ◌∷◌, [], ap, length, refl, sym, subst, ◌∙◌, arith}
-use Rattle.hg_table.specs.View.{View, part_of}
+use Rattle.std.proofs.Common.{◌≡◌, ◌++◌, ◌∷◌, [], ap, length, refl, subst, ◌∙◌, arith}
+use Rattle.hg_table.specs.View.{part_of}
 use Rattle.hg_run_table.specs.Told.{ArePartsApart}
 use Rattle.hg_run_worker.proofs.deciding.never_twice.Goals as goal
 

@@ -1,13 +1,11 @@
-use Rattle.std.proofs.Common.{◌≡◌, ◌++◌, ◌∷◌, [], Bool, List, Option, Some, None, Contains, true, false, not, is_some, refl, sym, ap, subst, ◌∙◌}
-use Rattle.std.specs.Arc.{arc_value}
+use Rattle.std.proofs.Common.{◌≡◌, ◌++◌, ◌∷◌, [], Bool, Option, Some, None, Contains, not, is_some, sym, ap, subst, ◌∙◌}
 use Rattle.hg_machine.specs.First.{first_of}
 use Rattle.hg_machine.specs.declared.Answer.TheVariants as answer
 use Rattle.hg_machine.specs.declared.Event.TheVariants as event
 use Rattle.hg_segment.specs.Kept.{Kept}
-use Rattle.hg_heap.specs.Held.{Held, is_held, segment_in}
+use Rattle.hg_heap.specs.Held.{Held, segment_in}
 use Rattle.hg_heap.proofs.Founds.{Contains-get}
 use Rattle.hg_heap.proofs.ViewRoom.{found_one, view_holds}
-use Rattle.hg_pool.specs.Pooled.{Pooled}
 use Rattle.hg_roles.specs.Roles.{of_pool}
 use Rattle.hg_run_table.specs.declared.segment.RunSegment.{RunSegment}
 use Rattle.hg_run_table.specs.Calls.{IsRefused, IsWorkers, log_in}
@@ -16,7 +14,8 @@ use Rattle.hg_run_table.proofs.NamedSteps.{abandon_tied}
 use Rattle.hg_run_worker.specs.AtWork.{KeepsRest, number_in, records_in, worker_view}
 use Rattle.hg_run_worker.specs.Pools.{abandon_answer, pool_part, pooled_in, with_orphan}
 use Rattle.hg_run_worker.proofs.Abandons.{let_go_like, put_back_like}
-use Rattle.hg_run_worker.proofs.Course.{at_position, ready_from, still_ready}
+use Rattle.hg_run_worker.proofs.SlotsLent.{at_position}
+use Rattle.hg_run_worker.proofs.Ready.{ready_from, still_ready}
 use Rattle.hg_run_worker.proofs.DecidedLike.{tied_like}
 use Rattle.hg_run_worker.proofs.Refills.{are_of_part, at_place, pool_with, was_there}
 use Rattle.hg_run_worker.proofs.worker.RunWorker.abandon_by.Goals as goal

@@ -1,5 +1,5 @@
 use Rattle.std.specs.Prelude.{option_map}
-use Rattle.std.proofs.Common.{◌≡◌, ℕ, ◌∙◌, List, Option, Some, None, Result, Ok, Err, IfOk, IfErr, refl, sym, ap, subst, arith}
+use Rattle.std.proofs.Common.{◌≡◌, ℕ, ◌∙◌, List, Option, Some, None, Result, Ok, Err, IfOk, IfErr, sym, ap, subst, arith}
 use Rattle.std.proofs.lemmas.Bool.{eqb-true}
 use Rattle.hg_place.specs.declared.Handle.{Handle}
 use Rattle.hg_place.specs.Lives.{live_word}
@@ -16,12 +16,12 @@ use Rattle.hg_heap.specs.Policies.{AreOf}
 use Rattle.hg_heap.specs.Ties.{HeapTies, shown_at}
 use Rattle.hg_heap.specs.declared.refused.Refused.{Refused}
 use Rattle.hg_heap.proofs.PolicyKept.{kinds_keep_policy}
-use Rattle.hg_agreement.specs.Agreement.{Ties}
-use Rattle.hg_agreement.specs.Views.{Shown, View}
+use Rattle.hg_agreement.specs.Views.{Shown}
 use Rattle.hg_run_worker.specs.AtWork.{KeepsRest, number_in, records_in, shows_in, steps_in}
 use Rattle.hg_run_worker.proofs.AllocEnds.{Ended, end_called, end_held, end_loan, end_refused}
 use Rattle.hg_run_worker.proofs.ChosenStays.{chosen_stays}
-use Rattle.hg_run_worker.proofs.Course.{kinds_stay, rest_twice}
+use Rattle.hg_run_worker.proofs.SlotsLent.{kinds_stay}
+use Rattle.hg_run_worker.proofs.Ready.{rest_twice}
 use Rattle.hg_run_worker.proofs.Lettable.{allows_in, may_alloc}
 use Rattle.hg_run_worker.proofs.worker.RunWorker.alloc_at.Goals as goal
 use Rattle.hg_run_worker.proofs.worker.RunWorker.alloc_at.Goals.{After-settled, After-alloc-given, After-take_back}

@@ -1,5 +1,4 @@
-use Rattle.std.proofs.Common.{◌≡◌, List, [], ◌∷◌, ◌++◌, None, refl, sym, ap, subst, ◌∙◌}
-use Rattle.std.specs.Arc.{arc_value}
+use Rattle.std.proofs.Common.{◌≡◌, [], ◌∷◌, ◌++◌, None, refl, sym, ap, subst, ◌∙◌}
 use Rattle.hg_machine.specs.declared.Answer.TheVariants as answer
 use Rattle.hg_machine.specs.declared.Event.TheVariants as event
 use Rattle.hg_heap.specs.Held.{Held, kinds}
@@ -8,7 +7,7 @@ use Rattle.hg_run_table.specs.declared.segment.RunSegment.{RunSegment}
 use Rattle.hg_run_table.specs.Calls.{IsTiedAlone, log_in}
 use Rattle.hg_run_worker.specs.AtWork.{IsReady, KeepsRest, hand_generation, hand_place, number_in, worker_view}
 use Rattle.hg_run_worker.proofs.Collected.{seated_still}
-use Rattle.hg_run_worker.proofs.Course.{holds_same, ready_from}
+use Rattle.hg_run_worker.proofs.Ready.{holds_same, ready_from}
 use Rattle.hg_run_worker.proofs.worker.RunWorker.collect_by.Goals as goal
 
 pub call_alone-requires-clause-tied : goal.call_alone-requires-clause-tied

@@ -1,16 +1,13 @@
-use Rattle.std.proofs.Common.{◌≡◌, ℕ, ◌∙◌, ◌-◌, refl, subst, sym, List, Ok, Err, Result, OnOk, IfErr, ap}
-use Rattle.std.proofs.lemmas.Bool.{eqb-true}
-use Rattle.hg_place.specs.Places.{number_of}
+use Rattle.std.proofs.Common.{ℕ, subst, sym}
 use Rattle.hg_machine.specs.Policy.{Policy}
 use Rattle.hg_machine.specs.declared.Event.TheVariants as event
-use Rattle.hg_machine.specs.declared.Answer.TheVariants as answer
-use Rattle.hg_machine.specs.declared.Answer.{Answer}
 use Rattle.hg_heap.specs.Answers.{done_answer}
-use Rattle.hg_heap.specs.Ties.{HeapTies, shown_at}
 use Rattle.hg_heap.specs.Allowed.{MayFree}
-use Rattle.hg_run_worker.specs.AtWork.{number_in, records_in, shows_in}
+use Rattle.hg_run_worker.specs.AtWork.{number_in, shows_in}
 use Rattle.hg_run_worker.specs.Lent.{IsTiedStep}
-use Rattle.hg_run_worker.proofs.Course.{has_called, has_loan, held_still, held_there, rest_twice}
+use Rattle.hg_run_worker.proofs.Course.{has_loan, held_still}
+use Rattle.hg_run_worker.proofs.SlotsLent.{held_there}
+use Rattle.hg_run_worker.proofs.Ready.{has_called, rest_twice}
 use Rattle.hg_run_worker.proofs.Lettable.{allows_in, may_free}
 use Rattle.hg_run_worker.proofs.Ends.{free_ends}
 use Rattle.hg_run_worker.proofs.worker.RunWorker.free_asked.Goals as goal

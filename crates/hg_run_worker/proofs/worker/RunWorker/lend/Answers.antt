@@ -1,9 +1,9 @@
-use Rattle.std.proofs.Common.{◌≡◌, ◌∙◌, [], ◌∷◌, refl, sym}
+use Rattle.std.proofs.Common.{◌∙◌, [], ◌∷◌, refl, sym}
 use Rattle.hg_roles.specs.Roles.{of_worker}
 use Rattle.hg_run_table.specs.Calls.{log_in}
 use Rattle.hg_run_table.specs.Seated.{HaveRoles}
 use Rattle.hg_run_worker.specs.AtWork.{worker_view}
-use Rattle.hg_run_worker.proofs.Course.{at_position}
+use Rattle.hg_run_worker.proofs.SlotsLent.{at_position}
 use Rattle.hg_run_worker.proofs.worker.RunWorker.lend.Goals as goal
 use Rattle.hg_run_worker.proofs.worker.RunWorker.lend.Goals.{After-ask}
 use Rattle.hg_run_worker.proofs.worker.RunWorker.lend.Given.{Over}

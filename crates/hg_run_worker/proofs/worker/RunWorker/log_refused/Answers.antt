@@ -1,4 +1,4 @@
-use Rattle.std.proofs.Common.{◌≡◌, ℕ, ◌<◌, false, [], ◌∷◌, ◌++◌, ◌∙◌, refl, sym, subst, ap}
+use Rattle.std.proofs.Common.{◌≡◌, ℕ, false, [], ◌∷◌, ◌++◌, ◌∙◌, refl, sym, subst, ap}
 use Rattle.hg_machine.specs.declared.Event.TheVariants as event
 use Rattle.hg_frame.specs.SlotWords.{changes_word}
 use Rattle.hg_heap.specs.Answers.{refused_answer}
@@ -8,7 +8,7 @@ use Rattle.hg_run_table.specs.Calls.{IsTiedAlone, IsWorkers, log_in}
 use Rattle.hg_heap.specs.Held.{Held, kinds}
 use Rattle.hg_run_table.specs.declared.segment.RunSegment.{RunSegment}
 use Rattle.hg_run_worker.specs.AtWork.{number_in}
-use Rattle.hg_run_worker.proofs.Course.{holds_same, still_ready}
+use Rattle.hg_run_worker.proofs.Ready.{holds_same, still_ready}
 use Rattle.hg_run_worker.proofs.worker.RunWorker.log_refused.Goals as goal
 
 -- a refusal of an allocation changes no word

@@ -1,11 +1,8 @@
-use Rattle.std.proofs.Common.{◌≡◌, ℕ, List, [], ◌∷◌, None, refl, sym, ap, subst, ◌∙◌, arith, drop}
-use Rattle.hg_machine.specs.Policy.{Policy}
-use Rattle.hg_segment.specs.Kept.{Kept}
+use Rattle.std.proofs.Common.{◌≡◌, [], None, refl, sym, ap, subst, ◌∙◌, arith, drop}
 use Rattle.hg_heap.specs.Policies.{AreOf}
 use Rattle.hg_heap.proofs.Founds.{inside_of}
 use Rattle.hg_roles.specs.FirstParts.{idle}
 use Rattle.hg_table.specs.View.{View}
-use Rattle.hg_run_table.specs.declared.segment.RunSegment.{RunSegment}
 use Rattle.hg_run_table.specs.declared.table.RunTable.{RunTable}
 use Rattle.hg_run_table.proofs.WorkerSteps.{own_log}
 use Rattle.hg_run_table.specs.Calls.{log_in}

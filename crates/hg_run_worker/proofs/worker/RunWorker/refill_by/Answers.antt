@@ -1,5 +1,5 @@
 use Rattle.std.specs.Prelude.{option_map}
-use Rattle.std.proofs.Common.{◌≡◌, ◌++◌, ◌∷◌, [], List, Option, Some, None, IfSome, false, refl, sym, ap, subst, ◌∙◌}
+use Rattle.std.proofs.Common.{◌≡◌, ◌++◌, ◌∷◌, [], Option, Some, None, IfSome, false, sym, ap, subst, ◌∙◌}
 use Rattle.std.specs.Arc.{arc_value}
 use Rattle.hg_machine.specs.declared.Event.TheVariants as event
 use Rattle.hg_segment.specs.Kept.{Kept}
@@ -11,7 +11,8 @@ use Rattle.hg_run_table.specs.Calls.{IsWorkers, log_in}
 use Rattle.hg_run_table.specs.JoinedCalls.{IsOthers, IsTiedTogether}
 use Rattle.hg_run_worker.specs.AtWork.{KeepsRest, number_in, worker_view}
 use Rattle.hg_run_worker.specs.Pools.{left_pool, pool_part, refill_answer, with_taken}
-use Rattle.hg_run_worker.proofs.Course.{at_position, ready_from, still_ready}
+use Rattle.hg_run_worker.proofs.SlotsLent.{at_position}
+use Rattle.hg_run_worker.proofs.Ready.{ready_from, still_ready}
 use Rattle.hg_run_worker.proofs.NextTaken.{next_there}
 use Rattle.hg_run_worker.proofs.Refills.{are_of_more, arena_low, more_seated, pool_again, refill_owes}
 use Rattle.hg_run_worker.proofs.worker.RunWorker.refill_by.Goals as goal

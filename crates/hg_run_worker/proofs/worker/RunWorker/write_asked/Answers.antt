@@ -1,11 +1,13 @@
-use Rattle.std.proofs.Common.{ℕ, ◌∙◌, refl, subst, sym}
+use Rattle.std.proofs.Common.{ℕ, refl, subst, sym}
 use Rattle.std.proofs.lemmas.Bool.{true≢false}
 use Rattle.hg_machine.specs.declared.Event.TheVariants as event
 use Rattle.hg_heap.specs.Answers.{done_answer}
 use Rattle.hg_run_table.proofs.Answering.{may_leave}
 use Rattle.hg_run_table.proofs.AnswersAre.{looks_may_answer}
 use Rattle.hg_run_worker.specs.Lent.{IsTiedStep}
-use Rattle.hg_run_worker.proofs.Course.{has_called, has_loan, held_still, held_there, lent_asks, rest_twice}
+use Rattle.hg_run_worker.proofs.Course.{has_loan, held_still, lent_asks}
+use Rattle.hg_run_worker.proofs.SlotsLent.{held_there}
+use Rattle.hg_run_worker.proofs.Ready.{has_called, rest_twice}
 use Rattle.hg_machine.specs.Policy.{Policy}
 use Rattle.hg_heap.specs.Ties.{HeapTies, shown_at}
 use Rattle.hg_run_worker.specs.AtWork.{number_in, records_in}
