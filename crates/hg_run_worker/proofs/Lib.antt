@@ -12,4 +12,5 @@ pub mod NextTaken
 pub mod Refills
 pub mod Collected
 pub mod Abandons
+pub mod Reach
 pub mod NewPools

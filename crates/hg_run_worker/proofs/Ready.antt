@@ -1,5 +1,5 @@
 -- A worker is ready again behind a call.
-use Rattle.std.proofs.Common.{◌≡◌, ◌==◌, ℕ, List, [], ◌∷◌}
+use Rattle.std.proofs.Common.{◌≡◌, ◌==◌, ℕ, List, [], ◌∷◌, ◌++◌}
 use Rattle.std.proofs.Common.{map, refl, sym, ap, subst, ◌∙◌}
 use Rattle.std.proofs.Common.{is_some, find}
 use Rattle.std.proofs.lemmas.Simd.{map-map}
@@ -12,7 +12,7 @@ use Rattle.hg_heap.specs.Policies.{AreOf}
 use Rattle.hg_heap.proofs.PolicyKept.{kinds_keep_policy}
 use Rattle.hg_heap.proofs.Founds.{held_by}
 use Rattle.hg_run_table.specs.declared.segment.RunSegment.{RunSegment}
-use Rattle.hg_run_table.specs.Calls.{IsWorkers}
+use Rattle.hg_run_table.specs.Calls.{IsWorkers, log_in}
 use Rattle.hg_run_worker.specs.AtWork.{IsAtWork, number_in, worker_view}
 use Rattle.hg_run_worker.specs.AtWork.{view_in, HasCalledHere, HoldsSame, IsReady, KeepsRest}
 use Rattle.hg_run_worker.specs.declared.worker.RunWorker.{RunWorker}
@@ -102,3 +102,14 @@ has_called old new l is_asked s ready rest back =
       },
       holds_same old new same,
     )
+
+-- a call that its part alone has made, which changes nothing but the log
+pub decided_here : {event : Event} {answer : Answer} (old new : RunWorker) → IsReady old
+    → KeepsRest old new → new.heap.segments ≡ old.heap.segments
+    → new.call.seat.table_id ≡ old.call.seat.table_id → new.call.seat.me.0.lives ≡ []
+    → IsWorkers new.call (view_in old) → log_in new.call ≡ log_in old.call ++ (event, answer) ∷ []
+    → HasCalledHere event answer old new
+decided_here old new ready rest now same bare worker log = (
+  record { ready = still_ready old new ready rest now same bare worker; log = log; rest = rest },
+  holds_same old new (ap (kinds number_in) now),
+)

@@ -3,6 +3,7 @@
 
 mod abandoning;
 mod allocating;
+mod away;
 mod beginning;
 mod collecting;
 mod deciding;

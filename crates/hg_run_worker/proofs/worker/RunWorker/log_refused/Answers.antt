@@ -8,7 +8,7 @@ use Rattle.hg_run_table.specs.Calls.{IsTiedAlone, IsWorkers, log_in}
 use Rattle.hg_heap.specs.Held.{Held, kinds}
 use Rattle.hg_run_table.specs.declared.segment.RunSegment.{RunSegment}
 use Rattle.hg_run_worker.specs.AtWork.{number_in}
-use Rattle.hg_run_worker.proofs.Ready.{holds_same, still_ready}
+use Rattle.hg_run_worker.proofs.Ready.{decided_here}
 use Rattle.hg_run_worker.proofs.worker.RunWorker.log_refused.Goals as goal
 
 -- a refusal of an allocation changes no word
@@ -36,18 +36,11 @@ pub returns : goal.returns
 returns g c =
     let s = c.args.self.now in
     let e = c.call_alone.ensures in
-    let now : c.call_alone.new.self.heap.segments ≡ s.heap.segments =
-    ap (λ (h : Held RunSegment). h.segments) e.heap in
     record {
-      called = (
-        record {
-          ready =
-              still_ready s c.call_alone.new.self c.requires.ready e.rest now e.same
-              (e.lives ∙ c.requires.ready.work.bare)
-              (subst (IsWorkers c.call_alone.new.self.call) c.requires.after e.worker);
-          log = e.log ∙ ap (λ call. log_in s.call ++ call ∷ []) c.requires.call;
-          rest = e.rest;
-        },
-        holds_same s c.call_alone.new.self (ap (kinds number_in) now),
-      );
+      called =
+          decided_here s c.call_alone.new.self c.requires.ready e.rest
+          (ap (λ (h : Held RunSegment). h.segments) e.heap) e.same
+          (e.lives ∙ c.requires.ready.work.bare)
+          (subst (IsWorkers c.call_alone.new.self.call) c.requires.after e.worker)
+          (e.log ∙ ap (λ call. log_in s.call ++ call ∷ []) c.requires.call);
     }

@@ -1,0 +1,84 @@
+use Rattle.std.proofs.Common.{◌≡◌, ℕ, ◌<◌, Option, Some, None, true, false, not, is_some, length, refl, sym, ap, subst, ◌∙◌, arith}
+use Rattle.std.proofs.lemmas.Option.{slice_get_within}
+use Rattle.hg_place.specs.Places.{number_of}
+use Rattle.hg_machine.specs.Policy.{Policy, arena_of}
+use Rattle.hg_agreement.proofs.Frames.{refused_is_tied}
+use Rattle.hg_heap.specs.Held.{Held}
+use Rattle.hg_heap.specs.Ties.{shown_at}
+use Rattle.hg_roles.specs.Served.{places_of_policy}
+use Rattle.hg_run_table.specs.Calls.{IsTiedAlone, IsTiedAt, IsWorkers}
+use Rattle.hg_run_table.specs.declared.segment.RunSegment.{RunSegment}
+use Rattle.hg_run_worker.specs.AtWork.{view_in}
+use Rattle.hg_run_worker.proofs.Ready.{decided_here}
+use Rattle.hg_run_worker.proofs.worker.RunWorker.refuse_away.Goals as goal
+
+none_is : (o : Option ℕ) → is_some o ≡ false → o ≡ None
+none_is None e = refl
+none_is (Some n) e = absurd (cc)
+
+some_within : (policy : Policy) (segment : ℕ) (o : Option ℕ) → arena_of policy segment ≡ o
+    → is_some o ≡ true → segment < length policy.segments
+some_within policy segment None is e = absurd (cc)
+some_within policy segment (Some arena) is e = slice_get_within policy.segments segment arena is
+
+pub call_alone-requires-clause-tied : goal.call_alone-requires-clause-tied
+call_alone-requires-clause-tied g c =
+    let s = c.args.self.now in
+    let r = c.requires in
+    let none : arena_of s.policy c.args.place.segment ≡ None =
+    sym c.arena_of.ensures ∙ none_is c.arena_of.result (c.is_none.ensures ∙ ap not c.if-is_none.true) in
+    subst
+    (λ (p : Policy).
+    IsTiedAlone p (view_in s) (g.C.RefusedCall.event, g.C.RefusedCall.refused 0) (view_in s))
+    (sym r.ready.key)
+    (record {
+      own = record { worker = s.below; same = refl; own = r.own };
+      none = λ other below. r.unchanged 0 other;
+      ties =
+          refused_is_tied (view_in s) None g.C.RefusedCall.event (g.C.RefusedCall.refused 0) s.below
+          (r.about None none) (r.refused 0);
+    })
+
+pub returns-then-is_none-clause-called : goal.returns-then-is_none-clause-called
+returns-then-is_none-clause-called g c =
+    let e = c.call_alone.ensures in
+    decided_here c.args.self.now c.call_alone.new.self c.requires.ready e.rest
+    (ap (λ (h : Held RunSegment). h.segments) e.heap) e.same (e.lives ∙ c.requires.ready.work.bare)
+    e.worker e.log
+
+pub look_deciding-requires-clause-place : goal.look_deciding-requires-clause-place
+look_deciding-requires-clause-place g c =
+    let s = c.args.self.now in
+    let place = c.args.place in
+    let inside : place.segment < length s.policy.segments =
+    some_within s.policy place.segment c.arena_of.result (sym c.arena_of.ensures)
+    (c.is_none.ensures ∙ ap not c.if-is_none.false) in
+    subst (λ (p : Policy). number_of place < places_of_policy p) (sym c.requires.ready.key)
+    (let a = place.page_below in
+    let b = place.index_below in
+    omega (arith, inside, a, b))
+
+pub look_deciding-requires-clause-tied : goal.look_deciding-requires-clause-tied
+look_deciding-requires-clause-tied g c = λ word.
+    let s = c.args.self.now in
+    let r = c.requires in
+    subst
+    (λ (p : Policy).
+    IsTiedAt p (number_of c.args.place) word word (view_in s)
+    (g.C.RefusedCall.event, g.C.RefusedCall.refused word) (view_in s))
+    (sym r.ready.key)
+    (record {
+      own = record { worker = s.below; same = refl; own = r.own };
+      alone = λ other below changes. absurd (let no = r.unchanged word other in cc);
+      ties =
+          refused_is_tied (view_in s) (shown_at c.args.place word) g.C.RefusedCall.event
+          (g.C.RefusedCall.refused word) s.below (r.about (shown_at c.args.place word) refl)
+          (r.refused word);
+    })
+
+pub returns-clause-called : goal.returns-clause-called
+returns-clause-called g c =
+    let e = c.look_deciding.ensures in
+    decided_here c.args.self.now c.look_deciding.new.self c.requires.ready e.rest
+    (ap (λ (h : Held RunSegment). h.segments) e.heap) e.same (e.bare c.requires.ready.work.bare)
+    e.worker e.log
