@@ -24,7 +24,7 @@ use Rattle.hg_run_worker.specs.declared.worker.RunWorker.{RunWorker}
 use Rattle.hg_run_worker.specs.AtWork.{HasCalledHere, IsReady, IsStill, KeepsRest, hand_generation, hand_place, number_in, records_in, view_in}
 use Rattle.hg_run_worker.specs.Lent.{HasComeBack, IsLent, IsTiedStep}
 use Rattle.hg_run_worker.proofs.Course.{has_loan, held_still}
-use Rattle.hg_run_worker.proofs.SlotsLent.{held_there}
+use Rattle.hg_run_worker.proofs.SlotsLent.{held_there, view_stays}
 use Rattle.hg_run_worker.proofs.Ready.{has_called, holds_same, ready_again, view_again}
 use Rattle.hg_run_worker.proofs.Course.{unstepped_kinds, unstepped_loan, unstepped_logged, unstepped_view, unstepped_work}
 
@@ -84,6 +84,10 @@ module _ {asked : List (List Event)} {ys : List (Kept RunSegment)} {segment : �
           log = unstepped_logged l is_asked came;
           rest = rest;
           holds = holds_same old new same;
+          view =
+              view_again old new rest ∙ unstepped_view l is_asked came
+              ∙ view_stays l.once l.lent old.policy old.number (hand_place old.hand)
+              (hand_generation old.hand);
         },
         subst
             (λ (v : View). Ties v None (event.Alloc actor arena bytes) (refused_answer refused) v None)

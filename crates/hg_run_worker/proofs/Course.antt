@@ -191,7 +191,7 @@ module _ {id : TableId} {policy : Policy} {number : ℕ} {hand : Option Handle}
         stepped.before.slots.seat.seat.me.0.run stepped.after.slots.seat.seat.me.0.run (who_asks asks).0
         stepped.stepped.answered)
 
-    tied : Ties view (shown_at place word) e a after (shown_at place left)
+    pub tied : Ties view (shown_at place word) e a after (shown_at place left)
     tied =
         subst (λ (v : View). Ties v (shown_at place word) e a after (shown_at place left))
         (view_stays once lent policy number (hand_place hand) (hand_generation hand))
@@ -259,3 +259,7 @@ module _ {id : TableId} {policy : Policy} {number : ℕ} {hand : Option Handle}
       -- all else of each segment stays
       pub back_keeps : KeepsAll number_in records_in zs ws
       back_keeps = all_stays once_stepped given
+
+      -- what the worker has then is what the step left
+      pub view_back : worker_view policy number hand ws ≡ after
+      view_back = view_stays once_stepped given policy number (hand_place hand) (hand_generation hand)

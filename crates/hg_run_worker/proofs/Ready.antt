@@ -1,6 +1,6 @@
 -- A worker is ready again behind a call.
 use Rattle.std.proofs.Common.{◌≡◌, ◌==◌, ℕ, List, [], ◌∷◌, ◌++◌}
-use Rattle.std.proofs.Common.{map, refl, sym, ap, subst, ◌∙◌}
+use Rattle.std.proofs.Common.{map, Option, refl, sym, ap, subst, ◌∙◌}
 use Rattle.std.proofs.Common.{is_some, find}
 use Rattle.std.proofs.lemmas.Simd.{map-map}
 use Rattle.hg_place.specs.declared.Place.{Place}
@@ -8,18 +8,21 @@ use Rattle.hg_machine.specs.declared.Event.{Event}
 use Rattle.hg_machine.specs.declared.Answer.{Answer}
 use Rattle.hg_segment.specs.Kept.{Kept}
 use Rattle.hg_heap.specs.Held.{Kind, kind_of, kinds}
+use Rattle.hg_agreement.specs.Agreement.{Ties}
+use Rattle.hg_agreement.specs.Views.{Shown, View}
+use Rattle.hg_heap.specs.Ties.{shown_at}
 use Rattle.hg_heap.specs.Policies.{AreOf}
 use Rattle.hg_heap.proofs.PolicyKept.{kinds_keep_policy}
 use Rattle.hg_heap.proofs.Founds.{held_by}
 use Rattle.hg_run_table.specs.declared.segment.RunSegment.{RunSegment}
 use Rattle.hg_run_table.specs.Calls.{IsWorkers, log_in}
 use Rattle.hg_run_worker.specs.AtWork.{IsAtWork, number_in, worker_view}
-use Rattle.hg_run_worker.specs.AtWork.{view_in, HasCalledHere, HoldsSame, IsReady, KeepsRest}
+use Rattle.hg_run_worker.specs.AtWork.{view_in, HasCalledHere, HoldsSame, IsReady, IsStill, KeepsRest}
 use Rattle.hg_run_worker.specs.declared.worker.RunWorker.{RunWorker}
 use Rattle.hg_run_table.specs.declared.table.RunTable.{RunTable}
 use Rattle.std.specs.Arc.{arc_value}
 use Rattle.hg_run_worker.specs.Lent.{HasComeBack, IsLent, IsTiedStep}
-use Rattle.hg_run_worker.proofs.Course.{at_work, course_kinds, logged}
+use Rattle.hg_run_worker.proofs.Course.{at_work, course_kinds, logged, tied, view_back}
 
 pub rest_twice : (old mid new : RunWorker) → KeepsRest old mid → KeepsRest mid new → KeepsRest old new
 rest_twice old mid new one two = record {
@@ -93,23 +96,55 @@ pub has_called : {asked : List (List Event)} {ys zs : List (Kept RunSegment)} {s
     {word left : ℕ} {a : Answer} (s : IsTiedStep old.policy segment place word left e a ys zs)
     → IsReady old → KeepsRest old new → HasComeBack segment zs new.call new.heap.segments
     → HasCalledHere e a old new
-has_called old new l is_asked s ready rest back =
-    let same = course_kinds l is_asked s old.below back in (
-      record {
+has_called old new l {e} is_asked {place} {word} {left} {a} s ready rest back =
+    let same = course_kinds l is_asked s old.below back in
+    record {
+      called = record {
         ready = ready_again old new ready rest same (at_work l is_asked s old.below back);
         log = logged l is_asked s old.below back;
         rest = rest;
-      },
-      holds_same old new same,
-    )
+      };
+      holds = holds_same old new same;
+      tied = (
+        shown_at place word,
+        shown_at place left,
+        subst (λ (v : View). Ties (view_in old) (shown_at place word) e a v (shown_at place left))
+            (sym (view_again old new rest ∙ view_back l is_asked s old.below back))
+            (tied l is_asked s old.below),
+      );
+    }
 
 -- a call that its part alone has made, which changes nothing but the log
-pub decided_here : {event : Event} {answer : Answer} (old new : RunWorker) → IsReady old
-    → KeepsRest old new → new.heap.segments ≡ old.heap.segments
+pub decided_here : {event : Event} {answer : Answer} {shown left : Option Shown} (old new : RunWorker)
+    → IsReady old → KeepsRest old new → new.heap.segments ≡ old.heap.segments
     → new.call.seat.table_id ≡ old.call.seat.table_id → new.call.seat.me.0.lives ≡ []
     → IsWorkers new.call (view_in old) → log_in new.call ≡ log_in old.call ++ (event, answer) ∷ []
-    → HasCalledHere event answer old new
-decided_here old new ready rest now same bare worker log = (
-  record { ready = still_ready old new ready rest now same bare worker; log = log; rest = rest },
-  holds_same old new (ap (kinds number_in) now),
-)
+    → Ties (view_in old) shown event answer (view_in old) left → HasCalledHere event answer old new
+decided_here {event} {answer} {shown} {left} old new ready rest now same bare worker log tied = record {
+  called = record { ready = still_ready old new ready rest now same bare worker; log = log; rest = rest };
+  holds = holds_same old new (ap (kinds number_in) now);
+  tied = (
+    shown,
+    left,
+    subst (λ (v : View). Ties (view_in old) shown event answer v left)
+        (sym (view_again old new rest ∙ ap (worker_view old.policy old.number old.hand) now)) tied,
+  );
+}
+
+-- a call that was made by a worker that still has what another time it had is made by that one
+pub called_from : {event : Event} {answer : Answer} (old mid new : RunWorker) → IsStill old mid
+    → HasCalledHere event answer mid new → HasCalledHere event answer old new
+called_from {event} {answer} old mid new still made = record {
+  called = record {
+    ready = made.called.ready;
+    log = made.called.log ∙ ap (λ calls. calls ++ (event, answer) ∷ []) still.log;
+    rest = rest_twice old mid new still.rest made.called.rest;
+  };
+  holds = λ segment. made.holds segment ∙ still.holds segment;
+  tied = (
+    made.tied.0,
+    made.tied.1,
+    subst (λ (v : View). Ties v made.tied.0 event answer (view_in new) made.tied.1) still.view
+        made.tied.2,
+  );
+}

@@ -11,7 +11,8 @@ use Rattle.hg_machine.specs.declared.Answer.{Answer}
 use Rattle.hg_machine.specs.declared.Event.{Event}
 use Rattle.hg_machine.specs.Policy.{Policy}
 use Rattle.hg_segment.specs.Kept.{Kept}
-use Rattle.hg_agreement.specs.Views.{View}
+use Rattle.hg_agreement.specs.Agreement.{Ties}
+use Rattle.hg_agreement.specs.Views.{Shown, View}
 use Rattle.hg_heap.specs.Held.{is_held}
 use Rattle.hg_heap.specs.Policies.{AreOf}
 use Rattle.hg_heap.specs.Ties.{heap_view}
@@ -97,18 +98,26 @@ pub record HasCalled (event : Event) (answer : Answer) (old new : RunWorker) : T
   pub log : log_in new.call ≡ log_in old.call ++ (event, answer) ∷ []
   pub rest : KeepsRest old new
 
--- and it holds the segments that it held
+-- it holds the segments that it held
 abbrev pub HoldsSame : RunWorker → RunWorker → Type 0
 HoldsSame old new =
     (segment : ℕ)
     → is_held number_in new.heap.segments segment ≡ is_held number_in old.heap.segments segment
 
-abbrev pub HasCalledHere : Event → Answer → RunWorker → RunWorker → Type 0
-HasCalledHere event answer old new = HasCalled event answer old new × HoldsSame old new
+-- A call that moves no segment: in every state that agrees with what the worker had, and with the word that its
+-- step found, if it made one, the answer is the machine's, and the state after it agrees with what the worker has
+-- then, and with the word left
+pub record HasCalledHere (event : Event) (answer : Answer) (old new : RunWorker) : Type 0 where
+  pub called : HasCalled event answer old new
+  pub holds : HoldsSame old new
+  pub tied :
+      (shown : Option Shown) × (left : Option Shown)
+      × Ties (view_in old) shown event answer (view_in new) left
 
--- nothing that is told of it has changed but slot words
+-- it is ready again, nothing is logged, and it has what it had
 pub record IsStill (old new : RunWorker) : Type 0 where
   pub ready : IsReady new
   pub log : log_in new.call ≡ log_in old.call
   pub rest : KeepsRest old new
   pub holds : HoldsSame old new
+  pub view : view_in new ≡ view_in old

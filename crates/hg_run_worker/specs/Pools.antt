@@ -1,5 +1,5 @@
 -- The pool of a table that keeps one run: its part of the run, by the segments that no worker holds.
-use Rattle.std.specs.Prelude.{◌≡◌, ℕ, ◌%◌, ◌==◌, Bool, true, false, nat_lt, List, [], ◌∷◌, ◌++◌, length, map}
+use Rattle.std.specs.Prelude.{◌≡◌, ℕ, ◌%◌, ◌==◌, Bool, true, false, nat_lt, List, [], ◌∷◌, ◌++◌, length, map, reverse}
 use Rattle.std.specs.Prelude.{Option, Some, None, Contains, if◌then◌else◌}
 use Rattle.std.specs.List.{list_any}
 use Rattle.atomic_table.specs.Seated.{TableId}
@@ -11,6 +11,8 @@ use Rattle.hg_machine.specs.Policy.{Policy}
 use Rattle.hg_segment.specs.Kept.{Kept}
 use Rattle.hg_pool.specs.Pooled.{Pooled, numbers, without_segment}
 use Rattle.hg_agreement.specs.Holdings.{Holding, holding_of, class_told, standing_told, block_told}
+use Rattle.hg_queue.specs.Queues.{queue_of}
+use Rattle.hg_heap.specs.Entering.{pages_of_key}
 use Rattle.hg_heap.specs.Policies.{AreOf}
 use Rattle.hg_heap.specs.Ties.{holding}
 use Rattle.hg_roles.specs.Roles as roles
@@ -62,6 +64,12 @@ left_pool (Some one) pool = without_segment number_in pool (number_in one.slots)
 abbrev pub with_taken : Option (Kept RunSegment) → List (Kept RunSegment) → List (Kept RunSegment)
 with_taken None segments = segments
 with_taken (Some one) segments = segments ++ one ∷ []
+
+-- its pages that have a place to give out are in front of their queues, the greatest of a key foremost
+abbrev pub QueuesTaken : Option (Kept RunSegment) → List (List ℕ) → List (List ℕ) → Type 0
+QueuesTaken None old new = new ≡ old
+QueuesTaken (Some one) old new =
+    (key : ℕ) → queue_of new key ≡ reverse (pages_of_key number_in one key) ++ queue_of old key
 
 -- and what it is answered
 abbrev pub refill_answer : Option ℕ → Answer

@@ -4,7 +4,7 @@ ghost use Rattle.std.specs.Prelude.{◌≡◌, ◌≢◌, ℕ, false, [], ◌∷
 ghost use Rattle.std.specs.Arc.{arc_value};
 ghost use Rattle.hg_machine.specs.declared.Event.TheVariants as Event;
 ghost use Rattle.hg_heap.specs.Held.{is_held, segment_in};
-ghost use Rattle.hg_heap.specs.Releasing.{without_segment};
+ghost use Rattle.hg_heap.specs.Releasing.{without_pages, without_segment};
 ghost use Rattle.hg_roles.specs.Roles.{of_pool};
 ghost use Rattle.hg_run_worker.specs.AtWork.{HasCalled, IsReady, number_in, view_in, worker_view};
 ghost use Rattle.hg_run_worker.specs.Pools.{IsPoolOf, abandon_answer, pool_part, with_orphan};
@@ -29,6 +29,7 @@ impl RunWorker {
         ensures held { result ≡ is_held number_in self.old.heap.segments segment }
         ensures left { self.new.heap.segments
             ≡ without_segment number_in self.old.heap.segments segment }
+        ensures queues { self.new.heap.queues ≡ without_pages segment self.old.heap.queues }
         ensures put { pool.new.pool ≡ with_orphan
             (segment_in number_in self.old.heap.segments segment) pool.old.pool }
     {
@@ -57,6 +58,7 @@ impl RunWorker {
         ensures held { result ≡ is_held number_in self.old.heap.segments segment }
         ensures left { self.new.heap.segments
             ≡ without_segment number_in self.old.heap.segments segment }
+        ensures queues { self.new.heap.queues ≡ without_pages segment self.old.heap.queues }
         ensures put { pool.new.pool ≡ with_orphan
             (segment_in number_in self.old.heap.segments segment) pool.old.pool }
     {

@@ -1,8 +1,8 @@
 //! Blocks are given out of segments that the worker holds.
 
-ghost use Rattle.std.specs.Prelude.{◌≡◌, true, None, Some, [], ◌∷◌, IfOk, IfErr, Contains};
+ghost use Rattle.std.specs.Prelude.{◌≡◌, ◌≢◌, true, None, Some, Err, [], ◌∷◌, IfOk, IfErr, Contains};
 ghost use Rattle.std.specs.Prelude.{option_map};
-ghost use Rattle.hg_place.specs.Places.{segment_of};
+ghost use Rattle.hg_place.specs.Places.{number_of, segment_of};
 ghost use Rattle.hg_size.specs.Sizes.{sizes};
 ghost use Rattle.hg_machine.specs.Request.{size_of};
 ghost use Rattle.hg_machine.specs.declared.Answer.TheVariants as Answer;
@@ -10,6 +10,7 @@ ghost use Rattle.hg_machine.specs.declared.Event.TheVariants as Event;
 ghost use Rattle.hg_agreement.specs.Agreement.{Ties};
 ghost use Rattle.hg_heap.specs.Answers.{alloc_answer, refused_answer};
 ghost use Rattle.hg_heap.specs.Choice.{chosen_place};
+ghost use Rattle.hg_heap.specs.declared.refused.Refused.TheVariants.{NoRoom};
 ghost use Rattle.hg_heap.specs.Held.{is_held};
 ghost use Rattle.hg_run_worker.specs.AtWork.{HasCalledHere, IsReady, IsStill, number_in};
 ghost use Rattle.hg_run_worker.specs.AtWork.{records_in, view_in};
@@ -23,11 +24,19 @@ use hg_size::{block_words, words_of};
 use std::marker::Brand;
 
 impl RunWorker {
-    /// Gives out a block of so many bytes of an arena, and logs the Alloc with its answer.
+    /// Gives out a block of so many bytes, all words 0, of a segment of this arena that the worker holds:
+    /// the first that the order of choice has. Logs the Alloc with its answer. `Denied` and `TooLarge`
+    /// come by the policy and the actor's charge, `NoRoom` where no place is left for a block of the
+    /// class; a refusal changes the log alone.
     pub fn alloc(&mut self, actor: Actor, arena: u8, bytes: u64) -> Result<Handle, Refused>
         requires ready { IsReady self.old }
         ensures called { HasCalledHere (Event.Alloc actor arena bytes) (alloc_answer result)
             self.old self.new }
+        ensures chosen { IfOk result (λ handle.
+            chosen_place number_in records_in self.old.heap arena (size_of bytes)
+            ≡ Some (number_of handle.place)) }
+        ensures no_room { result ≡ Err NoRoom
+            → chosen_place number_in records_in self.old.heap arena (size_of bytes) ≡ None }
     {
         let segment = match self.segment_for(actor, arena, bytes) {
             Ok(segment) => segment,
@@ -56,6 +65,8 @@ impl RunWorker {
         ensures sized { IfOk result (λ segment. Contains sizes (size_of bytes)) }
         ensures refused { IfErr result (λ refused. Ties (view_in self.now) None
             (Event.Alloc actor arena bytes) (refused_answer refused) (view_in self.now) None) }
+        ensures no_room { result ≡ Err NoRoom
+            → chosen_place number_in records_in self.now.heap arena (size_of bytes) ≡ None }
     {
         // a policy hands out that it is sound, and a heap what it keeps
         let _workers = self.policy.workers();
@@ -91,6 +102,10 @@ impl RunWorker {
         ensures called { IfOk result (λ handle.
             HasCalledHere (Event.Alloc actor arena bytes) (Answer.Block handle)
             self.old self.new) }
+        ensures chosen { IfOk result (λ handle.
+            chosen_place number_in records_in self.old.heap arena (size_of bytes)
+            ≡ Some (number_of handle.place)) }
+        ensures room { result ≢ Err NoRoom }
         ensures refused { IfErr result (λ refused. IsStill self.old self.new
             × Ties (view_in self.new) None (Event.Alloc actor arena bytes)
             (refused_answer refused) (view_in self.new) None) }

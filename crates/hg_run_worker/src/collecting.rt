@@ -3,7 +3,7 @@
 ghost use Rattle.std.specs.Prelude.{◌≡◌, [], ◌∷◌};
 ghost use Rattle.hg_machine.specs.declared.Answer.TheVariants as Answer;
 ghost use Rattle.hg_machine.specs.declared.Event.TheVariants as Event;
-ghost use Rattle.hg_heap.specs.Idle.{Collected, idle_pages};
+ghost use Rattle.hg_heap.specs.Idle.{Collected, IdleAreOut, idle_pages};
 ghost use Rattle.hg_run_worker.specs.AtWork.{HasCalledHere, IsReady, number_in, records_in, view_in};
 
 use crate::RunWorker;
@@ -18,6 +18,7 @@ impl RunWorker {
         ensures called { HasCalledHere Event.Collect (Answer.Pages result) self.old self.new }
         ensures pages { result ≡ idle_pages number_in records_in self.old.heap.segments }
         ensures collected { Collected number_in records_in self.old.heap self.new.heap }
+        ensures out { IdleAreOut number_in records_in self.old.heap self.new.heap }
     {
         self.collect_by::<Brand>()
     }
@@ -33,6 +34,7 @@ impl RunWorker {
         ensures called { HasCalledHere Event.Collect (Answer.Pages result) self.old self.new }
         ensures pages { result ≡ idle_pages number_in records_in self.old.heap.segments }
         ensures collected { Collected number_in records_in self.old.heap self.new.heap }
+        ensures out { IdleAreOut number_in records_in self.old.heap self.new.heap }
     {
         let pages = self.heap.collect();
         self.call_alone::<Brand>();

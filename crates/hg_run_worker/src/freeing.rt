@@ -13,7 +13,8 @@ use hg_run_table::Asks;
 use std::marker::Brand;
 
 impl RunWorker {
-    /// Frees a block of a segment that the worker holds, and logs the Free with its answer.
+    /// Frees a block of a segment that the worker holds, and logs the Free with its answer: `Denied` by
+    /// the word that its step finds, which leaves all as it is.
     pub fn free_here(&mut self, actor: Actor, handle: Handle) -> Result<(), Refused>
         requires ready { IsReady self.old }
         requires held { is_held number_in self.old.heap.segments handle.place.segment ≡ true }

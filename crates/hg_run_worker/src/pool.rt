@@ -1,12 +1,14 @@
 //! The segments that no worker holds.
 
 ghost use Rattle.std.specs.Prelude.{◌≡◌, ◌<◌, ℕ, [], length, slice_get, Some, IfOk};
+ghost use Rattle.std.specs.List.{range_with_len};
 ghost use Rattle.std.specs.Arc.{arc_value};
 ghost use Rattle.hg_roles.specs.FirstParts.{full};
 ghost use Rattle.hg_roles.specs.Roles.{of_pool};
 ghost use Rattle.hg_run_table.specs.NewSeats.{IsNewOther, IsNewSegment};
 ghost use Rattle.hg_run_worker.specs.AtWork.{number_in};
 ghost use Rattle.hg_run_worker.specs.NewPools.{IsUnused};
+ghost use Rattle.hg_pool.specs.Pooled.{numbers};
 ghost use Rattle.hg_run_worker.specs.Pools.{IsPoolOf};
 
 use hg_policy::Policy;
@@ -16,7 +18,8 @@ use hg_segment::Segment;
 use std::alloc::{AllocError, Global};
 use std::sync::Arc;
 
-/// The segments of a service that no worker holds, and the pool's part of the run of all calls.
+/// The segments of a service that no worker holds, and the pool's part of the run of all calls. Dropped,
+/// its part and its segments are lost, and the table can be closed as one run no more.
 #[derive(Drop)]
 pub struct RunPool {
     pub(crate) pool: Pool<RunSegment>,
@@ -41,6 +44,8 @@ impl RunPool {
         ensures ready { IfOk result (λ pool.
             IsPoolOf (arc_value table.now).table.shared.table_id policy.now pool) }
         ensures orphans { IfOk result (λ pool. pool.pool.orphans ≡ []) }
+        ensures fresh { IfOk result (λ pool. numbers number_in pool.pool.fresh
+            ≡ range_with_len 0 (length policy.now.segments)) }
     {
         let mut seats = seats;
         let mut pool = Pool::new(alloc)?;

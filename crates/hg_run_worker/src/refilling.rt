@@ -8,6 +8,7 @@ ghost use Rattle.hg_pool.specs.Pooled.{next_in};
 ghost use Rattle.hg_roles.specs.Roles.{of_pool};
 ghost use Rattle.hg_run_worker.specs.AtWork.{HasCalled, IsReady, number_in, view_in, worker_view};
 ghost use Rattle.hg_run_worker.specs.Pools.{IsPoolOf, left_pool, pool_part, refill_answer, with_taken};
+ghost use Rattle.hg_run_worker.specs.Pools.{QueuesTaken};
 
 use crate::deciding::never_twice;
 use crate::{RunPool, RunWorker};
@@ -17,7 +18,7 @@ use std::marker::Brand;
 impl RunWorker {
     /// Takes the next segment of the arena from the pool, and tells its number: the oldest orphan, or
     /// else the lowest fresh one. `None` where the pool has neither, and then nothing changes but the
-    /// logs. Logs the Refill with its answer.
+    /// worker's log. Logs the Refill with its answer.
     pub fn refill(&mut self, arena: u8, pool: &mut RunPool) -> Option<u8>
         requires ready { IsReady self.old }
         requires pool { IsPoolOf (arc_value self.old.table).table.shared.table_id self.old.policy
@@ -31,6 +32,8 @@ impl RunWorker {
             is_held number_in self.old.heap.segments segment ≡ false) }
         ensures taken { self.new.heap.segments
             ≡ with_taken (next_in pool.old.pool arena) self.old.heap.segments }
+        ensures queues { QueuesTaken (next_in pool.old.pool arena) self.old.heap.queues
+            self.new.heap.queues }
         ensures left { pool.new.pool ≡ left_pool (next_in pool.old.pool arena) pool.old.pool }
     {
         self.refill_by::<Brand, Brand>(arena, pool)
@@ -61,6 +64,8 @@ impl RunWorker {
             is_held number_in self.old.heap.segments segment ≡ false) }
         ensures taken { self.new.heap.segments
             ≡ with_taken (next_in pool.old.pool arena) self.old.heap.segments }
+        ensures queues { QueuesTaken (next_in pool.old.pool arena) self.old.heap.queues
+            self.new.heap.queues }
         ensures left { pool.new.pool ≡ left_pool (next_in pool.old.pool arena) pool.old.pool }
     {
         // these hand out what a pool keeps, and that a policy is sound

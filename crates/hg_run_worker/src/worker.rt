@@ -10,7 +10,8 @@ use std::alloc::Global;
 use std::sync::Arc;
 
 /// A worker of a service whose table keeps one run of all calls: the segments that it holds, its part of
-/// the run, and the life that it has freed and not delivered yet.
+/// the run, and the life that it has freed and not delivered yet. Dropped, its part and its segments are
+/// lost, and the table can be closed as one run no more.
 #[derive(Drop)]
 pub struct RunWorker {
     pub(crate) table: Arc<RunTable, Global>,

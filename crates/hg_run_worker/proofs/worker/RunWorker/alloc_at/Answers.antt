@@ -35,21 +35,24 @@ of_lent g c =
     kinds_keep_policy number_in c.args.self.now.policy c.args.self.now.heap.segments
     c.lend.new.self.heap.segments (kinds_stay l.once l.lent) c.requires.ready.of
 
-chosen_in : (g : Over) (c : After-settled g)
-    → option_map segment_of
-    (chosen_place number_in records_in c.lend.new.self.heap c.args.arena (size_of c.args.bytes))
-    ≡ Some c.args.segment
-chosen_in g c =
+same_choice : (g : Over) (c : After-settled g)
+    → chosen_place number_in records_in c.lend.new.self.heap c.args.arena (size_of c.args.bytes)
+    ≡ chosen_place number_in records_in c.args.self.now.heap c.args.arena (size_of c.args.bytes)
+same_choice g c =
     let l = c.lend.ensures.lent in
-    ap (option_map segment_of)
-    (ap
+    ap
     (λ (q : List (List ℕ)).
     chosen_place number_in records_in (record { segments = c.lend.new.self.heap.segments; queues = q })
     c.args.arena (size_of c.args.bytes))
     c.lend.ensures.queues
     ∙ chosen_stays l.once l.lent c.lend.ensures.lists c.args.self.now.heap.queues c.args.arena
-    (size_of c.args.bytes))
-    ∙ c.requires.chosen
+    (size_of c.args.bytes)
+
+chosen_in : (g : Over) (c : After-settled g)
+    → option_map segment_of
+    (chosen_place number_in records_in c.lend.new.self.heap c.args.arena (size_of c.args.bytes))
+    ≡ Some c.args.segment
+chosen_in g c = ap (option_map segment_of) (same_choice g c) ∙ c.requires.chosen
 
 pub alloc-given-requires-clause-policy : goal.alloc-given-requires-clause-policy
 alloc-given-requires-clause-policy g c =
@@ -164,3 +167,18 @@ returns-clause-refused g c =
     end_refused c.args.self.now c.take_back.new.self c.lend.ensures.lent c.requires.asked
     c.alloc-given.new.self.segments c.take_back.ensures.back c.alloc-given.result
     (ended g at.After-alloc-given (chosen_in g at.After-settled)) c.requires.ready (rest g at.After-take_back)
+
+-- the choice is that of the heap before the part was lent
+pub returns-clause-chosen : goal.returns-clause-chosen
+returns-clause-chosen g c =
+    subst
+    (λ (o : Option ℕ).
+    IfOk c.alloc-given.result (λ handle. o ≡ Some (number_of handle.place)))
+    (same_choice g (goal.at.returns-clause-chosen g c).After-settled) c.alloc-given.ensures.chosen
+
+pub returns-clause-room : goal.returns-clause-room
+returns-clause-room g c = λ none.
+    let no = c.alloc-given.ensures.no_room none in
+    let both : None ≡ Some c.args.segment =
+    sym (ap (option_map segment_of) no) ∙ chosen_in g (goal.at.returns-clause-room g c).After-settled in
+    cc

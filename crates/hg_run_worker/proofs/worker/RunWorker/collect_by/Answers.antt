@@ -1,13 +1,15 @@
 use Rattle.std.proofs.Common.{◌≡◌, [], ◌∷◌, ◌++◌, None, refl, sym, ap, subst, ◌∙◌}
 use Rattle.hg_machine.specs.declared.Answer.TheVariants as answer
 use Rattle.hg_machine.specs.declared.Event.TheVariants as event
+use Rattle.hg_agreement.specs.Agreement.{Ties}
+use Rattle.hg_agreement.specs.Views.{View}
 use Rattle.hg_heap.specs.Held.{Held, kinds}
 use Rattle.hg_heap.proofs.PolicyKept.{kinds_keep_policy}
 use Rattle.hg_run_table.specs.declared.segment.RunSegment.{RunSegment}
 use Rattle.hg_run_table.specs.Calls.{IsTiedAlone, log_in}
-use Rattle.hg_run_worker.specs.AtWork.{IsReady, KeepsRest, hand_generation, hand_place, number_in, worker_view}
+use Rattle.hg_run_worker.specs.AtWork.{IsReady, KeepsRest, hand_generation, hand_place, number_in, view_in, worker_view}
 use Rattle.hg_run_worker.proofs.Collected.{seated_still}
-use Rattle.hg_run_worker.proofs.Ready.{holds_same, ready_from}
+use Rattle.hg_run_worker.proofs.Ready.{holds_same, ready_from, view_again}
 use Rattle.hg_run_worker.proofs.worker.RunWorker.collect_by.Goals as goal
 
 pub call_alone-requires-clause-tied : goal.call_alone-requires-clause-tied
@@ -54,4 +56,19 @@ returns-clause-called g c =
     e.log
     ∙ ap (λ call. log_in s.call ++ call ∷ [])
     (c.requires.call ∙ ap (λ n. (event.Collect, answer.Pages n)) (sym c.collect-pages.ensures.pages)) in
-    (record { ready = ready; log = log; rest = rest }, holds_same s c.call_alone.new.self same)
+    record {
+      called = record { ready = ready; log = log; rest = rest };
+      holds = holds_same s c.call_alone.new.self same;
+      tied = (
+        None,
+        None,
+        subst
+            (λ (v : View).
+            Ties (view_in s) None event.Collect (answer.Pages c.collect-pages.result) v None)
+            (sym
+            (view_again s c.call_alone.new.self rest
+            ∙ ap (worker_view s.policy s.number s.hand) now))
+            (c.collect-pages.ensures.ties s.policy None c.requires.ready.of s.number (hand_place s.hand)
+            (hand_generation s.hand) s.below),
+      );
+    }

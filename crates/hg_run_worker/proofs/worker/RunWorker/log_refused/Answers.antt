@@ -42,5 +42,5 @@ returns g c =
           (ap (λ (h : Held RunSegment). h.segments) e.heap) e.same
           (e.lives ∙ c.requires.ready.work.bare)
           (subst (IsWorkers c.call_alone.new.self.call) c.requires.after e.worker)
-          (e.log ∙ ap (λ call. log_in s.call ++ call ∷ []) c.requires.call);
+          (e.log ∙ ap (λ call. log_in s.call ++ call ∷ []) c.requires.call) c.requires.tied;
     }

@@ -1,12 +1,12 @@
-use Rattle.std.proofs.Common.{refl, subst, sym}
+use Rattle.std.proofs.Common.{◌∙◌, refl, subst, sym}
 use Rattle.std.proofs.lemmas.Bool.{true≢false}
 use Rattle.hg_machine.specs.declared.Event.TheVariants as event
 use Rattle.hg_heap.specs.Answers.{list_denial, row_answer}
 use Rattle.hg_run_table.proofs.Answering.{may_leave}
 use Rattle.hg_run_table.proofs.AnswersAre.{looks_may_answer}
 use Rattle.hg_run_worker.specs.Lent.{IsTiedStep}
-use Rattle.hg_run_worker.proofs.Course.{has_loan, held_still, lent_asks}
-use Rattle.hg_run_worker.proofs.SlotsLent.{held_there}
+use Rattle.hg_run_worker.proofs.Course.{back_keeps, has_loan, held_still, lent_asks}
+use Rattle.hg_run_worker.proofs.SlotsLent.{all_stays, held_there}
 use Rattle.hg_run_worker.proofs.Ready.{has_called, rest_twice}
 use Rattle.hg_machine.specs.Policy.{Policy}
 use Rattle.hg_heap.specs.Ties.{HeapTies, shown_at}
@@ -55,14 +55,22 @@ take_back-requires-clause-loan g c =
     let s = stepped g (goal.at.take_back-requires-clause-loan g c).After-look-row in
     has_loan c.lend.ensures.lent c.requires.asked s c.args.self.now.below
 
-pub returns : goal.returns
-returns g c =
-    let s = stepped g (goal.at.returns g c).After-look-row in
+pub returns-clause-called : goal.returns-clause-called
+returns-clause-called g c =
+    let s = stepped g (goal.at.returns-clause-called g c).After-look-row in
     let e = c.take_back.ensures in
-    record {
-      called =
-          has_called c.args.self.now c.take_back.new.self c.lend.ensures.lent c.requires.asked s c.requires.ready
-          (rest_twice c.args.self.now c.lend.new.self c.take_back.new.self c.lend.ensures.rest
-          (record { table = e.rest.table; policy = e.rest.policy; number = e.rest.number; hand = e.rest.hand }))
-          e.back;
-    }
+    has_called c.args.self.now c.take_back.new.self c.lend.ensures.lent c.requires.asked s c.requires.ready
+    (rest_twice c.args.self.now c.lend.new.self c.take_back.new.self c.lend.ensures.rest
+    (record { table = e.rest.table; policy = e.rest.policy; number = e.rest.number; hand = e.rest.hand }))
+    e.back
+
+pub returns-clause-lists : goal.returns-clause-lists
+returns-clause-lists g c = λ page.
+    c.take_back.ensures.lists page ∙ c.look-row.ensures.lists page ∙ c.lend.ensures.lists page
+
+pub returns-clause-kept : goal.returns-clause-kept
+returns-clause-kept g c =
+    let s = stepped g (goal.at.returns-clause-kept g c).After-look-row in
+    let l = c.lend.ensures.lent in
+    back_keeps l c.requires.asked s c.args.self.now.below c.take_back.ensures.back
+    ∙ c.look-row.ensures.kept ∙ all_stays l.once l.lent

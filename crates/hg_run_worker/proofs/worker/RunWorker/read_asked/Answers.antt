@@ -72,3 +72,7 @@ returns-clause-kept g c =
     let l = c.lend.ensures.lent in
     back_keeps l c.requires.asked s.1 c.args.self.now.below c.take_back.ensures.back
     ∙ c.read-value.ensures.kept ∙ all_stays l.once l.lent
+
+pub returns-clause-lists : goal.returns-clause-lists
+returns-clause-lists g c = λ page.
+    c.take_back.ensures.lists page ∙ c.read-value.ensures.lists page ∙ c.lend.ensures.lists page

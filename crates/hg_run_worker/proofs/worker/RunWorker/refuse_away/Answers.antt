@@ -2,6 +2,13 @@ use Rattle.std.proofs.Common.{◌≡◌, ℕ, ◌<◌, Option, Some, None, true,
 use Rattle.std.proofs.lemmas.Option.{slice_get_within}
 use Rattle.hg_place.specs.Places.{number_of}
 use Rattle.hg_machine.specs.Policy.{Policy, arena_of}
+use Rattle.hg_machine.specs.declared.Answer.{Answer}
+use Rattle.hg_machine.specs.declared.Event.{Event}
+use Rattle.hg_place.specs.Slots.{slot_in}
+use Rattle.hg_agreement.specs.Agreement.{Ties}
+use Rattle.hg_agreement.specs.Seen.{IsShownFor, refusal_in}
+use Rattle.hg_agreement.specs.Views.{Shown, slot_shown}
+use Rattle.hg_run_worker.specs.declared.worker.RunWorker.{RunWorker}
 use Rattle.hg_agreement.proofs.Frames.{refused_is_tied}
 use Rattle.hg_heap.specs.Held.{Held}
 use Rattle.hg_heap.specs.Ties.{shown_at}
@@ -21,6 +28,16 @@ some_within : (policy : Policy) (segment : ℕ) (o : Option ℕ) → arena_of po
 some_within policy segment None is e = absurd (cc)
 some_within policy segment (Some arena) is e = slice_get_within policy.segments segment arena is
 
+-- a refusal is tied at the word that is shown
+tied_refusal : (worker : RunWorker) (event : Event) (refused : ℕ → Answer) (word : ℕ)
+    (shown : Option Shown) → IsShownFor (view_in worker) event shown
+    → ((word : ℕ) → refusal_in (view_in worker) (slot_in word) event ≡ Some (refused word))
+    → slot_shown shown ≡ slot_in word
+    → Ties (view_in worker) shown event (refused word) (view_in worker) shown
+tied_refusal worker event refused word shown about refuses same =
+    refused_is_tied (view_in worker) shown event (refused word) worker.below about
+    (ap (λ slot. refusal_in (view_in worker) slot event) same ∙ refuses word)
+
 pub call_alone-requires-clause-tied : goal.call_alone-requires-clause-tied
 call_alone-requires-clause-tied g c =
     let s = c.args.self.now in
@@ -34,17 +51,19 @@ call_alone-requires-clause-tied g c =
     (record {
       own = record { worker = s.below; same = refl; own = r.own };
       none = λ other below. r.unchanged 0 other;
-      ties =
-          refused_is_tied (view_in s) None g.C.RefusedCall.event (g.C.RefusedCall.refused 0) s.below
-          (r.about None none) (r.refused 0);
+      ties = tied_refusal s g.C.RefusedCall.event g.C.RefusedCall.refused 0 None (r.about None none) r.refused refl;
     })
 
 pub returns-then-is_none-clause-called : goal.returns-then-is_none-clause-called
 returns-then-is_none-clause-called g c =
+    let s = c.args.self.now in
+    let r = c.requires in
     let e = c.call_alone.ensures in
-    decided_here c.args.self.now c.call_alone.new.self c.requires.ready e.rest
-    (ap (λ (h : Held RunSegment). h.segments) e.heap) e.same (e.lives ∙ c.requires.ready.work.bare)
-    e.worker e.log
+    let none : arena_of s.policy c.args.place.segment ≡ None =
+    sym c.arena_of.ensures ∙ none_is c.arena_of.result (c.is_none.ensures ∙ ap not c.if-is_none.true) in
+    decided_here s c.call_alone.new.self r.ready e.rest
+    (ap (λ (h : Held RunSegment). h.segments) e.heap) e.same (e.lives ∙ r.ready.work.bare) e.worker e.log
+    (tied_refusal s g.C.RefusedCall.event g.C.RefusedCall.refused 0 None (r.about None none) r.refused refl)
 
 pub look_deciding-requires-clause-place : goal.look_deciding-requires-clause-place
 look_deciding-requires-clause-place g c =
@@ -62,6 +81,7 @@ pub look_deciding-requires-clause-tied : goal.look_deciding-requires-clause-tied
 look_deciding-requires-clause-tied g c = λ word.
     let s = c.args.self.now in
     let r = c.requires in
+    let shown = shown_at c.args.place word in
     subst
     (λ (p : Policy).
     IsTiedAt p (number_of c.args.place) word word (view_in s)
@@ -70,15 +90,16 @@ look_deciding-requires-clause-tied g c = λ word.
     (record {
       own = record { worker = s.below; same = refl; own = r.own };
       alone = λ other below changes. absurd (let no = r.unchanged word other in cc);
-      ties =
-          refused_is_tied (view_in s) (shown_at c.args.place word) g.C.RefusedCall.event
-          (g.C.RefusedCall.refused word) s.below (r.about (shown_at c.args.place word) refl)
-          (r.refused word);
+      ties = tied_refusal s g.C.RefusedCall.event g.C.RefusedCall.refused word shown (r.about shown refl) r.refused refl;
     })
 
 pub returns-clause-called : goal.returns-clause-called
 returns-clause-called g c =
+    let s = c.args.self.now in
+    let r = c.requires in
     let e = c.look_deciding.ensures in
-    decided_here c.args.self.now c.look_deciding.new.self c.requires.ready e.rest
-    (ap (λ (h : Held RunSegment). h.segments) e.heap) e.same (e.bare c.requires.ready.work.bare)
-    e.worker e.log
+    let shown = shown_at c.args.place c.look_deciding.result in
+    decided_here s c.look_deciding.new.self r.ready e.rest
+    (ap (λ (h : Held RunSegment). h.segments) e.heap) e.same (e.bare r.ready.work.bare) e.worker e.log
+    (tied_refusal s g.C.RefusedCall.event g.C.RefusedCall.refused c.look_deciding.result shown
+    (r.about shown refl) r.refused refl)

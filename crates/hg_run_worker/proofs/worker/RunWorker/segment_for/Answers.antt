@@ -1,9 +1,12 @@
-use Rattle.std.specs.Prelude.{unwrap_or}
+use Rattle.std.specs.Prelude.{option_map, unwrap_or}
 use Rattle.std.proofs.Common.{◌≡◌, ℕ, ◌∙◌, Bool, cond, Some, None, Option, Contains, refl, sym, ap, subst}
 use Rattle.hg_size.specs.Sizes.{sizes}
 use Rattle.hg_machine.specs.declared.AllocVerdict.TheVariants as verdict
 use Rattle.hg_machine.specs.declared.Answer.TheVariants as answer
 use Rattle.hg_machine.specs.Request.{alloc_verdict, size_of, words_for}
+use Rattle.hg_place.specs.Places.{segment_of}
+use Rattle.hg_heap.specs.Choice.{chosen_place}
+use Rattle.hg_run_worker.specs.AtWork.{number_in, records_in}
 use Rattle.hg_heap.proofs.AllocCall.{Fits, fits_is}
 use Rattle.hg_run_worker.proofs.Refusals.{no_room_in, verdict_refuses}
 use Rattle.hg_run_worker.proofs.worker.RunWorker.segment_for.Goals as goal
@@ -53,3 +56,14 @@ returns-in_default-clause-refused c =
 pub returns-clause-sized : goal.returns-clause-sized
 returns-clause-sized c =
     subst (Contains sizes) (size_is (goal.at.returns-clause-sized c).In-Fits) c.block_words-size.ensures.listed
+
+none_mapped : (o : Option ℕ) → option_map segment_of o ≡ None → o ≡ None
+none_mapped None e = refl
+none_mapped (Some place) e = absurd (cc)
+
+pub returns-in_default-clause-no_room : goal.returns-in_default-clause-no_room
+returns-in_default-clause-no_room c = λ refused.
+    subst
+    (λ n. chosen_place number_in records_in c.args.self.now.heap c.args.arena n ≡ None)
+    (size_is (goal.at.returns-in_default-clause-no_room c).In-Fits)
+    (none_mapped _ (sym c.next_segment.ensures.next ∙ c.in_default.is))

@@ -1,4 +1,4 @@
-use Rattle.std.proofs.Common.{ℕ, refl, subst, sym}
+use Rattle.std.proofs.Common.{◌∙◌, ℕ, refl, subst, sym}
 use Rattle.std.proofs.lemmas.Bool.{true≢false}
 use Rattle.hg_machine.specs.declared.Event.TheVariants as event
 use Rattle.hg_heap.specs.Answers.{done_answer}
@@ -57,14 +57,15 @@ take_back-requires-clause-loan g c =
     let s = stepped g (goal.at.take_back-requires-clause-loan g c).After-write-written in
     has_loan c.lend.ensures.lent c.requires.asked s.1 c.args.self.now.below
 
-pub returns : goal.returns
-returns g c =
-    let s = stepped g (goal.at.returns g c).After-write-written in
+pub returns-clause-called : goal.returns-clause-called
+returns-clause-called g c =
+    let s = stepped g (goal.at.returns-clause-called g c).After-write-written in
     let e = c.take_back.ensures in
-    record {
-      called =
-          has_called c.args.self.now c.take_back.new.self c.lend.ensures.lent c.requires.asked s.1 c.requires.ready
-          (rest_twice c.args.self.now c.lend.new.self c.take_back.new.self c.lend.ensures.rest
-          (record { table = e.rest.table; policy = e.rest.policy; number = e.rest.number; hand = e.rest.hand }))
-          e.back;
-    }
+    has_called c.args.self.now c.take_back.new.self c.lend.ensures.lent c.requires.asked s.1 c.requires.ready
+    (rest_twice c.args.self.now c.lend.new.self c.take_back.new.self c.lend.ensures.rest
+    (record { table = e.rest.table; policy = e.rest.policy; number = e.rest.number; hand = e.rest.hand }))
+    e.back
+
+pub returns-clause-lists : goal.returns-clause-lists
+returns-clause-lists g c = λ page.
+    c.take_back.ensures.lists page ∙ c.write-written.ensures.lists page ∙ c.lend.ensures.lists page
