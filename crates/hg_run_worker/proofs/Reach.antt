@@ -2,16 +2,19 @@
 -- elsewhere.
 use Rattle.std.specs.Prelude.{nat_lt}
 use Rattle.std.proofs.Common.{◌≡◌, ℕ, Bool, false, not, List, [], ◌∷◌, length, Option, Some, None, refl, ap, subst, sym, ◌∙◌}
+use Rattle.hg_place.specs.declared.Actor.{Actor}
 use Rattle.hg_place.specs.declared.Handle.{Handle}
+use Rattle.hg_place.specs.declared.Place.{Place}
 use Rattle.hg_place.specs.declared.Right.{Right}
 use Rattle.hg_place.specs.Places.{number_of}
 use Rattle.hg_place.specs.Slots.{slot_in}
 use Rattle.hg_machine.specs.declared.Answer.{Answer}
 use Rattle.hg_machine.specs.declared.Answer.TheVariants as answer
+use Rattle.hg_machine.specs.declared.Event.TheVariants as event
 use Rattle.hg_machine.specs.declared.Rule.{Rule}
 use Rattle.hg_machine.specs.Refusal.{denial_or}
-use Rattle.hg_agreement.specs.Seen.{reach_in}
-use Rattle.hg_heap.specs.Answers.{away_answer}
+use Rattle.hg_agreement.specs.Seen.{reach_in, refusal_in}
+use Rattle.hg_heap.specs.Answers.{away_answer, list_denial}
 use Rattle.hg_heap.specs.Held.{is_held}
 use Rattle.hg_heap.specs.Reading.{use_denial}
 use Rattle.hg_heap.proofs.ViewRoom.{view_holds}
@@ -36,3 +39,14 @@ out_of_reach worker actor right handle index word away =
     ∷ []))
     (view_holds number_in records_in worker.heap.segments handle.place.segment ∙ away)
     ∙ by_denial (use_denial worker.policy actor right handle word) _
+
+pub out_of_sight : (worker : RunWorker) (actor : Actor) (place : Place) (word : ℕ)
+    → is_held number_in worker.heap.segments place.segment ≡ false
+    → refusal_in (view_in worker) (slot_in word) (event.Look actor place)
+    ≡ Some (away_answer (list_denial worker.policy actor place word))
+out_of_sight worker actor place word away =
+    ap
+    (λ (b : Bool).
+    denial_or (list_denial worker.policy actor place word) ((not b, answer.Elsewhere) ∷ []))
+    (view_holds number_in records_in worker.heap.segments place.segment ∙ away)
+    ∙ by_denial (list_denial worker.policy actor place word) []

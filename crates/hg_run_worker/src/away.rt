@@ -10,8 +10,8 @@ ghost use Rattle.hg_machine.specs.declared.Event.TheVariants as Event;
 ghost use Rattle.hg_agreement.specs.Seen.{IsShownAt, IsShownFor, refusal_in};
 ghost use Rattle.hg_agreement.specs.Views.{Shown};
 ghost use Rattle.hg_frame.specs.SlotWords.{changes_word};
-ghost use Rattle.hg_heap.specs.Answers.{away_answer, done_answer, read_answer};
-ghost use Rattle.hg_heap.specs.Answers.{refused_answer};
+ghost use Rattle.hg_heap.specs.Answers.{away_answer, done_answer, list_denial, read_answer};
+ghost use Rattle.hg_heap.specs.Answers.{refused_answer, row_answer};
 ghost use Rattle.hg_heap.specs.Held.{is_held};
 ghost use Rattle.hg_heap.specs.Reading.{use_denial};
 ghost use Rattle.hg_roles.specs.Deciding.{is_own};
@@ -23,6 +23,7 @@ ghost use Rattle.hg_run_worker.specs.AtWork.{view_in};
 use crate::RunWorker;
 use hg_decision::{Verdict, judge};
 use hg_heap::Refused;
+use hg_machine::Row;
 use hg_place::{Actor, Handle, Place, Right};
 use hg_policy::Policy;
 use hg_run_table::WorkerCall;
@@ -80,6 +81,34 @@ impl RunWorker {
             return self.write_here(actor, handle, index, value);
         }
         Err(self.write_away::<Brand>(actor, handle, index, value))
+    }
+
+    /// The row of a live block; or none, where the word that a look finds denies it, or the worker doesn't
+    /// hold its segment. That word is left in `shown`, 0 where the policy has no such place. Logs the Look
+    /// with its answer: `Denied` by that word, else `Elsewhere`.
+    pub fn look(&mut self, actor: Actor, place: Place, shown: &mut u64) -> Option<Row>
+        requires ready { IsReady self.old }
+        ensures called { HasCalledHere (Event.Look actor place)
+            (row_answer result (list_denial self.old.policy actor place shown.new)) self.old self.new }
+    {
+        if self.holds(place.segment) {
+            return self.look_here(actor, place, shown);
+        }
+        self.look_away::<Brand>(actor, place, shown);
+        None
+    }
+
+    /// A Look at a place whose segment the worker doesn't hold.
+    fn look_away<C: RefusedCall>(&mut self, actor: Actor, place: Place, shown: &mut u64)
+        requires ready { IsReady self.old }
+        requires away { is_held number_in self.old.heap.segments place.segment ≡ false }
+        requires event { C.event ≡ Event.Look actor place }
+        requires refused { (word : ℕ) → C.refused word
+            ≡ away_answer (list_denial self.old.policy actor place word) }
+        ensures called { HasCalledHere (Event.Look actor place)
+            (away_answer (list_denial self.old.policy actor place shown.new)) self.old self.new }
+    {
+        *shown = self.refuse_away::<C>(place);
     }
 
     /// A Read of a block that the worker doesn't hold.
