@@ -14,3 +14,4 @@ pub mod Collected
 pub mod Abandons
 pub mod Reach
 pub mod NewPools
+pub mod Gathered

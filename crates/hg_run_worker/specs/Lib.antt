@@ -1,4 +1,5 @@
 pub mod AtWork
+pub mod Ending
 pub mod Lent
 pub mod NewPools
 pub mod Pools

@@ -7,6 +7,7 @@ mod away;
 mod beginning;
 mod collecting;
 mod deciding;
+mod ending;
 mod freeing;
 mod lending;
 mod pool;
@@ -14,5 +15,6 @@ mod reading;
 mod refilling;
 mod worker;
 
+pub use ending::RunEnd;
 pub use pool::RunPool;
 pub use worker::RunWorker;
