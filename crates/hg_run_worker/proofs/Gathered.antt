@@ -1,6 +1,6 @@
 -- The parts of segments that are given back, by rising number.
-use Rattle.std.proofs.Common.{◌≡◌, ◌≢◌, ℕ, ◌+◌, ◌≤◌, ◌==◌, Bool, true, false, cond, not, List, [], ◌∷◌, ◌++◌, map, filter}
-use Rattle.std.proofs.Common.{Option, Some, None, Contains, is_some, find, refl, sym, ap, subst, ◌∙◌, inl, inr, arith}
+use Rattle.std.proofs.Common.{◌≡◌, ◌≢◌, ℕ, ◌+◌, ◌==◌, Bool, cond, not, List, [], ◌∷◌, ◌++◌, map, filter}
+use Rattle.std.proofs.Common.{Option, Some, None, is_some, refl, sym, ap, subst, ◌∙◌, inl, inr, arith}
 use Rattle.std.specs.List.{range_with_len}
 use Rattle.std.proofs.lemmas.Bool.{cases_Bool, eqb-true, ne_eqb}
 use Rattle.std.proofs.lemmas.List.{append_assoc, append-nil, map-append, map-id}
@@ -8,7 +8,7 @@ use Rattle.std.proofs.lemmas.List.Elements.{filter-append}
 use Rattle.std.proofs.lemmas.List.FromFn.{filter_of_map_range_with_len_more}
 use Rattle.atomic_table.specs.Seated.{TableId}
 use Rattle.hg_segment.specs.Kept.{Kept}
-use Rattle.hg_heap.specs.Held.{is_held, is_of, segment_in}
+use Rattle.hg_heap.specs.Held.{is_held, segment_in}
 use Rattle.hg_pool.specs.Pooled.{Pooled, is_numbered, without_number, without_segment}
 use Rattle.hg_roles.specs.Roles.{Role, of_segment}
 use Rattle.hg_run_table.specs.declared.segment.RunSegment.{RunSegment}
@@ -100,9 +100,10 @@ pub seat_out : {id : TableId} (one : Kept RunSegment) (n : ℕ) (slots : RunSegm
     → (seat.seat.table_id ≡ id) × IsOthers seat (of_segment n)
 seat_out {id} one n slots seat seated numbered is_slots is_seat =
     let is : one.slots.seat ≡ seat = sym (is_seat ∙ ap (λ (s : RunSegment). s.seat) is_slots) in
-    subst (λ (s : RunSeat). (s.seat.table_id ≡ id) × IsOthers s (of_segment n)) is
-    (seated.same,
-    subst (λ m. IsOthers one.slots.seat (of_segment m)) numbered seated.part)
+    subst (λ (s : RunSeat). (s.seat.table_id ≡ id) × IsOthers s (of_segment n)) is (
+      seated.same,
+      subst (λ m. IsOthers one.slots.seat (of_segment m)) numbered seated.part,
+    )
 
 -- one segment's part more was given back, or none
 pub gathered_more : {id : TableId} (roles : List Role) (segments : List (Kept RunSegment)) (n : ℕ)

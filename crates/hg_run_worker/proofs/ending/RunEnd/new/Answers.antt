@@ -1,4 +1,4 @@
-use Rattle.std.proofs.Common.{◌≡◌, [], ◌∷◌, refl}
+use Rattle.std.proofs.Common.{[], ◌∷◌, refl}
 use Rattle.std.specs.Arc.{arc_value}
 use Rattle.hg_roles.specs.Roles.{of_pool}
 use Rattle.hg_run_worker.specs.Pools.{pool_part}

@@ -1,5 +1,4 @@
-use Rattle.std.proofs.Common.{◌≡◌, ◌≢◌, ◌≤◌, ◌<◌, ◌+◌, ℕ, List, [], ◌∷◌, ◌++◌, Contains, Some, None, refl, sym, ap, subst, ◌∙◌, arith}
-use Rattle.std.specs.Arc.{arc_value}
+use Rattle.std.proofs.Common.{◌≡◌, ◌+◌, List, ◌++◌, Contains, Some, refl, sym, ap, subst, ◌∙◌, arith}
 use Rattle.std.proofs.lemmas.List.{append-nil}
 use Rattle.hg_segment.specs.Kept.{Kept}
 use Rattle.hg_heap.specs.Held.{segment_in}
@@ -8,7 +7,7 @@ use Rattle.hg_pool.specs.Pooled.{Pooled}
 use Rattle.hg_roles.specs.Roles.{Role, of_segment}
 use Rattle.hg_run_table.specs.declared.segment.RunSegment.{RunSegment}
 use Rattle.hg_run_worker.specs.declared.ending.RunEnd.{RunEnd}
-use Rattle.hg_run_worker.specs.AtWork.{IsSeated, number_in, records_in}
+use Rattle.hg_run_worker.specs.AtWork.{number_in, records_in}
 use Rattle.hg_run_worker.specs.Ending.{HasGathered}
 use Rattle.hg_run_worker.specs.Pools.{pooled_in}
 use Rattle.hg_run_worker.proofs.Gathered.{gathered_more, gathered_none, others_stay, parts_below, seat_out}

@@ -1,4 +1,4 @@
-use Rattle.std.proofs.Common.{◌≡◌, List, [], ◌∷◌, ◌++◌, ◌∙◌, sym, subst}
+use Rattle.std.proofs.Common.{List, [], ◌∷◌, ◌++◌, subst}
 use Rattle.std.proofs.lemmas.List.{append_assoc}
 use Rattle.hg_roles.specs.Roles.{Role, of_worker}
 use Rattle.hg_run_table.specs.Calls.{log_in}
