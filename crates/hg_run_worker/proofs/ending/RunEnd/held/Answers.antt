@@ -8,7 +8,7 @@ use Rattle.hg_run_table.specs.declared.segment.RunSegment.{RunSegment}
 use Rattle.hg_run_worker.specs.declared.ending.RunEnd.{RunEnd}
 use Rattle.hg_run_worker.specs.AtWork.{IsSeated, number_in}
 use Rattle.hg_run_worker.specs.Ending.{HasGathered}
-use Rattle.hg_run_worker.proofs.Course.{at_position}
+use Rattle.hg_run_worker.proofs.SlotsLent.{at_position}
 use Rattle.hg_run_worker.proofs.Gathered.{gathered_more, gathered_none, parts_below, seat_out}
 use Rattle.hg_run_worker.proofs.ending.RunEnd.held.Goals as goal
 use Rattle.hg_run_worker.proofs.ending.RunEnd.held.Goals.{After-release, in-Some, in_default}
