@@ -21,11 +21,9 @@ ghost use Rattle.hg_run_worker.specs.AtWork.{HasCalledHere, IsReady, KeepsRest, 
 ghost use Rattle.hg_run_worker.specs.AtWork.{view_in};
 
 use crate::RunWorker;
-use hg_decision::{Verdict, judge};
-use hg_heap::Refused;
+use hg_heap::{Refused, denied_or_elsewhere};
 use hg_machine::Row;
 use hg_place::{Actor, Handle, Place, Right};
-use hg_policy::Policy;
 use hg_run_table::WorkerCall;
 use std::marker::Brand;
 
@@ -185,21 +183,5 @@ impl RunWorker {
     {
         let table = &self.table;
         table.call_at_look::<W>(&mut self.call, place)
-    }
-}
-
-/// The rule by which a word denies the use of a block that the worker doesn't hold, else `Elsewhere`.
-fn denied_or_elsewhere(
-    policy: &Policy,
-    actor: Actor,
-    right: Right,
-    handle: Handle,
-    word: u64,
-) -> Refused
-    ensures { refused_answer result ≡ away_answer (use_denial policy.now actor.0 right handle word) }
-{
-    match judge(policy, actor, right, handle, word) {
-        Verdict::Denied(rule) => Refused::Denied(rule),
-        Verdict::Allowed => Refused::Elsewhere,
     }
 }
