@@ -1,7 +1,7 @@
 -- The parts of segments that are given back, by rising number.
 use Rattle.std.proofs.Common.{◌≡◌, ◌≢◌, ℕ, ◌+◌, ◌==◌, Bool, cond, not, List, [], ◌∷◌, ◌++◌, map, filter}
 use Rattle.std.proofs.Common.{Option, Some, None, is_some, refl, sym, ap, subst, ◌∙◌, inl, inr, arith}
-use Rattle.std.specs.List.{range_with_len}
+use Rattle.std.specs.List.{AllZip, range_with_len}
 use Rattle.std.proofs.lemmas.Bool.{cases_Bool, eqb-true, ne_eqb}
 use Rattle.std.proofs.lemmas.List.{append_assoc, append-nil, map-append, map-id}
 use Rattle.std.proofs.lemmas.List.Elements.{filter-append}
@@ -121,3 +121,16 @@ pub gathered_none : {id : TableId} (roles : List Role) (segments : List (Kept Ru
 gathered_none {id} roles segments n now before e is has =
     subst (HasGathered id (roles ++ parts_below segments (n + 1))) (sym is)
     (subst (λ (rs : List Role). HasGathered id (roles ++ rs) before) (no_part segments n e) has)
+
+-- of seats that are given back in turn the next one has the next role
+pub seats_more : (so_far rest : List Role) (seat : RunSeat) (seats : List RunSeat)
+    → AllZip IsOthers (seat ∷ seats) rest
+    → (role : Role) × (more : List Role) × IsOthers seat role × AllZip IsOthers seats more
+    × ((so_far ++ role ∷ []) ++ more ≡ so_far ++ rest)
+seats_more so_far [] seat seats parts = absurd parts
+seats_more so_far (role ∷ more) seat seats parts =
+    (role, more, parts.0, parts.1, append_assoc so_far (role ∷ []) more)
+
+pub seats_all : (so_far rest : List Role) → AllZip IsOthers [] rest → so_far ≡ so_far ++ rest
+seats_all so_far [] parts = sym (append-nil so_far)
+seats_all so_far (role ∷ more) parts = absurd parts

@@ -15,3 +15,4 @@ pub mod Abandons
 pub mod Reach
 pub mod NewPools
 pub mod Gathered
+pub mod LogsOfWorkers

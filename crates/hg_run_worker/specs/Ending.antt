@@ -24,7 +24,7 @@ pub record HasGathered (id : TableId) (roles : List Role) (parts : RunEnd) : Typ
   pub have : HaveRoles parts.seat.seat.me.0.run roles
   pub counted : parts.count ≡ min MANY (length roles)
 
--- the numbers of segments that are among these, rising
+-- the numbers of these segments, rising: each segment's is below this bound
 abbrev pub numbers_among : List (Kept RunSegment) → List ℕ
 numbers_among segments = filter (is_held number_in segments) (range_with_len 0 MAX_SEGMENTS)
 

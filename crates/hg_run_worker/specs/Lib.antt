@@ -3,3 +3,4 @@ pub mod Ending
 pub mod Lent
 pub mod NewPools
 pub mod Pools
+pub mod Service

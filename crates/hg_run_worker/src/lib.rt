@@ -5,6 +5,7 @@ mod abandoning;
 mod allocating;
 mod away;
 mod beginning;
+mod closing;
 mod collecting;
 mod deciding;
 mod ending;
@@ -15,6 +16,7 @@ mod reading;
 mod refilling;
 mod worker;
 
+pub use closing::{NotEnded, end_service};
 pub use ending::RunEnd;
 pub use pool::RunPool;
 pub use worker::RunWorker;
