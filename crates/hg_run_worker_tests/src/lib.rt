@@ -1,0 +1,9 @@
+//! A worker over a table that keeps one run of all calls: what its calls are answered.
+#![tactic(auto)]
+
+#[cfg(test)]
+mod calls;
+#[cfg(test)]
+mod policies;
+#[cfg(test)]
+mod refused;
