@@ -1,15 +1,15 @@
 //! A whole service ends: the parts of its pool, its remote lists and its workers are given back at
 //! once.
 
-ghost use Rattle.std.specs.Prelude.{◌≡◌, ℕ, List, ◌++◌, slice_get, Some, IfErr, IfOk};
+ghost use Rattle.std.specs.Prelude.{◌≡◌, ℕ, ◌+◌, List, ◌++◌, slice_get, Some, IfErr, IfOk};
 ghost use Rattle.std.specs.Prelude.{length};
 ghost use Rattle.std.specs.List.{AllZip};
 ghost use Rattle.std.specs.Arc.{arc_value};
 ghost use Rattle.atomic_table.specs.Seated.{TableId};
-ghost use Rattle.core.specs.Mem.Slots.{slots_items};
+ghost use Rattle.core.specs.Mem.Slots.{IsFull, slots_items, slots_len};
 ghost use Rattle.hg_roles.specs.Histories.{IsRunOfAll};
 ghost use Rattle.hg_roles.specs.Roles.{Role};
-ghost use Rattle.hg_roles.specs.Served.{running};
+ghost use Rattle.hg_roles.specs.Served.{places_of_policy, running};
 ghost use Rattle.hg_run_table.specs.JoinedCalls.{IsOthers};
 ghost use Rattle.hg_run_worker.specs.AtWork.{IsReady};
 ghost use Rattle.hg_run_worker.specs.Ending.{HasGathered};
@@ -58,6 +58,10 @@ pub fn end_service(
     ensures all { IfOk result (λ _. (roles : List Role)
         → AllZip IsOthers lists.items roles
         → length (all_parts policy.now pool roles workers.items) ≡ (running policy.now).count) }
+    ensures words { IfOk result (λ closed.
+        slots_len closed.words ≡ places_of_policy policy.now + 1) }
+    ensures full { IfOk result (λ closed. IsFull closed.words) }
+    ensures no_slot { IfOk result (λ closed. slots_len closed.slots ≡ 0) }
     ensures left { IfErr result (λ left. (roles : List Role)
         → AllZip IsOthers lists.items roles
         → IsLeft policy.now (arc_value table) (all_parts policy.now pool roles workers.items)
@@ -85,6 +89,10 @@ impl RunEnd {
         ensures all { IfOk result (λ _. (roles : List Role)
             → HasGathered (arc_value table).table.shared.table_id roles self
             → length roles ≡ (running policy.now).count) }
+        ensures words { IfOk result (λ closed.
+            slots_len closed.words ≡ places_of_policy policy.now + 1) }
+        ensures full { IfOk result (λ closed. IsFull closed.words) }
+        ensures no_slot { IfOk result (λ closed. slots_len closed.slots ≡ 0) }
         ensures left { IfErr result (λ left. (roles : List Role)
             → HasGathered (arc_value table).table.shared.table_id roles self
             → IsLeft policy.now (arc_value table) roles left) }

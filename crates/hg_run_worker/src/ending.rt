@@ -1,15 +1,15 @@
 //! The end of a service: the seats of all its parts are joined again, and who has all of them closes
 //! the table and knows one run of all calls.
 
-ghost use Rattle.std.specs.Prelude.{◌≡◌, ◌≢◌, ℕ, List, ◌∷◌, [], ◌++◌, length, slice_get, Some, Contains};
+ghost use Rattle.std.specs.Prelude.{◌≡◌, ◌≢◌, ℕ, ◌+◌, List, ◌∷◌, [], ◌++◌, length, slice_get, Some, Contains};
 ghost use Rattle.std.specs.Prelude.{IfErr, IfOk};
 ghost use Rattle.std.specs.Arc.{arc_value};
 ghost use Rattle.atomic_table.specs.Seated.{TableId};
-ghost use Rattle.core.specs.Mem.Slots.{slots_items};
+ghost use Rattle.core.specs.Mem.Slots.{IsFull, slots_items, slots_len};
 ghost use Rattle.hg_segment.specs.Kept.{Kept};
 ghost use Rattle.hg_roles.specs.Histories.{IsRunOfAll};
 ghost use Rattle.hg_roles.specs.Roles.{Role};
-ghost use Rattle.hg_roles.specs.Served.{running};
+ghost use Rattle.hg_roles.specs.Served.{places_of_policy, running};
 ghost use Rattle.hg_run_table.specs.declared.segment.RunSegment.{RunSegment};
 ghost use Rattle.hg_run_table.specs.JoinedCalls.{IsOthers};
 ghost use Rattle.hg_run_worker.specs.AtWork.{IsReady, IsSeated};
@@ -110,6 +110,10 @@ impl RunEnd {
         ensures all { IfOk result (λ _. (roles : List Role)
             → HasGathered table.table.shared.table_id roles self
             → length roles ≡ (running policy.now).count) }
+        ensures words { IfOk result (λ closed.
+            slots_len closed.words ≡ places_of_policy policy.now + 1) }
+        ensures full { IfOk result (λ closed. IsFull closed.words) }
+        ensures no_slot { IfOk result (λ closed. slots_len closed.slots ≡ 0) }
         ensures missing { IfErr result (λ _. (roles : List Role)
             → HasGathered table.table.shared.table_id roles self
             → length roles ≢ (running policy.now).count) }

@@ -1,11 +1,16 @@
 //! A service ends: its workers, its pool and its lists are given back.
 
-ghost use Rattle.std.specs.Prelude.{◌≡◌, length};
+ghost use Rattle.std.specs.Prelude.{◌≡◌, ℕ, Some, length, slice_get};
+ghost use Rattle.std.specs.Arc.{arc_value};
+ghost use Rattle.hg_run_table.specs.declared.table.RunSeat.{RunSeat};
+ghost use Rattle.hg_run_worker.specs.declared.worker.RunWorker.{RunWorker};
+ghost use Rattle.hg_run_worker.specs.AtWork.{IsReady, KeepsRest};
+ghost use Rattle.hg_run_worker.specs.Pools.{IsPoolOf};
 
 use crate::policies::policy;
 use hg_place::Actor;
 use hg_policy::Policy;
-use hg_run_table::RunTable;
+use hg_run_table::{RunSeat, RunTable};
 use hg_run_worker::{NotEnded, RunPool, RunWorker, end_service};
 use std::alloc::{AllocError, Global};
 use std::sync::Arc;
@@ -28,8 +33,45 @@ enum Back {
     OneWorker,
 }
 
-/// Two workers serve, one after the other: the first gives out a block, frees it and gives its segment up,
-/// which the second takes. Then these parts are given back.
+/// A worker gives a block out and frees it.
+fn use_a_block(worker: &mut RunWorker)
+    requires ready { IsReady worker.old }
+    ensures ready { IsReady worker.new }
+    ensures rest { KeepsRest worker.old worker.new }
+{
+    let Ok(handle) = worker.alloc(Actor(0), 0, 64) else {
+        return;
+    };
+    if !worker.holds(handle.place.segment) {
+        return;
+    }
+    let _freed = worker.free_here(Actor(0), handle);
+}
+
+/// Two workers serve, one after the other: the first uses a block and gives its segment up, which the
+/// second takes.
+#[tactic(auto, using(crate::proofs::Staying::pool_stays))]
+fn serve(one: &mut RunWorker, two: &mut RunWorker, pool: &mut RunPool)
+    requires ready { IsReady one.old }
+    requires ready_too { IsReady two.old }
+    requires same { (arc_value two.old.table ≡ arc_value one.old.table)
+        × (two.old.policy ≡ one.old.policy) }
+    requires pool { IsPoolOf (arc_value one.old.table).table.shared.table_id one.old.policy
+        pool.old }
+    ensures ready { IsReady one.new }
+    ensures ready_too { IsReady two.new }
+    ensures rest { KeepsRest one.old one.new }
+    ensures rest_too { KeepsRest two.old two.new }
+    ensures pool { IsPoolOf (arc_value one.old.table).table.shared.table_id one.old.policy
+        pool.new }
+{
+    one.refill(0, pool);
+    use_a_block(one);
+    one.abandon(0, pool);
+    two.refill(0, pool);
+}
+
+/// Two workers of a new table serve. Then these parts are given back.
 fn given_back(alloc: Global, policy: &Policy, back: Back) -> Result<Ended, AllocError>
     requires segments { length policy.now.segments ≡ 2 }
     requires workers { policy.now.workers ≡ 2 }
@@ -45,22 +87,37 @@ fn given_back(alloc: Global, policy: &Policy, back: Back) -> Result<Ended, Alloc
     };
     let mut one = RunWorker::new(alloc, &table, policy, 0, seat)?;
     let mut pool = RunPool::new(alloc, &table, policy, seats.pool, seats.segments)?;
-    one.refill(0, &mut pool);
-    if let Ok(handle) = one.alloc(Actor(0), 0, 64) {
-        if one.holds(handle.place.segment) {
-            let _freed = one.free_here(Actor(0), handle);
-        }
-    }
-    one.abandon(0, &mut pool);
-    two.refill(0, &mut pool);
+    serve(&mut one, &mut two, &mut pool);
     let mut workers = Vec::with_capacity(alloc, 2)?;
     workers.push(one)?;
-    if back == Back::All {
-        workers.push(two)?;
-    } else {
+    if back == Back::OneWorker {
         drop(two);
+        return ends(table, policy, pool, seats.lists, workers);
     }
-    match end_service(table, policy, pool, seats.lists, workers) {
+    workers.push(two)?;
+    ends(table, policy, pool, seats.lists, workers)
+}
+
+/// How it ends.
+fn ends(
+    table: Arc<RunTable, Global>,
+    policy: &Policy,
+    pool: RunPool,
+    lists: Vec<RunSeat>,
+    workers: Vec<RunWorker>,
+) -> Result<Ended, AllocError>
+    requires segments { length policy.now.segments ≡ 2 }
+    requires key { (arc_value table).table.shared.key ≡ policy.now }
+    requires pool { IsPoolOf (arc_value table).table.shared.table_id policy.now pool }
+    requires lists { (k : ℕ) (seat : RunSeat) → slice_get lists.items k ≡ Some seat
+        → seat.seat.table_id ≡ (arc_value table).table.shared.table_id }
+    requires ready { (k : ℕ) (worker : RunWorker) → slice_get workers.items k ≡ Some worker
+        → IsReady worker }
+    requires of_it { (k : ℕ) (worker : RunWorker) → slice_get workers.items k ≡ Some worker
+        → (arc_value worker.table).table.shared.table_id
+        ≡ (arc_value table).table.shared.table_id }
+{
+    match end_service(table, policy, pool, lists, workers) {
         Ok(closed) => {
             let words = [closed.word(0), closed.word(1)];
             closed.free();
@@ -85,10 +142,14 @@ fn a_service_ends_as_one_run(rt: HostRuntime) {
     let policy = policy(alloc).ok().expect(&rt, "a policy");
     assert!(&rt; policy.segments() == 2);
     assert!(&rt; policy.workers() == 2);
-    let all = given_back(alloc, &policy, Back::All).ok().expect(&rt, "memory");
+    let all = given_back(alloc, &policy, Back::All)
+        .ok()
+        .expect(&rt, "memory");
     // the word of the first place is that of its first life, which has ended, of the first tenant
     assert_eq!(&rt; all, Ended::AsOneRun([0, 4_294_967_296]));
-    let one = given_back(alloc, &policy, Back::OneWorker).ok().expect(&rt, "memory");
+    let one = given_back(alloc, &policy, Back::OneWorker)
+        .ok()
+        .expect(&rt, "memory");
     assert_eq!(&rt; one, Ended::Missing);
 }
 
