@@ -4,3 +4,4 @@ pub mod Lent
 pub mod NewPools
 pub mod Pools
 pub mod Service
+pub mod ServiceLaws

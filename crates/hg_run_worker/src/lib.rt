@@ -10,6 +10,7 @@ mod collecting;
 mod deciding;
 mod ending;
 mod freeing;
+pub mod laws;
 mod lending;
 mod pool;
 mod reading;

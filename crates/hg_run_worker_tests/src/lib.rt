@@ -6,6 +6,8 @@ mod calls;
 #[cfg(test)]
 mod ends;
 #[cfg(test)]
+mod frees;
+#[cfg(test)]
 mod policies;
 #[cfg(test)]
 mod refused;
