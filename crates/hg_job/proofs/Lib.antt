@@ -1,4 +1,8 @@
 pub mod CommandLemmas
-pub mod JobLaws
+pub mod CommandTexts
+pub mod WordJobs
+pub mod OptionJobs
+pub mod StateJobs
+pub mod RequestJobs
 pub mod NumberLemmas
 pub mod OptionLemmas

@@ -1,6 +1,6 @@
 -- The job that a command with its operands asks for.
 use Rattle.std.specs.Prelude.{⊤, ◌⊎◌, ◌≡◌, ◌≢◌, ◌<◌, ◌^◌, ℕ, List, [], Option, Some, None, Result, Ok}
-use Rattle.std.specs.Prelude.{Err, Bool, true, false, ◌&&◌, not, Contains, is_some, unwrap_or}
+use Rattle.std.specs.Prelude.{Err, Bool, true, false, ◌&&◌, Contains, unwrap_or}
 use Rattle.std.specs.Prelude.{codes, map, ◌∷◌, ◌||◌, count_by, nat_lt, if◌then◌else◌}
 use Rattle.std.specs.Str.{bytes_eq}
 use Rattle.std.specs.Str.Parse.{IsNumeral, digits_value, without_leading_plus}

@@ -1,4 +1,4 @@
-use Rattle.hg_job.proofs.JobLaws.{options_explain as law}
+use Rattle.hg_job.proofs.OptionJobs.{options_explain as law}
 use Rattle.hg_job.proofs.laws.options_explain.Goals as goal
 
 pub returns : goal.returns

@@ -1,4 +1,4 @@
-use Rattle.hg_job.proofs.JobLaws.{requests_are_printed as law}
+use Rattle.hg_job.proofs.RequestJobs.{requests_are_printed as law}
 use Rattle.hg_job.proofs.laws.requests_are_printed.Goals as goal
 
 pub returns : goal.returns

@@ -1,4 +1,4 @@
-use Rattle.std.proofs.Common.{◌≡◌, ◌∙◌, sym}
+use Rattle.std.proofs.Common.{◌∙◌, sym}
 use Rattle.clap.specs.Words.{found_of, rows_of}
 use Rattle.hg_job.proofs.OptionLemmas.{before_told}
 use Rattle.hg_job.proofs.matches.job_within.Goals as goal
