@@ -26,7 +26,7 @@ use Rattle.hg_segment.specs.Kept.{Kept}
 use Rattle.hg_segment.specs.declared.charges.TheConstants.{TENANTS}
 use Rattle.hg_agreement.specs.Views.{Shown, slot_shown}
 use Rattle.hg_agreement.specs.Agreement.{Ties}
-use Rattle.hg_agreement.specs.Seen.{refusal_in, alloc_in, has_room_in, is_room_in}
+use Rattle.hg_agreement.specs.Seen.{refusal_in, alloc_in, is_room_in}
 use Rattle.hg_agreement.specs.Seen as seen
 use Rattle.hg_agreement.specs.Changed.{opened}
 use Rattle.hg_agreement.proofs.Frames.{refused_is_tied}
@@ -38,6 +38,10 @@ use Rattle.hg_heap.specs.Policies.{AreOf}
 use Rattle.hg_heap.specs.Allotted.{IsAllotted}
 use Rattle.hg_heap.specs.Ties.{HeapTies, heap_view, shown_at}
 use Rattle.hg_heap.specs.Right.{IsRight}
+use Rattle.hg_heap.specs.Answers.{refused_answer}
+use Rattle.hg_heap.specs.Refusals.{refused_by}
+use Rattle.hg_heap.specs.declared.refused.Refused.{Refused}
+use Rattle.hg_heap.specs.declared.refused.Refused.TheVariants as refused
 use Rattle.hg_heap.proofs.Founds.{Found}
 use Rattle.hg_heap.proofs.FoundHoldings.{standing_found}
 use Rattle.hg_heap.proofs.AllocRooms.{chosen_room, unchosen_no_room}
@@ -214,3 +218,39 @@ module _ {S : Type 0} (number : S → ℕ) (records : S → List Standing) (size
         (subst (λ (n : ℕ). Ties view (shown_at handle.place a.word) (event.Alloc actor arena bytes)
         (answer.Block handle) (opened view (number_of handle.place) handle.generation actor.0 n)
         (shown_at handle.place (live_word handle.generation actor.0))) size_same ties))
+
+-- a request that the verdict refuses
+pub refusal_ends : {S : Type 0} (number : S → ℕ) (records : S → List Standing)
+    (sized : (s : S) → length (records s) ≡ 8192) (small : (s : S) → number s < 64) {policy : Policy}
+    {held : Held S} {table : List (Option ℕ)} {charges : List ℕ} {capacity : ℕ}
+    (right : IsRight number records table charges capacity held) (of : AreOf number policy held.segments)
+    (actor : Actor) (arena bytes : ℕ) (few : length policy.tenants ≤ 64) (v : AllocVerdict)
+    (why : Refused)
+    → alloc_verdict policy actor.0 arena (words_for bytes) (charge_in records held.segments actor.0) ≡ v
+    → refused_by v ≡ Some why → (shown : Option Shown)
+    → HeapTies number records policy shown shown (event.Alloc actor arena bytes) (refused_answer why)
+    held.segments held.segments
+refusal_ends number records sized small {policy} {held} right of actor arena bytes few (alloc.Denied rule)
+    why e is =
+    let same : refused.Denied rule ≡ why = cc in
+    subst
+    (λ (w : Refused).
+    (shown : Option Shown)
+    → HeapTies number records policy shown shown (event.Alloc actor arena bytes) (refused_answer w)
+    held.segments held.segments)
+    same
+    (refused_ends number records sized small right of actor arena bytes few (λ lt. refl)
+    (alloc.Denied rule) (answer.Denied rule) e (λ worker hand generation. refl))
+refusal_ends number records sized small {policy} {held} right of actor arena bytes few alloc.TooLarge why e
+    is =
+    let same : refused.TooLarge ≡ why = cc in
+    subst
+    (λ (w : Refused).
+    (shown : Option Shown)
+    → HeapTies number records policy shown shown (event.Alloc actor arena bytes) (refused_answer w)
+    held.segments held.segments)
+    same
+    (refused_ends number records sized small right of actor arena bytes few (λ lt. refl) alloc.TooLarge
+    answer.TooLarge e (λ worker hand generation. refl))
+refusal_ends number records sized small right of actor arena bytes few (alloc.Fits size) why e is =
+    absurd (cc)

@@ -58,3 +58,4 @@ pub mod Released
 pub mod Witnessed
 pub mod Judging
 pub mod Homecoming
+pub mod Undenied

@@ -37,3 +37,5 @@ pub mod Homecoming
 pub mod Many
 pub mod WriteRuns
 pub mod CopiedIn
+pub mod Refusals
+pub mod Next

@@ -9,7 +9,12 @@ ghost use Rattle.hg_place.specs.Lives.{live_word};
 ghost use Rattle.hg_place.specs.Places.{number_of, page_number, segment_of};
 ghost use Rattle.hg_size.specs.Sizes.{number_of_size};
 ghost use Rattle.hg_size.specs.SizeLaws.{key_of};
-ghost use Rattle.hg_machine.specs.Request.{size_of};
+ghost use Rattle.hg_size.specs.Sizes.{sizes};
+ghost use Rattle.hg_machine.specs.Request.{alloc_verdict, size_of, words_for};
+ghost use Rattle.hg_machine.specs.declared.AllocVerdict.TheVariants.{Fits};
+ghost use Rattle.hg_heap.specs.Charges.{charge_in};
+ghost use Rattle.hg_heap.specs.Refusals.{err_of, refusal_of, refused_by};
+ghost use Rattle.hg_heap.specs.Next.{IsNext};
 ghost use Rattle.hg_machine.specs.declared.Event.TheVariants as Event;
 ghost use Rattle.hg_machine.specs.declared.Answer.TheVariants as Answer;
 ghost use Rattle.hg_agreement.specs.Views.{Shown};
@@ -61,6 +66,8 @@ impl<S: SlotWords> Heap<S> {
             × ((shown : Option Shown) → HeapTies S.number S.records policy.now shown shown
             (Event.Alloc actor arena bytes) (refused_answer refused)
             self.old.segments self.old.segments)) }
+        ensures answered { refusal_of S.number S.records policy.now actor.0 arena bytes self.old
+            ≡ err_of result }
         ensures chosen { IfOk result (λ handle.
             chosen_place S.number S.records self.old arena (size_of bytes)
             ≡ Some (number_of handle.place)) }
@@ -77,17 +84,40 @@ impl<S: SlotWords> Heap<S> {
         // any field what is kept of all
         let _workers = policy.workers();
         let _ = &self.queues;
-        let charge = self.charge(actor.0);
-        let class = match judge_alloc(policy, actor, arena, words_of(bytes), charge) {
-            AllocVerdict::Denied(rule) => return Err(Refused::Denied(rule)),
-            AllocVerdict::TooLarge => return Err(Refused::TooLarge),
-            AllocVerdict::Fits(class) => class,
+        let class = match self.class_for(policy, actor, arena, bytes) {
+            Ok(class) => class,
+            Err(refused) => return Err(refused),
         };
         let _size = block_words(class);
         let Some(handle) = self.allot(arena, class, actor.0) else {
             return Err(Refused::NoRoom);
         };
         Ok(handle)
+    }
+
+    /// The class of a request which the policy and the actor's charge admit, or why they don't.
+    fn class_for(
+        &self,
+        policy: &Policy,
+        actor: Actor,
+        arena: u8,
+        bytes: u64,
+    ) -> Result<Class, Refused>
+        ensures fits { IfOk result (λ class.
+            alloc_verdict policy.now actor.0 arena (words_for bytes)
+            (charge_in S.records self.now.segments actor.0) ≡ Fits class) }
+        ensures refused { IfErr result (λ refused. refused_by
+            (alloc_verdict policy.now actor.0 arena (words_for bytes)
+            (charge_in S.records self.now.segments actor.0)) ≡ Some refused) }
+    {
+        // a policy hands out that it is sound
+        let _workers = policy.workers();
+        let charge = self.charge(actor.0);
+        match judge_alloc(policy, actor, arena, words_of(bytes), charge) {
+            AllocVerdict::Denied(rule) => Err(Refused::Denied(rule)),
+            AllocVerdict::TooLarge => Err(Refused::TooLarge),
+            AllocVerdict::Fits(class) => Ok(class),
+        }
     }
 
     /// Gives out the place of the order of choice, if there is one.
@@ -118,23 +148,58 @@ impl<S: SlotWords> Heap<S> {
         Some(self.give_out(arena, class, page, owner))
     }
 
-    /// The segment that the next block of this class of the arena comes from, by the order of choice:
-    /// a caller that steps by what it lends lends it to this one. `None` where no place is left for
-    /// one. Nothing is given out.
-    pub fn next_segment(&self, arena: u8, class: Class) -> Option<u8>
-        requires { arena < ARENAS }
-        ensures next { result ≡ option_map segment_of
-            (chosen_place S.number S.records self.now arena class) }
-        ensures held { IfSome result (λ segment.
+    /// The segment that an `alloc` of this request would take its block from, or why it would be refused:
+    /// a caller that steps by what it lends lends it to this one. Nothing is given out.
+    pub fn next_segment(
+        &self,
+        policy: &Policy,
+        actor: Actor,
+        arena: u8,
+        bytes: u64,
+    ) -> Result<u8, Refused>
+        requires policy { AreOf S.number policy.now self.now.segments }
+        ensures answered { refusal_of S.number S.records policy.now actor.0 arena bytes self.now
+            ≡ err_of result }
+        ensures next { IfOk result (λ segment.
+            option_map segment_of (chosen_place S.number S.records self.now arena (size_of bytes))
+            ≡ Some segment) }
+        ensures held { IfOk result (λ segment.
             is_held S.number self.now.segments segment ≡ true) }
+        ensures sized { IfOk result (λ segment. Contains sizes (size_of bytes)) }
+        ensures refused { IfErr result (λ refused. (shown : Option Shown)
+            → HeapTies S.number S.records policy.now shown shown
+            (Event.Alloc actor arena bytes) (refused_answer refused)
+            self.now.segments self.now.segments) }
+    {
+        // a policy hands out that it is sound, a class that it is a size of the table, and a use of
+        // any field what is kept of all
+        let _workers = policy.workers();
+        let _ = &self.queues;
+        let class = match self.class_for(policy, actor, arena, bytes) {
+            Ok(class) => class,
+            Err(refused) => return Err(refused),
+        };
+        let _size = block_words(class);
+        match self.next_page(arena, class) {
+            Some(page) => Ok((page / SEGMENT_PAGES as u16) as u8),
+            None => Err(Refused::NoRoom),
+        }
+    }
+
+    /// The page that the next block of a class comes from, whether it has the class or may get it.
+    fn next_page(&self, arena: u8, class: Class) -> Option<u16>
+        requires { arena < ARENAS }
+        ensures next { IfSome result (λ page. IsNext S.number S.records self.now arena class page) }
+        ensures below { IfSome result (λ page. page < PAGES) }
+        ensures none { IfNone result ((front_page S.number S.records self.now arena class ≡ None)
+            × (blank_page S.number S.records self.now arena class ≡ None)) }
     {
         // a class is a size of the table
         let _size = block_words(class);
-        let page = match self.queues.front(arena, class) {
-            Some(page) => page,
-            None => self.blank_page(arena, class)?,
-        };
-        Some((page / SEGMENT_PAGES as u16) as u8)
+        match self.queues.front(arena, class) {
+            Some(page) => Some(page),
+            None => self.blank_page(arena, class),
+        }
     }
 
     /// The page to give a place out of: the front of the queue, else the first at which a block may

@@ -1,4 +1,4 @@
--- Where slot words become others with the same records, the same place is chosen.
+-- Where slot words become others with the same records, the same place is chosen, and the same is refused.
 use Rattle.std.specs.Prelude.{option_map, option_and_then, find}
 use Rattle.std.specs.Option.{option_or}
 use Rattle.std.proofs.Common.{◌≡◌, ℕ, ◌+◌, ◌*◌, ◌%◌, ◌==◌, Bool, true, false, List, [], map, Option, Some, None}
@@ -9,6 +9,12 @@ use Rattle.hg_size.specs.Sizes.{places_of}
 use Rattle.hg_size.specs.Runs.{may_begin}
 use Rattle.hg_segment.specs.Kept.{Kept, class_at}
 use Rattle.hg_segment.specs.Right.{vacant_in}
+use Rattle.hg_machine.specs.Policy.{Policy}
+use Rattle.hg_machine.specs.Request.{alloc_verdict, size_of, words_for}
+use Rattle.hg_segment.specs.Charges.{charge_of}
+use Rattle.hg_heap.specs.Charges.{charge_in}
+use Rattle.hg_heap.specs.Refusals.{refusal_of, refused_at, refused_by}
+use Rattle.hg_heap.proofs.ChargeChanged.{charge_same}
 use Rattle.hg_heap.specs.Choice.{begun_or, blank_by, blank_of, blank_on, chosen_place, front_page, next_index}
 use Rattle.hg_heap.specs.Held.{all_pages, is_some_place, KeepsLists, segment_in}
 use Rattle.hg_heap.specs.Keeping.{Rest, rest_of}
@@ -75,3 +81,18 @@ module _ {xs ys : List (Kept RunSegment)} {segment : ℕ} {change : RunSegment �
       (option_or
       (front_page number_in records_in (record { segments = xs; queues = queues }) arena size)
       (find (λ (page : ℕ). is_some_place (blank_same arena size page i)) all_pages))
+
+  -- so it is refused as it was, or served
+  pub refusal_stays : (policy : Policy) (queues : List (List ℕ)) (actor arena bytes : ℕ)
+      → refusal_of number_in records_in policy actor arena bytes
+      (record { segments = ys; queues = queues })
+      ≡ refusal_of number_in records_in policy actor arena bytes
+      (record { segments = xs; queues = queues })
+  refusal_stays policy queues actor arena bytes = λ i.
+      refused_at
+      (refused_by
+      (alloc_verdict policy actor arena (words_for bytes)
+      ((ap (λ (s : List (Kept RunSegment)). charge_in records_in s actor) c.now
+      ∙ charge_same records_in xs c.found c.one (changed_one once c) actor c.at
+      (ap (λ rs. charge_of rs c.one.classes actor) c.same_records)) i)))
+      (chosen_stays queues arena (size_of bytes) i)

@@ -90,46 +90,6 @@ module _ {id : TableId} {policy : Policy} {number : ℕ} {hand : Option Handle}
         | inr out ↦ l.work.seated at k out.1
       ]
 
-  -- where no step is made, it comes back as it was
-  lent_has : HaveRoles lent.slots.seat.seat.me.0.run
-      (of_segment segment ∷ of_worker (worker_view policy number hand ys) (log_in call) ∷ [])
-  lent_has =
-      subst
-      (λ (v : View).
-      HaveRoles lent.slots.seat.seat.me.0.run (of_segment segment ∷ of_worker v (log_in call) ∷ []))
-      (sym (view_stays once lent policy number (hand_place hand) (hand_generation hand)))
-      (lent_asks (changed_one once lent)
-      (found_is number_in ys segment lent.found (changed_one once lent) (found_there once lent))).has
-
-  once_unstepped : HasNoRepeats (numbers_in ys)
-  once_unstepped = subst HasNoRepeats (sym (numbers_stay once lent)) once
-
-  pub unstepped_loan : (one : Kept RunSegment) → segment_in number_in ys segment ≡ Some one
-      → 2 ≤ length one.slots.seat.seat.me.0.run
-  unstepped_loan one there =
-      let is : changed_one once lent ≡ one =
-      one_held ys segment (changed_one once lent) one
-      (found_is number_in ys segment lent.found (changed_one once lent) (found_there once lent)) there in
-      let count = lent_has.count in
-      subst (λ (k : Kept RunSegment). 2 ≤ length k.slots.seat.seat.me.0.run) is (omega (arith, count))
-
-  module _ {ws : List (Kept RunSegment)} {back : RunSeat} (given : HasComeBack segment ys back ws) where
-    pub unstepped_logged : log_in back ≡ log_in call
-    unstepped_logged =
-        came_logged policy number hand once_unstepped (found_there once lent) lent_same lent_has others_lent
-        given
-
-    pub unstepped_kinds : kinds number_in ws ≡ kinds number_in xs
-    unstepped_kinds = kinds_stay once_unstepped given ∙ kinds_stay once lent
-
-    pub unstepped_view : worker_view policy number hand ws ≡ worker_view policy number hand ys
-    unstepped_view = view_stays once_unstepped given policy number (hand_place hand) (hand_generation hand)
-
-    pub unstepped_work : IsAtWork id policy number hand ws back
-    unstepped_work =
-        came_back policy number hand once_unstepped (found_there once lent) lent_same lent_has others_lent
-        given
-
   -- the heap makes a step there, and the call is tied
   module _ {zs : List (Kept RunSegment)} {place : Place} {word left : ℕ} {a : Answer}
       (s : IsTiedStep policy segment place word left e a ys zs) (below : number < policy.workers) where

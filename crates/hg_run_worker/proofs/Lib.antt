@@ -3,9 +3,7 @@ pub mod Course
 pub mod Ready
 pub mod Lettable
 pub mod Ends
-pub mod Refusals
 pub mod ChosenStays
-pub mod AllocEnds
 pub mod DecidedLike
 pub mod PoolParts
 pub mod NextTaken

@@ -17,7 +17,7 @@ use Rattle.hg_heap.proofs.Founds.{held_by}
 use Rattle.hg_run_table.specs.declared.segment.RunSegment.{RunSegment}
 use Rattle.hg_run_table.specs.Calls.{IsWorkers, log_in}
 use Rattle.hg_run_worker.specs.AtWork.{IsAtWork, number_in, worker_view}
-use Rattle.hg_run_worker.specs.AtWork.{view_in, HasCalledHere, HoldsSame, IsReady, IsStill, KeepsRest}
+use Rattle.hg_run_worker.specs.AtWork.{view_in, HasCalledHere, HoldsSame, IsReady, KeepsRest}
 use Rattle.hg_run_worker.specs.declared.worker.RunWorker.{RunWorker}
 use Rattle.hg_run_table.specs.declared.table.RunTable.{RunTable}
 use Rattle.std.specs.Arc.{arc_value}
@@ -128,23 +128,5 @@ decided_here {event} {answer} {shown} {left} old new ready rest now same bare wo
     left,
     subst (λ (v : View). Ties (view_in old) shown event answer v left)
         (sym (view_again old new rest ∙ ap (worker_view old.policy old.number old.hand) now)) tied,
-  );
-}
-
--- a call that was made by a worker that still has what another time it had is made by that one
-pub called_from : {event : Event} {answer : Answer} (old mid new : RunWorker) → IsStill old mid
-    → HasCalledHere event answer mid new → HasCalledHere event answer old new
-called_from {event} {answer} old mid new still made = record {
-  called = record {
-    ready = made.called.ready;
-    log = made.called.log ∙ ap (λ calls. calls ++ (event, answer) ∷ []) still.log;
-    rest = rest_twice old mid new still.rest made.called.rest;
-  };
-  holds = λ segment. made.holds segment ∙ still.holds segment;
-  tied = (
-    made.tied.0,
-    made.tied.1,
-    subst (λ (v : View). Ties v made.tied.0 event answer (view_in new) made.tied.1) still.view
-        made.tied.2,
   );
 }

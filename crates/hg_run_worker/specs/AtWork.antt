@@ -113,11 +113,3 @@ pub record HasCalledHere (event : Event) (answer : Answer) (old new : RunWorker)
   pub tied :
       (shown : Option Shown) × (left : Option Shown)
       × Ties (view_in old) shown event answer (view_in new) left
-
--- it is ready again, nothing is logged, and it has what it had
-pub record IsStill (old new : RunWorker) : Type 0 where
-  pub ready : IsReady new
-  pub log : log_in new.call ≡ log_in old.call
-  pub rest : KeepsRest old new
-  pub holds : HoldsSame old new
-  pub view : view_in new ≡ view_in old

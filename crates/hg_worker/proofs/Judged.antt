@@ -16,12 +16,12 @@ use Rattle.hg_heap.specs.declared.refused.Refused.TheVariants as refused
 use Rattle.hg_heap.specs.Answers.{refused_answer, read_answer, done_answer, away_answer}
 use Rattle.hg_heap.specs.Judged.{IsJudged, refused_rule, rule_in}
 use Rattle.hg_heap.specs.Reading.{use_denial}
+use Rattle.hg_heap.proofs.Undenied.{undenied_live}
 use Rattle.hg_table.specs.declared.view.Part.{Part}
 use Rattle.hg_worker.specs.Answers.{is_done}
 use Rattle.hg_worker.specs.Had.{Had}
 use Rattle.hg_worker.specs.Judged.{found_word, rule_of}
 use Rattle.hg_worker.specs.Seen.{Looked}
-use Rattle.hg_worker.proofs.Frees.{undenied_live}
 
 -- a word says what was shown
 pub found_slot : (shown : Option Shown) → slot_in (found_word shown) ≡ slot_shown shown

@@ -1,7 +1,8 @@
-use Rattle.hg_run_worker.proofs.Ready.{called_from}
+use Rattle.std.proofs.Common.{None}
+use Rattle.hg_run_worker.specs.AtWork.{hand_generation, hand_place}
 use Rattle.hg_run_worker.proofs.worker.RunWorker.alloc.Goals as goal
 
-pub returns-in-Err-alloc_at-clause-called : goal.returns-in-Err-alloc_at-clause-called
-returns-in-Err-alloc_at-clause-called c =
-    called_from c.args.self.now c.alloc_at.new.self c.log_refused-in-Err-alloc_at.new.self
-    c.in-Err-alloc_at.ensures.refused.0 c.log_refused-in-Err-alloc_at.ensures.called
+pub log_refused-requires-clause-tied : goal.log_refused-requires-clause-tied
+log_refused-requires-clause-tied c =
+    let s = c.args.self.now in
+    c.in-Err.ensures.refused None s.number (hand_place s.hand) (hand_generation s.hand) s.below

@@ -5,6 +5,7 @@ use Rattle.hg_place.specs.Lives.{word_generation, IsLiveWord}
 use Rattle.hg_heap.specs.Ties.{shown_at}
 use Rattle.hg_heap.proofs.Reached.{denied_by, allowed_by}
 use Rattle.hg_heap.proofs.Options.{none_is, some_of}
+use Rattle.hg_heap.proofs.Undenied.{undenied_live}
 use Rattle.hg_machine.specs.declared.Answer.TheVariants as answer
 use Rattle.hg_machine.specs.declared.Event.TheVariants as event
 use Rattle.hg_machine.specs.Policy.{arena_of}
@@ -16,7 +17,7 @@ use Rattle.hg_worker.specs.Judged.{rule_of}
 use Rattle.hg_worker.specs.Seats.{number_in, records_in, part_of_seat}
 use Rattle.hg_worker.specs.Seen.{word_of, Decided, Looked}
 use Rattle.hg_worker.specs.Workers.{had_in}
-use Rattle.hg_worker.proofs.Frees.{word_within, within_reach, hand_full, undenied_live}
+use Rattle.hg_worker.proofs.Frees.{word_within, within_reach, hand_full}
 use Rattle.hg_worker.proofs.Frees.{lost_is_denied, own_decides_twice, free_denied, free_busy}
 use Rattle.hg_worker.proofs.Frees.{free_parted, own_steps_twice}
 use Rattle.hg_worker.proofs.Hands.{own_saw, saw_freed, knows_new}
