@@ -1,6 +1,6 @@
 -- What a table asks of each step at a word.
 use Rattle.std.proofs.Common.{◌≡◌, ℕ, ◌+◌, ◌-◌, ◌<◌, eqb, List, get_or, set, map, refl, sym}
-use Rattle.std.proofs.Common.{subst, eq-eqb, ne_eqb}
+use Rattle.std.proofs.Common.{subst, eq-eqb, ne_eqb, arith}
 use Rattle.std.proofs.lemmas.List.{set-get_or}
 use mathlib.Core.Option.{none, some}
 use lib.ListN.{get_elem?}
@@ -21,12 +21,14 @@ use Rattle.hg_table.proofs.Cuts.{are_apart}
 use Rattle.hg_table.proofs.WordSteps.{shown_to, keeps_rule, keeps_rule_by, after}
 use Rattle.hg_run_table.specs.declared.part.Part.{Part}
 use Rattle.hg_run_table.specs.declared.part.SeatView.{SeatView}
+use Rattle.hg_run_table.specs.Found.{IsAgreed, IsFound}
 use Rattle.hg_run_table.specs.Owing.{DecidesAt, DecidesAlone}
 use Rattle.hg_run_table.specs.Rule.{Table, lives_of, KeepsBoth}
 use Rattle.hg_run_table.specs.Seated.{HaveRoles, seated}
 use Rattle.hg_run_table.specs.Told.{Mine, looked, took, looked_deciding, exchanged_deciding, opened}
 use Rattle.hg_run_table.specs.Told.{decided}
 use Rattle.hg_run_table.proofs.Decided.{keeps_on}
+use Rattle.hg_run_table.proofs.RolesOfViews.{part_at}
 
 abbrev pub runs : List SeatView → List (List Part)
 runs views = map (λ view. view.run) views
@@ -73,7 +75,30 @@ module _ (policy : Policy) (slots id : ℕ) (me : Mine) where
       shown_to (places_of_policy policy) (lives_of s) r.lives at id me.0.lives
       (lives_at s.views seat)
 
+  -- some state agrees with the parts of the seat
+  abbrev agreed : (s : Table) → KeepsBoth policy s → get_elem? s.views id ≡ some me.0 → IsAgreed me.0.run
+  agreed s r seat = record {
+    state = r.run.state;
+    sound = r.run.shown.sound;
+    agrees = λ roles has j role at.
+        let p = part_at me.0.run roles has j role at in
+        (r.run.agrees id j p.0 (me.0.run, run_at s.views seat, p.1)).like role p.2.named p.2.agrees;
+  }
+
+  -- and shows the word of a place
+  found_at : (s : Table) → KeepsBoth policy s → get_elem? s.views id ≡ some me.0 → (place : ℕ)
+      → place < places_of_policy policy → IsFound place (get_or s.words (place + 1) 0) me.0.run
+  unfolding IsFound
+  found_at s r seat place below =
+      record { agreed = agreed s r seat; shown = r.run.shown.each place below }
+
   module _ (at : ℕ) (inside : at < places_of_policy policy + 1) where
+    pub found_behind : (s : Table) → KeepsBoth policy s → get_elem? s.views id ≡ some me.0 → (place : ℕ)
+        → at ≡ place + 1 → IsFound place (get_or s.words at 0) me.0.run
+    found_behind s r seat place is =
+        subst (λ (n : ℕ). IsFound place (get_or s.words n 0) me.0.run) (sym is)
+        (found_at s r seat place (omega (arith, inside, is)))
+
     -- the life rule after a step by one of the parts
     pub stepped_lives : (by : ℕ) (kind : WordStep) → MayMakeBy by kind at me.0.lives → (s : Table)
         → KeepsBoth policy s → get_elem? s.views id ≡ some me.0
@@ -131,7 +156,7 @@ module _ (policy : Policy) (slots id : ℕ) (me : Mine) where
           keeps,
           tt,
           quiet view s r seat (stepped_lives by take_home may s r seat),
-          ((shown s r seat at, refl, refl), refl),
+          ((shown s r seat at, refl, refl), refl, found_behind s r seat),
         )
 
     module _ (roles : List Role) (made : ℕ → List (ℕ × Call)) (change : ℕ → Role → Role)
@@ -270,5 +295,5 @@ module _ (policy : Policy) (slots id : ℕ) (me : Mine) where
             (record { words = s.words; homes = s.homes; views = vs }))
             (sym (set_again (known s.views) id me.0.lives (lives_at s.views seat))) r.lives)
             now.1),
-        (refl, refl, now.2),
+        (refl, refl, now.2, agreed s r seat),
       )

@@ -25,7 +25,7 @@ use Rattle.hg_run_table.specs.Seated.{seated}
 use Rattle.hg_run_table.specs.Told.{Mine, looked_answering, opened_answering, exchanged_answering}
 use Rattle.hg_run_table.specs.Told.{asks}
 use Rattle.hg_run_table.proofs.Allowed.{runs, known, set_both, run_at, lives_at, shown}
-use Rattle.hg_run_table.proofs.Allowed.{stepped_lives, seen_lives}
+use Rattle.hg_run_table.proofs.Allowed.{stepped_lives, seen_lives, found_behind}
 use Rattle.hg_run_table.proofs.Answering.{keeps_answering, keeps_asking, was_answered}
 
 -- at the spare word all words stay, and what the seat knows of words and lives
@@ -138,7 +138,11 @@ module _ (policy : Policy) (slots id : ℕ) (me : Mine) (place : ℕ)
         keeps,
         tt,
         k.both,
-        ((shown policy slots id me s r seat (place + 1), refl, refl), placed (λ n. HasLeft n w w me.0.run k.run) k.was),
+        (
+          (shown policy slots id me s r seat (place + 1), refl, refl),
+          placed (λ n. HasLeft n w w me.0.run k.run) k.was,
+          found_behind policy slots id me (place + 1) within s r seat,
+        ),
       )
 
   -- what an exchange keeps, by what it leaves
@@ -176,7 +180,11 @@ module _ (policy : Policy) (slots id : ℕ) (me : Mine) (place : ℕ)
         keeps,
         tt,
         exchanged_both (kind old) old (same old) view s k,
-        ((shown policy slots id me s r seat (place + 1), refl, refl), placed (λ n. HasLeft n w (left_by (kind old) w) me.0.run k.run) k.was),
+        (
+          (shown policy slots id me s r seat (place + 1), refl, refl),
+          placed (λ n. HasLeft n w (left_by (kind old) w) me.0.run k.run) k.was,
+          found_behind policy slots id me (place + 1) within s r seat,
+        ),
       )
 
   pub opens_answering : (by live : ℕ) → MayMakeBy by (open_as live) (place + 1) me.0.lives
@@ -194,5 +202,14 @@ module _ (policy : Policy) (slots id : ℕ) (me : Mine) (place : ℕ)
         keeps,
         tt,
         k.both,
-        ((w, shown policy slots id me s r seat (place + 1), placed (λ n. HasLeft n w live me.0.run k.run) k.was), refl, refl),
+        (
+          (
+            w,
+            shown policy slots id me s r seat (place + 1),
+            placed (λ n. HasLeft n w live me.0.run k.run) k.was,
+            found_behind policy slots id me (place + 1) within s r seat,
+          ),
+          refl,
+          refl,
+        ),
       )

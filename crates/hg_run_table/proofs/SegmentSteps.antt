@@ -15,6 +15,7 @@ use Rattle.hg_table.proofs.Told.{one_shown, not_ended}
 use Rattle.hg_run_table.specs.declared.part.Part.{Part}
 use Rattle.hg_run_table.specs.declared.table.RunSeat.{RunSeat}
 use Rattle.hg_run_table.specs.Asked.{MayLeave, HasLeft, HasLeftIf, is_asked}
+use Rattle.hg_run_table.specs.Found.{IsFound}
 use Rattle.hg_run_table.specs.Segments.{place_at, SeatMayLeave, StepsIn}
 
 -- the first part of a seat of one part steps as the seat does
@@ -76,11 +77,13 @@ module _ (segment slot number : ℕ) (seat : RunSeat) (one : seat.seat.me.0.live
   pub stepped : (found left : ℕ) (new : RunSeat)
       → HasStepped (part_of seat.seat.me.0.lives) (number + 1) found left (part_of new.seat.me.0.lives)
       → HasLeft number found left seat.seat.me.0.run new.seat.me.0.run
+      → IsFound number found seat.seat.me.0.run
       → new.seat.table_id ≡ seat.seat.table_id
       → StepsIn segment slot found left seat new
-  stepped found left new step answered same = record {
+  stepped found left new step answered was same = record {
     step = subst (λ (n : ℕ). HasStepped (part_of seat.seat.me.0.lives) (n + 1) found left (part_of new.seat.me.0.lives)) is step;
     answered = subst (λ (n : ℕ). HasLeft n found left seat.seat.me.0.run new.seat.me.0.run) is answered;
+    agreed = subst (λ (n : ℕ). IsFound n found seat.seat.me.0.run) is was;
     same = same;
   }
 

@@ -14,3 +14,4 @@ pub mod Picks
 pub mod JoinedCalls
 pub mod FreedOnce
 pub mod NewSeats
+pub mod Found

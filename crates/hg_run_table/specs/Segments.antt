@@ -7,6 +7,7 @@ use Rattle.hg_table.specs.View.{part_of}
 use Rattle.hg_table.specs.Seats.{word_at, HasStepped, HaveMet}
 use Rattle.hg_run_table.specs.declared.table.RunSeat.{RunSeat}
 use Rattle.hg_run_table.specs.Asked.{MayLeave, HasLeft, is_asked}
+use Rattle.hg_run_table.specs.Found.{IsFound}
 
 -- the number of a place, by its segment and its number in it
 abbrev pub place_at : ℕ → ℕ → ℕ
@@ -23,13 +24,15 @@ abbrev pub IsQuiet : RunSeat → Type 0
 IsQuiet seat = is_asked seat.seat.me.0.run ≡ false
 
 -- The seat has made a step at a place: of words and lives it knows what the step did, what was asked
--- is answered there, and it is of its table still
+-- is answered there, and it is of its table still; some state that agreed with its parts of the run showed the
+-- word that was found
 pub record StepsIn (segment slot found left : ℕ) (old new : RunSeat) : Type 0 where
   pub step :
       HasStepped (part_of old.seat.me.0.lives) (word_at segment slot) found left
       (part_of new.seat.me.0.lives)
   pub answered :
       HasLeft (place_at segment slot) found left old.seat.me.0.run new.seat.me.0.run
+  pub agreed : IsFound (place_at segment slot) found old.seat.me.0.run
   pub same : new.seat.table_id ≡ old.seat.table_id
 
 -- A seat of its table that has one part of the run, and nothing of words and lives, may be lent to it. (A

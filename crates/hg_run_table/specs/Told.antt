@@ -12,6 +12,7 @@ use Rattle.hg_table.specs.Told.{IsShownTo, AreApart}
 use Rattle.hg_table.specs.View.{View}
 use Rattle.hg_run_table.specs.declared.part.SeatView.{SeatView}
 use Rattle.hg_run_table.specs.Asked.{HasLeft, asking}
+use Rattle.hg_run_table.specs.Found.{IsAgreed, IsFound}
 use Rattle.hg_run_table.specs.Seated.{HaveRoles}
 
 -- a seat's view, and what it holds of the table beside it, which is nothing here
@@ -45,6 +46,11 @@ ArePartsApart view =
     (j k : ℕ) (a b : life.Part) → get_elem? view j ≡ some a → get_elem? view k ≡ some b → j ≢ k
     → AreApart a b
 
+-- at the word of a place, which stands behind the spare one, some state that agrees with the parts shows the
+-- word
+abbrev pub FoundAt : Told → ℕ → Mine → Type 0
+FoundAt told word mine = (place : ℕ) → told.word ≡ place + 1 → IsFound place word mine.0.run
+
 -- steps that decide nothing
 abbrev pub looked : Told → Mine → ℕ → Mine → Type 0
 looked told mine word after =
@@ -52,7 +58,7 @@ looked told mine word after =
 
 abbrev pub took : ℕ → Told → Mine → ℕ → Mine → Type 0
 took by told mine word after =
-    TellsBy by take_home told mine word after × (after.0.run ≡ mine.0.run)
+    TellsBy by take_home told mine word after × (after.0.run ≡ mine.0.run) × FoundAt told word mine
 
 -- steps that decide calls
 module _ (roles : List Role) (change : ℕ → Role → Role) where
@@ -72,10 +78,11 @@ module _ (roles : List Role) (change : ℕ → Role → Role) where
       × (after.0.lives ≡ view_after by (open_as live) told.word live mine.0.lives)
       × (after.1 ≡ mine.1) × Changes roles change live after
 
-  -- at the spare word nothing is told of words and lives
+  -- at the spare word nothing is told of words and lives; some state agreed with all parts
   abbrev pub decided : Told → Mine → ℕ → Mine → Type 0
   decided told mine word after =
       (after.0.lives ≡ mine.0.lives) × (after.1 ≡ mine.1) × Changes roles change word after
+      × IsAgreed mine.0.run
 
 -- what a worker of the seat is asked, if one is, is answered at the place of the word, which stands
 -- behind the spare one
@@ -87,17 +94,17 @@ Answered told word left mine after =
 abbrev pub looked_answering : Told → Mine → ℕ → Mine → Type 0
 looked_answering told mine word after =
     Tells look told mine word after
-    × Answered told word word mine after
+    × Answered told word word mine after × FoundAt told word mine
 
 abbrev pub exchanged_answering : (ℕ → WordStep) → ℕ → Told → Mine → ℕ → Mine → Type 0
 exchanged_answering kind by told mine word after =
     TellsBy by (kind told.first) told mine word after
-    × Answered told word (left_by (kind told.first) word) mine after
+    × Answered told word (left_by (kind told.first) word) mine after × FoundAt told word mine
 
 abbrev pub opened_answering : ℕ → Told → Mine → ℕ → Mine → Type 0
 opened_answering by told mine live after =
     ((word : ℕ) × IsShownTo told.word word mine.0.lives
-    × Answered told word live mine after)
+    × Answered told word live mine after × FoundAt told word mine)
     × (after.0.lives ≡ view_after by (open_as live) told.word live mine.0.lives)
     × (after.1 ≡ mine.1)
 

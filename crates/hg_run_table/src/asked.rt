@@ -8,6 +8,7 @@ ghost use Rattle.hg_table.specs.Steps.{look, open_as, close_from, part_from, May
 ghost use Rattle.hg_table.specs.Steps.{known_after, view_after, left_by};
 ghost use Rattle.hg_table.specs.Told.{IsShownTo};
 ghost use Rattle.hg_run_table.specs.Asked.{MayLeave, HasLeft, IsWorkerAsked, asking};
+ghost use Rattle.hg_run_table.specs.Found.{IsFound};
 ghost use Rattle.hg_run_table.specs.Seated.{HaveRoles};
 
 use crate::decision::{Asks, StepsBy};
@@ -45,6 +46,7 @@ impl RunTable {
             ≡ map (known_after look (number_of place + 1) result) seat.old.seat.me.0.lives }
         ensures left { HasLeft (number_of place) result result seat.old.seat.me.0.run
             seat.new.seat.me.0.run }
+        ensures found { IsFound (number_of place) result seat.old.seat.me.0.run }
     {
         let shared = &self.table.shared;
         shared.load::<LookAnswering>(&mut seat.seat, place.number() + 1)
@@ -67,7 +69,8 @@ impl RunTable {
         ensures left { (word : ℕ)
             × IsShownTo (number_of place + 1) word seat.old.seat.me.0.lives
             × HasLeft (number_of place) word live seat.old.seat.me.0.run
-            seat.new.seat.me.0.run }
+            seat.new.seat.me.0.run
+            × IsFound (number_of place) word seat.old.seat.me.0.run }
     {
         let shared = &self.table.shared;
         shared.store::<OpenAnswering<P>>(&mut seat.seat, place.number() + 1, live);
@@ -92,6 +95,7 @@ impl RunTable {
             seat.old.seat.me.0.lives }
         ensures left { HasLeft (number_of place) result
             (left_by (close_from expected) result) seat.old.seat.me.0.run seat.new.seat.me.0.run }
+        ensures found { IsFound (number_of place) result seat.old.seat.me.0.run }
     {
         let shared = &self.table.shared;
         let at = place.number() + 1;
@@ -115,6 +119,7 @@ impl RunTable {
             seat.old.seat.me.0.lives }
         ensures left { HasLeft (number_of place) result
             (left_by (part_from expected) result) seat.old.seat.me.0.run seat.new.seat.me.0.run }
+        ensures found { IsFound (number_of place) result seat.old.seat.me.0.run }
     {
         let shared = &self.table.shared;
         let at = place.number() + 1;

@@ -1,7 +1,10 @@
 //! Calls that concern a worker and a remote list, or a worker and the pool: one event of two seats
 //! that are joined for it.
 
-ghost use Rattle.std.specs.Prelude.{◌≡◌, [], ◌∷◌, ◌++◌};
+ghost use Rattle.std.specs.Prelude.{◌≡◌, [], ◌∷◌, ◌++◌, None};
+ghost use Rattle.hg_machine.specs.State.{State};
+ghost use Rattle.hg_agreement.specs.Agreement.{Agrees};
+ghost use Rattle.hg_roles.specs.Roles.{RoleAgrees};
 ghost use Rattle.hg_run_table.specs.Calls.{IsWorkers, log_in};
 ghost use Rattle.hg_run_table.specs.JoinedCalls.{IsOthers, IsTiedTogether};
 
@@ -11,7 +14,7 @@ use std::marker::Brand;
 
 impl RunTable {
     /// A call of a worker and another part is decided at one load of the spare word, by their seats
-    /// joined; the other's comes back.
+    /// joined; the other's comes back. Before it some state agreed with both.
     pub fn call_together<W: OwnCall, P: OtherPart>(
         &self,
         seat: &mut RunSeat,
@@ -31,6 +34,7 @@ impl RunTable {
         ensures log { log_in seat.new ≡ log_in seat.old ++ W.call ∷ [] }
         ensures worker { IsWorkers seat.new W.after }
         ensures other { IsOthers result P.left }
+        ensures agreed { (m : State) × Agrees m W.before None × RoleAgrees P.role m }
     {
         self.join(seat, other);
         self.decide::<Brand>(seat);

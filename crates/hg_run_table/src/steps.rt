@@ -7,6 +7,7 @@ ghost use Rattle.hg_roles.specs.Served.{places_of_policy};
 ghost use Rattle.hg_table.specs.Steps.{look, open_as, close_from, part_from, take_home, MayMakeBy};
 ghost use Rattle.hg_table.specs.Steps.{known_after, view_after, left_by};
 ghost use Rattle.hg_table.specs.Told.{IsShownTo};
+ghost use Rattle.hg_run_table.specs.Found.{IsAgreed, IsFound};
 ghost use Rattle.hg_run_table.specs.Owing.{DecidesAt, DecidesAlone};
 ghost use Rattle.hg_run_table.specs.Reshaping.{lives_kept, lives_given, MayCutLives};
 ghost use Rattle.hg_run_table.specs.Seated.{HaveRoles};
@@ -44,6 +45,7 @@ impl RunTable {
         ensures lives { seat.new.seat.me.0.lives
             ≡ view_after P.by take_home (number_of place + 1) result seat.old.seat.me.0.lives }
         ensures run { seat.new.seat.me.0.run ≡ seat.old.seat.me.0.run }
+        ensures found { IsFound (number_of place) result seat.old.seat.me.0.run }
     {
         let shared = &self.table.shared;
         shared.load::<Take<P>>(&mut seat.seat, place.number() + 1)
@@ -154,6 +156,7 @@ impl RunTable {
         ensures lives { seat.new.seat.me.0.lives ≡ seat.old.seat.me.0.lives }
         ensures roles { (word : ℕ)
             × HaveRoles seat.new.seat.me.0.run (map (D.change word) D.roles) }
+        ensures agreed { IsAgreed seat.old.seat.me.0.run }
     {
         let shared = &self.table.shared;
         shared.load::<Deciding<D>>(&mut seat.seat, 0);

@@ -14,3 +14,9 @@ pub mod Reach
 pub mod NewPools
 pub mod Gathered
 pub mod LogsOfWorkers
+pub mod FreesAway
+pub mod Sending
+pub mod Quietly
+pub mod TakesAll
+pub mod TakenViews
+pub mod TakesHome

@@ -1,7 +1,8 @@
 -- A block of a segment that the worker doesn't hold is refused by the verdict on its word, else as one that is
 -- elsewhere.
 use Rattle.std.specs.Prelude.{nat_lt}
-use Rattle.std.proofs.Common.{◌≡◌, ℕ, Bool, false, not, List, [], ◌∷◌, length, Option, Some, None, refl, ap, subst, sym, ◌∙◌}
+use Rattle.std.proofs.Common.{◌≡◌, ◌<◌, ℕ, Bool, true, false, arith, is_some, not, List, [], ◌∷◌, length, Option, Some, None, refl, ap, subst, sym, ◌∙◌}
+use Rattle.std.proofs.lemmas.Option.{slice_get_within}
 use Rattle.hg_place.specs.declared.Actor.{Actor}
 use Rattle.hg_place.specs.declared.Handle.{Handle}
 use Rattle.hg_place.specs.declared.Place.{Place}
@@ -12,12 +13,15 @@ use Rattle.hg_machine.specs.declared.Answer.{Answer}
 use Rattle.hg_machine.specs.declared.Answer.TheVariants as answer
 use Rattle.hg_machine.specs.declared.Event.TheVariants as event
 use Rattle.hg_machine.specs.declared.Rule.{Rule}
+use Rattle.hg_machine.specs.Policy.{Policy, arena_of}
 use Rattle.hg_machine.specs.Refusal.{denial_or}
 use Rattle.hg_agreement.specs.Seen.{reach_in, refusal_in}
 use Rattle.hg_heap.specs.Answers.{away_answer, list_denial}
 use Rattle.hg_heap.specs.Held.{is_held}
 use Rattle.hg_heap.specs.Reading.{use_denial}
+use Rattle.hg_heap.proofs.Options.{some_of}
 use Rattle.hg_heap.proofs.ViewRoom.{view_holds}
+use Rattle.hg_roles.specs.Served.{places_of_policy}
 use Rattle.hg_run_worker.specs.AtWork.{number_in, records_in, view_in}
 use Rattle.hg_run_worker.specs.declared.worker.RunWorker.{RunWorker}
 
@@ -50,3 +54,13 @@ out_of_sight worker actor place word away =
     denial_or (list_denial worker.policy actor place word) ((not b, answer.Elsewhere) ∷ []))
     (view_holds number_in records_in worker.heap.segments place.segment ∙ away)
     ∙ by_denial (list_denial worker.policy actor place word) []
+
+-- the place of a segment of the policy has a word in the table
+pub place_within : (policy : Policy) (place : Place) → is_some (arena_of policy place.segment) ≡ true
+    → number_of place < places_of_policy policy
+place_within policy place there =
+    let arena = some_of (arena_of policy place.segment) there in
+    let inside = slice_get_within policy.segments place.segment arena.0 arena.1 in
+    let a = place.page_below in
+    let b = place.index_below in
+    omega (arith, inside, a, b)

@@ -4,11 +4,14 @@ use Rattle.std.specs.Prelude.{◌≡◌, ℕ, List, [], ◌∷◌, ◌++◌, Opt
 use Rattle.std.specs.Arc.{arc_value}
 use Rattle.std.specs.Box.{boxed_slice_items}
 use Rattle.atomic_table.specs.Seated.{TableId}
+use Rattle.hg_place.specs.declared.Actor.{Actor}
 use Rattle.hg_place.specs.declared.Handle.{Handle}
 use Rattle.hg_place.specs.declared.standing.Standing.{Standing}
 use Rattle.hg_place.specs.Places.{number_of}
 use Rattle.hg_machine.specs.declared.Answer.{Answer}
+use Rattle.hg_machine.specs.declared.Answer.TheVariants as answer
 use Rattle.hg_machine.specs.declared.Event.{Event}
+use Rattle.hg_machine.specs.declared.Event.TheVariants as event
 use Rattle.hg_machine.specs.Policy.{Policy}
 use Rattle.hg_segment.specs.Kept.{Kept}
 use Rattle.hg_agreement.specs.Agreement.{Ties}
@@ -66,6 +69,11 @@ pub record IsSeated (id : TableId) (one : RunSegment) : Type 0 where
   pub same : one.seat.seat.table_id ≡ id
   pub part : HaveRoles one.seat.seat.me.0.run (of_segment one.segment ∷ [])
 
+-- so of each that is held
+abbrev pub AreSeated : TableId → List (Kept RunSegment) → Type 0
+AreSeated id segments =
+    (at : ℕ) (k : Kept RunSegment) → slice_get segments at ≡ Some k → IsSeated id k.slots
+
 -- The worker's part of the run is in a seat that has nothing of words and lives, and has what the worker has
 -- and has logged; the seat of each segment that it holds has its part alone
 pub record IsAtWork (id : TableId) (policy : Policy) (number : ℕ) (hand : Option Handle)
@@ -73,22 +81,33 @@ pub record IsAtWork (id : TableId) (policy : Policy) (number : ℕ) (hand : Opti
   pub same : call.seat.table_id ≡ id
   pub bare : call.seat.me.0.lives ≡ []
   pub worker : IsWorkers call (worker_view policy number hand segments)
-  pub seated :
-      (at : ℕ) (k : Kept RunSegment) → slice_get segments at ≡ Some k → IsSeated id k.slots
+  pub seated : AreSeated id segments
+
+-- what the worker knows of words and lives that it doesn't hold is in a seat of one part, which has none of the run
+pub record IsOwn (id : TableId) (seat : RunSeat) : Type 0 where
+  pub same : seat.seat.table_id ≡ id
+  pub one : seat.seat.me.0.lives ≡ part_of seat.seat.me.0.lives ∷ []
+  pub bare : seat.seat.me.0.run ≡ []
+
+abbrev pub HasOwn : TableId → Option RunSeat → Type 0
+HasOwn id None = ⊥
+HasOwn id (Some seat) = IsOwn id seat
 
 -- A worker that makes no call is at work, its segments are as the policy has them, and the table is of its policy
 pub record IsReady (worker : RunWorker) : Type 0 where
   pub work :
       IsAtWork (arc_value worker.table).table.shared.table_id worker.policy worker.number worker.hand
       worker.heap.segments worker.call
+  pub own : HasOwn (arc_value worker.table).table.shared.table_id worker.own
   pub of : AreOf number_in worker.policy worker.heap.segments
   pub key : (arc_value worker.table).table.shared.key ≡ worker.policy
 
--- table, policy, number and hand are as they were
+-- table, policy, number, own seat and hand are as they were
 pub record KeepsRest (old new : RunWorker) : Type 0 where
   pub table : arc_value new.table ≡ arc_value old.table
   pub policy : new.policy ≡ old.policy
   pub number : new.number ≡ old.number
+  pub own : new.own ≡ old.own
   pub hand : new.hand ≡ old.hand
 
 -- A worker that was ready made a call: it is ready again, its log is longer by the call with its answer, and its
@@ -113,3 +132,31 @@ pub record HasCalledHere (event : Event) (answer : Answer) (old new : RunWorker)
   pub tied :
       (shown : Option Shown) × (left : Option Shown)
       × Ties (view_in old) shown event answer (view_in new) left
+
+-- table, policy and number are as they were, and this is in hand
+pub record KeepsWith (hand : Option Handle) (old new : RunWorker) : Type 0 where
+  pub table : arc_value new.table ≡ arc_value old.table
+  pub policy : new.policy ≡ old.policy
+  pub number : new.number ≡ old.number
+  pub now : new.hand ≡ hand
+
+-- the life in hand behind a Free
+abbrev pub hand_after : Answer → Handle → Option Handle → Option Handle
+hand_after answer.Parted handle hand = Some handle
+hand_after other handle hand = hand
+
+-- A call that leaves this in hand: the worker is ready again, its log is longer by the call with its answer, and
+-- its table, policy and number are as they were
+pub record HasCalledLeaving (hand : Option Handle) (event : Event) (answer : Answer) (old new : RunWorker)
+    : Type 0 where
+  pub ready : IsReady new
+  pub log : log_in new.call ≡ log_in old.call ++ (event, answer) ∷ []
+  pub rest : KeepsWith hand old new
+
+-- A Free: it may leave its block in hand, and moves no segment; its answer is tied as that of a call here is
+pub record HasFreed (actor : Actor) (handle : Handle) (answer : Answer) (old new : RunWorker) : Type 0 where
+  pub called : HasCalledLeaving (hand_after answer handle old.hand) (event.Free actor handle) answer old new
+  pub holds : HoldsSame old new
+  pub tied :
+      (shown : Option Shown) × (left : Option Shown)
+      × Ties (view_in old) shown (event.Free actor handle) answer (view_in new) left

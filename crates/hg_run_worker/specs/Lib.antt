@@ -5,3 +5,5 @@ pub mod NewPools
 pub mod Pools
 pub mod Service
 pub mod ServiceLaws
+pub mod Freeing
+pub mod Lists

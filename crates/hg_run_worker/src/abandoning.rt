@@ -70,7 +70,7 @@ impl RunWorker {
             never_twice(&self.table, one, other);
             unreachable!()
         }
-        self.call_with::<W, P>(pool);
+        self.call_with::<W, P>(&mut pool.call);
         pool.pool.put_orphan(one);
         true
     }

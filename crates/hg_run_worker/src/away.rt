@@ -1,7 +1,7 @@
 //! Blocks that the worker doesn't hold aren't reached: a call of them is refused by the word that a look
 //! at it finds.
 
-ghost use Rattle.std.specs.Prelude.{◌≡◌, ℕ, ◌<◌, true, false, [], Option, Some};
+ghost use Rattle.std.specs.Prelude.{◌≡◌, ℕ, ◌+◌, ◌<◌, true, false, map, Option, Some};
 ghost use Rattle.std.specs.Arc.{arc_value};
 ghost use Rattle.hg_place.specs.Places.{number_of};
 ghost use Rattle.hg_place.specs.Slots.{slot_in};
@@ -17,6 +17,8 @@ ghost use Rattle.hg_heap.specs.Reading.{use_denial};
 ghost use Rattle.hg_roles.specs.Deciding.{is_own};
 ghost use Rattle.hg_roles.specs.Served.{places_of_policy};
 ghost use Rattle.hg_run_table.specs.Calls.{IsWorkers, MayCall, log_in, view_by, with_call};
+ghost use Rattle.hg_table.specs.Steps.{known_after, look};
+ghost use Rattle.hg_table.specs.Told.{IsShownTo};
 ghost use Rattle.hg_run_worker.specs.AtWork.{HasCalledHere, IsReady, KeepsRest, number_in};
 ghost use Rattle.hg_run_worker.specs.AtWork.{view_in};
 
@@ -165,7 +167,7 @@ impl RunWorker {
     }
 
     /// A look at a place decides a call, by the worker's part of the run. Segments stay.
-    fn look_deciding<W: WorkerCall>(&mut self, place: Place) -> u64
+    pub(crate) fn look_deciding<W: WorkerCall>(&mut self, place: Place) -> u64
         requires same { self.old.call.seat.table_id
             ≡ (arc_value self.old.table).table.shared.table_id }
         requires place { number_of place
@@ -174,7 +176,9 @@ impl RunWorker {
         requires tied { (word : ℕ) → MayCall (arc_value self.old.table).table.shared.key
             (number_of place) word word W.before (W.call word) (W.after word) }
         ensures same { self.new.call.seat.table_id ≡ self.old.call.seat.table_id }
-        ensures bare { self.old.call.seat.me.0.lives ≡ [] → self.new.call.seat.me.0.lives ≡ [] }
+        ensures shown { IsShownTo (number_of place + 1) result self.old.call.seat.me.0.lives }
+        ensures lives { self.new.call.seat.me.0.lives
+            ≡ map (known_after look (number_of place + 1) result) self.old.call.seat.me.0.lives }
         ensures log { log_in self.new.call ≡ with_call (log_in self.old.call) (W.call result) }
         ensures worker { IsWorkers self.new.call
             (view_by W.before (W.call result) (W.after result)) }

@@ -49,6 +49,7 @@ impl RunWorker {
             number,
             heap,
             call,
+            own: Some(seat),
             hand: None,
         })
     }

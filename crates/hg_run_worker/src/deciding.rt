@@ -1,14 +1,17 @@
 //! Calls are decided by the worker's part of the run, alone or with the pool's.
 
-ghost use Rattle.std.specs.Prelude.{◌≡◌, [], ◌∷◌, ◌++◌};
+ghost use Rattle.std.specs.Prelude.{◌≡◌, [], ◌∷◌, ◌++◌, None};
 ghost use Rattle.std.specs.Arc.{arc_value};
+ghost use Rattle.hg_machine.specs.State.{State};
+ghost use Rattle.hg_agreement.specs.Agreement.{Agrees};
+ghost use Rattle.hg_roles.specs.Roles.{RoleAgrees};
 ghost use Rattle.hg_run_table.specs.Calls.{IsRefused, IsTiedAlone, IsWorkers, log_in};
 ghost use Rattle.hg_run_table.specs.JoinedCalls.{IsOthers, IsTiedTogether};
 ghost use Rattle.hg_run_worker.specs.AtWork.{KeepsRest, number_in};
 
-use crate::{RunPool, RunWorker};
+use crate::RunWorker;
 use hg_place::Place;
-use hg_run_table::{OtherPart, OwnCall, RunSegment, RunTable};
+use hg_run_table::{OtherPart, OwnCall, RunSeat, RunSegment, RunTable};
 use hg_segment::Segment;
 use std::alloc::Global;
 use std::marker::Brand;
@@ -51,33 +54,34 @@ impl RunWorker {
         table.refuse::<W>(&mut self.call);
     }
 
-    /// A call of the worker and the pool is decided, by their parts of the run. Segments stay.
-    pub(crate) fn call_with<W: OwnCall, P: OtherPart>(&mut self, pool: &mut RunPool)
+    /// A call of the worker and the pool, or a remote list, is decided, by their parts of the run. Segments
+    /// stay. Before it some state agreed with both.
+    pub(crate) fn call_with<W: OwnCall, P: OtherPart>(&mut self, other: &mut RunSeat)
         requires same { self.old.call.seat.table_id
             ≡ (arc_value self.old.table).table.shared.table_id }
-        requires of_it { pool.old.call.seat.table_id
+        requires of_it { other.old.seat.table_id
             ≡ (arc_value self.old.table).table.shared.table_id }
         requires bare { self.old.call.seat.me.0.lives ≡ [] }
-        requires bare_pool { pool.old.call.seat.me.0.lives ≡ [] }
+        requires bare_other { other.old.seat.me.0.lives ≡ [] }
         requires worker { IsWorkers self.old.call W.before }
-        requires other { IsOthers pool.old.call P.role }
+        requires other { IsOthers other.old P.role }
         requires tied { IsTiedTogether (arc_value self.old.table).table.shared.key W.before
             (log_in self.old.call) W.call W.after P.role P.left }
         ensures same { self.new.call.seat.table_id ≡ self.old.call.seat.table_id }
-        ensures of_it { pool.new.call.seat.table_id ≡ self.old.call.seat.table_id }
+        ensures of_it { other.new.seat.table_id ≡ self.old.call.seat.table_id }
         ensures bare { self.new.call.seat.me.0.lives ≡ [] }
-        ensures bare_pool { pool.new.call.seat.me.0.lives ≡ [] }
+        ensures bare_other { other.new.seat.me.0.lives ≡ [] }
         ensures log { log_in self.new.call ≡ log_in self.old.call ++ W.call ∷ [] }
         ensures worker { IsWorkers self.new.call W.after }
-        ensures other { IsOthers pool.new.call P.left }
+        ensures other { IsOthers other.new P.left }
+        ensures agreed { (m : State) × Agrees m W.before None × RoleAgrees P.role m }
         ensures heap { self.new.heap ≡ self.old.heap }
-        ensures pool { pool.new.pool ≡ pool.old.pool }
         ensures rest { KeepsRest self.old self.new }
     {
         let table = &self.table;
         let blank = table.split::<Brand>(&mut self.call);
-        let seat = mem::replace(&mut pool.call, blank);
-        pool.call = table.call_together::<W, P>(&mut self.call, seat);
+        let seat = mem::replace(other, blank);
+        *other = table.call_together::<W, P>(&mut self.call, seat);
     }
 }
 

@@ -72,6 +72,7 @@ impl RunEnd {
             number: _,
             heap,
             call,
+            own: _,
             hand: _,
         } = worker;
         self.part(table, call);

@@ -72,7 +72,7 @@ impl RunWorker {
         let _there = pool.pool.has(0);
         let _workers = self.policy.workers();
         let Some(one) = pool.pool.next_of(arena) else {
-            self.call_with::<W, P>(pool);
+            self.call_with::<W, P>(&mut pool.call);
             return None;
         };
         let segment = one.number();
@@ -80,7 +80,7 @@ impl RunWorker {
             never_twice(&self.table, one, other);
             unreachable!()
         }
-        self.call_with::<W, P>(pool);
+        self.call_with::<W, P>(&mut pool.call);
         self.heap.adopt(one);
         Some(segment)
     }

@@ -19,6 +19,8 @@ pub struct RunWorker {
     pub(crate) number: u8,
     pub(crate) heap: Heap<RunSegment>,
     pub(crate) call: RunSeat,
+    /// What it knows of words and lives elsewhere; none while a Free has it in `call`.
+    pub(crate) own: Option<RunSeat>,
     pub(crate) hand: Option<Handle>,
     ghost below: { number < policy.workers },
 }

@@ -1,4 +1,4 @@
-use Rattle.std.proofs.Common.{rules, arith, ◌≡◌, ◌<◌, ◌+◌, ap}
+use Rattle.std.proofs.Common.{rules, arith, ◌≡◌, ◌<◌, ◌+◌, ℕ, ap, subst}
 use Rattle.std.specs.Arc.{arc_value}
 use Rattle.hg_place.specs.declared.geometry.TheConstants.{SEGMENT_PLACES}
 use Rattle.hg_place.specs.Places.{number_of}
@@ -6,6 +6,7 @@ use Rattle.hg_place.specs.Standings.{slot_of}
 use Rattle.hg_table.specs.Steps.{close_from, left_by}
 use Rattle.hg_table.proofs.Owned.{may_close}
 use Rattle.hg_table.proofs.Told.{left_alone, closed_miss, closed_ok}
+use Rattle.hg_run_table.specs.Found.{IsFound}
 use Rattle.hg_run_table.specs.Segments.{place_at}
 use Rattle.hg_run_table.proofs.SegmentSteps.{answers, closing, shown_at, stepped, by_first, first_may_close, answered_hit, answered_miss}
 use Rattle.hg_run_table.proofs.segment.RunSegmentSlotWords.close.Goals as goal
@@ -37,7 +38,7 @@ returns-then-found-expected-clause-err c =
       shown_at i.segment (slot_of place) (number_of place) i.seat i.one is _ e.shown,
       stepped i.segment (slot_of place) (number_of place) i.seat i.one is _ _ c.close_asked-found.new.seat
           (left_alone _ _ _ _ i.one (closed_miss _ _ _ _ _ miss (by_first (close_from c.args.expected) _ _ _ _ i.one e.lives)))
-          (answered_miss (number_of place) c.close_asked-found.result c.args.expected i.seat.seat.me.0.run c.close_asked-found.new.seat.seat.me.0.run miss e.left) e.same,
+          (answered_miss (number_of place) c.close_asked-found.result c.args.expected i.seat.seat.me.0.run c.close_asked-found.new.seat.seat.me.0.run miss e.left) e.found e.same,
       search rules,
     )
 
@@ -51,6 +52,6 @@ returns-clause-ok c =
     let t = closed_ok (number_of place + 1) _ c.args.expected _ _ i.one c.requires.live hit e.shown (by_first (close_from c.args.expected) _ _ _ _ i.one e.lives) in (
       search (rules, t.0, ap (λ n. n + 1) is),
       stepped i.segment (slot_of place) (number_of place) i.seat i.one is _ _ c.close_asked-found.new.seat t.1
-          (answered_hit (number_of place) c.close_asked-found.result c.args.expected i.seat.seat.me.0.run c.close_asked-found.new.seat.seat.me.0.run hit e.left) e.same,
+          (answered_hit (number_of place) c.close_asked-found.result c.args.expected i.seat.seat.me.0.run c.close_asked-found.new.seat.seat.me.0.run hit e.left) (subst (λ (w : ℕ). IsFound (number_of place) w i.seat.seat.me.0.run) hit e.found) e.same,
       search rules,
     )

@@ -24,4 +24,4 @@ returns-clause-step c =
     let i = c.args.self.now in
     let is : number_of c.args.place ≡ place_at i.segment (slot_of c.args.place) = omega (arith, c.requires.segment) in
     stepped i.segment (slot_of c.args.place) (number_of c.args.place) i.seat i.one is c.look_asked.result c.look_asked.result c.look_asked.new.seat
-    (left_alone _ _ _ _ i.one c.look_asked.ensures.lives) c.look_asked.ensures.left c.look_asked.ensures.same
+    (left_alone _ _ _ _ i.one c.look_asked.ensures.lives) c.look_asked.ensures.left c.look_asked.ensures.found c.look_asked.ensures.same

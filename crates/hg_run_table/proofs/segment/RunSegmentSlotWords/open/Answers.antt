@@ -40,5 +40,5 @@ returns-clause-step c =
       subst (λ w. StepsIn i.segment (slot_of place) e.left.0 w i.seat c.open_asked.new.seat) word
           (stepped i.segment (slot_of place) (number_of place) i.seat i.one is _ _ c.open_asked.new.seat
           (opened_over (number_of place + 1) e.left.0 c.pack-live.result _ _ i.one live.2 (by_first (open_as c.pack-live.result) (number_of place + 1) c.pack-live.result _ _ i.one e.lives))
-          e.left.2 e.same),
+          e.left.2 e.left.3 e.same),
     )

@@ -27,7 +27,7 @@ returns-then-found-eq1-clause-err c =
       shown_at i.segment (slot_of place) (number_of place) i.seat i.one is _ e.shown,
       stepped i.segment (slot_of place) (number_of place) i.seat i.one is _ _ c.take-found.new.seat
           (left_alone _ _ _ _ i.one (took_live _ _ _ _ (omega arith) (by_first take_home _ _ _ _ i.one e.lives)))
-          (quiet_left _ _ _ _ c.requires.quiet e.run) e.same,
+          (quiet_left _ _ _ _ c.requires.quiet e.run) e.found e.same,
       search rules,
     )
 
@@ -43,6 +43,6 @@ returns-clause-ok c =
       shown_at i.segment (slot_of place) (number_of place) i.seat i.one is _ e.shown,
       stepped i.segment (slot_of place) (number_of place) i.seat i.one is _ _ c.take-found.new.seat
           (taken _ _ _ _ i.one freed (by_first take_home _ _ _ _ i.one e.lives))
-          (quiet_left _ _ _ _ c.requires.quiet e.run) e.same,
+          (quiet_left _ _ _ _ c.requires.quiet e.run) e.found e.same,
       search rules,
     )

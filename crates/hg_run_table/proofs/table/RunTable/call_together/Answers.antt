@@ -1,4 +1,4 @@
-use Rattle.std.proofs.Common.{◌++◌, ◌∙◌, ap, append-nil}
+use Rattle.std.proofs.Common.{◌++◌, ◌∙◌, ap, refl, append-nil}
 use Rattle.std.proofs.Math.Seq.{take-length, drop-length}
 use Rattle.hg_run_table.proofs.WorkerSteps.{together, joined_roles, joined_tied, together_log}
 use Rattle.hg_run_table.proofs.WorkerSteps.{together_worker, together_other}
@@ -25,3 +25,9 @@ returns-clause-worker g c = together_worker _ _ c.args.seat.now.seat.me.0.run _ 
 
 pub returns-clause-other : goal.returns-clause-other
 returns-clause-other g c = together_other _ _ c.args.seat.now.seat.me.0.run _ _ _ _ _ c.requires.tied (c.join.ensures.roles _ _ c.requires.worker c.requires.other) _ _ _ c.decide.ensures.roles.1 c.split.ensures.roles
+
+pub returns-clause-agreed : goal.returns-clause-agreed
+returns-clause-agreed g c =
+    let a = c.decide.ensures.agreed in
+    let has = c.join.ensures.roles _ _ c.requires.worker c.requires.other in
+    (a.state, a.agrees _ has 0 _ refl, a.agrees _ has 1 _ refl)

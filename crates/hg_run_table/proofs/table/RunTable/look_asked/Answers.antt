@@ -19,3 +19,6 @@ returns-clause-lives c = rw (← c.number.ensures.number) c.load.ensures.2.0.1
 
 pub returns-clause-left : goal.returns-clause-left
 returns-clause-left c = rw (← c.number.ensures.number) (c.load.ensures.2.1 _ refl)
+
+pub returns-clause-found : goal.returns-clause-found
+returns-clause-found c = rw (← c.number.ensures.number) (c.load.ensures.2.2 _ refl)

@@ -17,5 +17,9 @@ returns-clause-lives g c = rw (← c.number.ensures.number) c.store.ensures.2.1
 
 pub returns-clause-left : goal.returns-clause-left
 returns-clause-left g c =
-    let e = c.store.ensures.2.0 in
-    (e.0, rw (← c.number.ensures.number) e.1, rw (← c.number.ensures.number) (e.2 _ refl))
+    let e = c.store.ensures.2.0 in (
+      e.0,
+      rw (← c.number.ensures.number) e.1,
+      rw (← c.number.ensures.number) (e.2 _ refl),
+      rw (← c.number.ensures.number) (e.3 _ refl),
+    )

@@ -23,3 +23,6 @@ returns-clause-lives g c = rw (← c.number-at.ensures.number) c.compare_exchang
 pub returns-clause-left : goal.returns-clause-left
 returns-clause-left g c =
     rw (← c.number-at.ensures.number) (c.compare_exchange.ensures.2.1 _ refl)
+
+pub returns-clause-found : goal.returns-clause-found
+returns-clause-found g c = rw (← c.number-at.ensures.number) (c.compare_exchange.ensures.2.2 _ refl)

@@ -1,4 +1,4 @@
-use Rattle.std.proofs.Common.{rules, arith}
+use Rattle.std.proofs.Common.{rules, arith, refl}
 use Rattle.hg_run_table.proofs.Allowed.{takes}
 use Rattle.hg_run_table.proofs.table.RunTable.take.Goals as goal
 
@@ -10,3 +10,6 @@ load-requires g c =
       omega (arith, c.requires.place),
       rw at (takes _ _ _ _ _ (omega (arith, c.requires.place)) g.P.StepsBy.by 0 0 c.requires.may),
     )
+
+pub returns-clause-found : goal.returns-clause-found
+returns-clause-found g c = rw (← c.number.ensures.number) (c.load.ensures.2.2 _ refl)

@@ -47,7 +47,7 @@ returns-in_default-clause-called g c =
     let none : segment_in number_in s.heap.segments c.args.segment ≡ None =
     sym c.release.ensures.released ∙ c.in_default.is in
     let rest : KeepsRest s c.refuse.new.self =
-    record { table = e.rest.table; policy = e.rest.policy; number = e.rest.number; hand = e.rest.hand } in
+    record { table = e.rest.table; policy = e.rest.policy; number = e.rest.number; own = e.rest.own; hand = e.rest.hand } in
     record {
       ready =
           still_ready s c.refuse.new.self c.requires.ready rest
@@ -118,7 +118,7 @@ returns-clause-called g c =
     let was : (k : Kept RunSegment) → Contains c.release.new.self.segments k → Contains s.heap.segments k =
     λ k. was_there s.heap.segments c.release.new.self.segments c.in-Some.one k c.in-Some.ensures.rest in
     let rest : KeepsRest s c.call_with.new.self =
-    record { table = e.rest.table; policy = e.rest.policy; number = e.rest.number; hand = e.rest.hand } in
+    record { table = e.rest.table; policy = e.rest.policy; number = e.rest.number; own = e.rest.own; hand = e.rest.hand } in
     record {
       ready =
           ready_from s c.call_with.new.self c.release.new.self.segments c.requires.ready rest
@@ -152,15 +152,14 @@ returns-clause-pool g c =
     let one = c.in-Some.one in
     let there = goes g (goal.at.returns-clause-pool g c).In-Some in
     let held = (found_one number_in records_in s.heap.segments c.args.segment one there).0 in
-    let same : c.call_with.new.pool.pool ≡ p.pool = e.pool ∙ c.in_default-pick.ensures.unchanged in
     let put : c.put_orphan.new.self ≡ with_orphan (Some one) p.pool =
     (λ i. record { orphans = c.put_orphan.ensures.orphans i; fresh = c.put_orphan.ensures.fresh i })
-    ∙ ap (with_orphan (Some one)) same in
+    ∙ ap (with_orphan (Some one)) c.in_default-pick.ensures.unchanged in
     pool_with s.policy one p _ c.requires.pool
     (c.requires.ready.of.arena one held, c.requires.ready.of.greatest one held)
     (c.requires.ready.work.seated held.0 one (at_place s.heap.segments one held))
-    put (e.of_it ∙ c.requires.ready.work.same) e.bare_pool
-    (subst (IsOthers c.call_with.new.pool.call)
+    put (e.of_it ∙ c.requires.ready.work.same) e.bare_other
+    (subst (IsOthers c.call_with.new.other)
     (c.requires.left
     ∙ ap (λ (o : Option (Kept RunSegment)). of_pool (pool_part s.policy (with_orphan o p.pool))) there)
     e.other)

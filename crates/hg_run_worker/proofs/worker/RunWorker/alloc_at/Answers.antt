@@ -151,7 +151,7 @@ returns-clause-called g c =
     (stepped g (goal.at.returns-clause-called g c).In-Ok
     (chosen_in g (goal.at.returns-clause-called g c).After-settled)).1 c.requires.ready
     (rest_twice c.args.self.now c.lend.new.self c.take_back.new.self c.lend.ensures.rest
-    (record { table = e.rest.table; policy = e.rest.policy; number = e.rest.number; hand = e.rest.hand }))
+    (record { table = e.rest.table; policy = e.rest.policy; number = e.rest.number; own = e.rest.own; hand = e.rest.hand }))
     e.back
 
 -- the choice is that of the heap before the part was lent

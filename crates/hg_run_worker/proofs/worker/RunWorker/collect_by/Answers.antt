@@ -37,7 +37,7 @@ returns-clause-called g c =
     let now : c.call_alone.new.self.heap.segments ≡ c.collect-pages.new.self.segments =
     ap (λ (h : Held RunSegment). h.segments) e.heap in
     let rest : KeepsRest s c.call_alone.new.self =
-    record { table = e.rest.table; policy = e.rest.policy; number = e.rest.number; hand = e.rest.hand } in
+    record { table = e.rest.table; policy = e.rest.policy; number = e.rest.number; own = e.rest.own; hand = e.rest.hand } in
     let same = ap (kinds number_in) now ∙ c.collect-pages.ensures.kinds in
     let ready : IsReady c.call_alone.new.self =
     ready_from s c.call_alone.new.self c.collect-pages.new.self.segments c.requires.ready rest now

@@ -63,6 +63,6 @@ returns g c =
       called =
           has_called c.args.self.now c.take_back.new.self c.lend.ensures.lent c.requires.asked s.2 c.requires.ready
           (rest_twice c.args.self.now c.lend.new.self c.take_back.new.self c.lend.ensures.rest
-          (record { table = e.rest.table; policy = e.rest.policy; number = e.rest.number; hand = e.rest.hand }))
+          (record { table = e.rest.table; policy = e.rest.policy; number = e.rest.number; own = e.rest.own; hand = e.rest.hand }))
           e.back;
     }

@@ -71,10 +71,9 @@ returns-in_default-clause-pool g c =
     let p = c.args.pool.now in
     let e = c.call_with.ensures in
     let none : next_in p.pool c.args.arena ≡ None = sym c.next_of.ensures.next ∙ c.in_default.is in
-    let same : c.call_with.new.pool.pool ≡ p.pool = e.pool ∙ c.in_default.ensures.unchanged in
-    pool_again s.policy None p c.call_with.new.pool c.requires.pool same
-    (e.of_it ∙ c.requires.ready.work.same) e.bare_pool
-    (subst (IsOthers c.call_with.new.pool.call)
+    pool_again s.policy None p _ c.requires.pool c.in_default.ensures.unchanged
+    (e.of_it ∙ c.requires.ready.work.same) e.bare_other
+    (subst (IsOthers c.call_with.new.other)
     (c.requires.left
     ∙ ap (λ (q : Option (Kept RunSegment)). of_pool (pool_part s.policy (left_pool q p.pool))) none)
     e.other)
@@ -123,7 +122,7 @@ returns-clause-called g c =
     c.adopt.ensures.segments
     ∙ ap (λ (h : Held RunSegment). h.segments ++ one ∷ []) (e.heap ∙ c.in_default-release.ensures.unchanged) in
     let rest : KeepsRest s _ =
-    record { table = e.rest.table; policy = e.rest.policy; number = e.rest.number; hand = e.rest.hand } in
+    record { table = e.rest.table; policy = e.rest.policy; number = e.rest.number; own = e.rest.own; hand = e.rest.hand } in
     record {
       ready =
           ready_from s _ (s.heap.segments ++ one ∷ []) c.requires.ready rest now
@@ -156,9 +155,9 @@ returns-clause-pool g c =
     let p = c.args.pool.now in
     let e = c.call_with-2.ensures in
     let next = taken_there g (goal.at.returns-clause-pool g c).In-Some in
-    pool_again s.policy (Some c.in-Some.one) p c.call_with-2.new.pool c.requires.pool
-    (e.pool ∙ c.in-Some.ensures.left) (e.of_it ∙ c.requires.ready.work.same) e.bare_pool
-    (subst (IsOthers c.call_with-2.new.pool.call)
+    pool_again s.policy (Some c.in-Some.one) p _ c.requires.pool c.in-Some.ensures.left
+    (e.of_it ∙ c.requires.ready.work.same) e.bare_other
+    (subst (IsOthers c.call_with-2.new.other)
     (c.requires.left
     ∙ ap (λ (q : Option (Kept RunSegment)). of_pool (pool_part s.policy (left_pool q p.pool))) next)
     e.other)

@@ -1,5 +1,4 @@
-use Rattle.std.proofs.Common.{◌≡◌, ℕ, ◌<◌, Option, Some, None, true, false, not, is_some, length, refl, sym, ap, subst, ◌∙◌, arith}
-use Rattle.std.proofs.lemmas.Option.{slice_get_within}
+use Rattle.std.proofs.Common.{◌≡◌, ℕ, ◌<◌, Option, Some, None, true, false, not, is_some, map, refl, sym, ap, subst, ◌∙◌}
 use Rattle.hg_place.specs.Places.{number_of}
 use Rattle.hg_machine.specs.Policy.{Policy, arena_of}
 use Rattle.hg_machine.specs.declared.Answer.{Answer}
@@ -13,20 +12,16 @@ use Rattle.hg_agreement.proofs.Frames.{refused_is_tied}
 use Rattle.hg_heap.specs.Held.{Held}
 use Rattle.hg_heap.specs.Ties.{shown_at}
 use Rattle.hg_roles.specs.Served.{places_of_policy}
-use Rattle.hg_run_table.specs.Calls.{IsTiedAlone, IsTiedAt, IsWorkers}
+use Rattle.hg_run_table.specs.Calls.{IsTiedAlone, IsTiedAt}
 use Rattle.hg_run_table.specs.declared.segment.RunSegment.{RunSegment}
 use Rattle.hg_run_worker.specs.AtWork.{view_in}
+use Rattle.hg_run_worker.proofs.Reach.{place_within}
 use Rattle.hg_run_worker.proofs.Ready.{decided_here}
 use Rattle.hg_run_worker.proofs.worker.RunWorker.refuse_away.Goals as goal
 
 none_is : (o : Option ℕ) → is_some o ≡ false → o ≡ None
 none_is None e = refl
 none_is (Some n) e = absurd (cc)
-
-some_within : (policy : Policy) (segment : ℕ) (o : Option ℕ) → arena_of policy segment ≡ o
-    → is_some o ≡ true → segment < length policy.segments
-some_within policy segment None is e = absurd (cc)
-some_within policy segment (Some arena) is e = slice_get_within policy.segments segment arena is
 
 -- a refusal is tied at the word that is shown
 tied_refusal : (worker : RunWorker) (event : Event) (refused : ℕ → Answer) (word : ℕ)
@@ -69,13 +64,9 @@ pub look_deciding-requires-clause-place : goal.look_deciding-requires-clause-pla
 look_deciding-requires-clause-place g c =
     let s = c.args.self.now in
     let place = c.args.place in
-    let inside : place.segment < length s.policy.segments =
-    some_within s.policy place.segment c.arena_of.result (sym c.arena_of.ensures)
-    (c.is_none.ensures ∙ ap not c.if-is_none.false) in
     subst (λ (p : Policy). number_of place < places_of_policy p) (sym c.requires.ready.key)
-    (let a = place.page_below in
-    let b = place.index_below in
-    omega (arith, inside, a, b))
+    (place_within s.policy place
+    (sym (ap is_some c.arena_of.ensures) ∙ (c.is_none.ensures ∙ ap not c.if-is_none.false)))
 
 pub look_deciding-requires-clause-tied : goal.look_deciding-requires-clause-tied
 look_deciding-requires-clause-tied g c = λ word.
@@ -100,6 +91,6 @@ returns-clause-called g c =
     let e = c.look_deciding.ensures in
     let shown = shown_at c.args.place c.look_deciding.result in
     decided_here s c.look_deciding.new.self r.ready e.rest
-    (ap (λ (h : Held RunSegment). h.segments) e.heap) e.same (e.bare r.ready.work.bare) e.worker e.log
+    (ap (λ (h : Held RunSegment). h.segments) e.heap) e.same (e.lives ∙ ap (map _) r.ready.work.bare) e.worker e.log
     (tied_refusal s g.C.RefusedCall.event g.C.RefusedCall.refused c.look_deciding.result shown
     (r.about shown refl) r.refused refl)
