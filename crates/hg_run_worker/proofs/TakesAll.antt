@@ -181,7 +181,7 @@ module _ (segment : ℕ) (view : View) (log : List Call) (holds : view.holds seg
       let a = one.0.another in
       let took = one.0.home.took in
       let opened : (other : ℕ) → repeats.IsIn other places
-          → is_home (standing_at (records_in a.after.slots) other) ≡ false =
+      → is_home (standing_at (records_in a.after.slots) other) ≡ false =
       λ other there.
       let ne : other ≢ slot (page_of place) (index_of place) =
       λ e. Lacks-not place places once.0 (subst (λ (n : ℕ). repeats.IsIn n places) (e ∙ whole) there) in
@@ -194,7 +194,7 @@ module _ (segment : ℕ) (view : View) (log : List Call) (holds : view.holds seg
       all_taken id places takes.1 takes.0 new once.1 (λ other there. homes other (inr there))
       (goes_on t a places took.step opened) takes.2 in
       let at_home : (other : ℕ) → is_home (standing_at (records_in t.one.slots) other) ≡ true
-          → is_home (standing_at (records_in a.after.slots) other) ≡ true =
+      → is_home (standing_at (records_in a.after.slots) other) ≡ true =
       λ other is.
       let ne : other ≢ slot (page_of place) (index_of place) =
       λ e.

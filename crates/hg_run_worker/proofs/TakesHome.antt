@@ -233,7 +233,7 @@ module _ {id : TableId} {policy : Policy} {number : ℕ} {hand : Option Handle} 
             (take.sent at ∙ ap bit_of f))
       ] in
       let there_told : find (λ h. h.number == segment) (map (holding number_in records_in) xs)
-          ≡ Some (holding number_in records_in had) =
+      ≡ Some (holding number_in records_in had) =
       holding_in number_in records_in xs segment
       ∙ ap (option_map (holding number_in records_in))
       (found_is number_in xs segment lent.lent.found had (found_before once lent.lent)) in

@@ -9,6 +9,7 @@ ghost use Rattle.hg_run_worker.specs.AtWork.{IsReady, number_in};
 
 use crate::RunWorker;
 use hg_heap::Heap;
+use hg_place::Handle;
 use hg_policy::Policy;
 use hg_run_table::{RunSeat, RunTable};
 use std::alloc::{AllocError, Global};
@@ -52,6 +53,13 @@ impl RunWorker {
             own: Some(seat),
             hand: None,
         })
+    }
+
+    /// The block that the worker has freed of a segment that it doesn't hold, and not delivered yet.
+    pub fn hand(&self) -> Option<Handle>
+        ensures { result ≡ self.now.hand }
+    {
+        self.hand
     }
 
     /// Whether the worker holds the segment of a number.

@@ -56,7 +56,11 @@ impl RunWorker {
             return Answer::NothingInHand;
         };
         self.call_with::<W, P>(&mut list.call);
-        if list.list.push(handle.place.page, handle.place.index).is_err() {
+        if list
+            .list
+            .push(handle.place.page, handle.place.index)
+            .is_err()
+        {
             unreachable!()
         }
         self.hand = None;

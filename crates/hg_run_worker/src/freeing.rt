@@ -225,12 +225,6 @@ fn refusal_away(
 {
     match judge(policy, actor, Right::Free, handle, word) {
         Verdict::Denied(rule) => Some(Answer::Denied(rule)),
-        Verdict::Allowed => {
-            if busy {
-                Some(Answer::Busy)
-            } else {
-                None
-            }
-        },
+        Verdict::Allowed => { if busy { Some(Answer::Busy) } else { None } },
     }
 }

@@ -38,6 +38,13 @@ impl RunList {
         })
     }
 
+    /// The list's seat, to end the service by; what was sent to it goes.
+    pub fn into_seat(self) -> RunSeat
+        ensures { result ≡ self.call }
+    {
+        self.call
+    }
+
     /// The number of its segment.
     pub fn segment(&self) -> u8
         ensures { result ≡ self.now.segment }

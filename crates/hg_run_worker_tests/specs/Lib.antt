@@ -1,1 +1,2 @@
 pub mod Frees
+pub mod Sends

@@ -11,3 +11,5 @@ mod frees;
 mod policies;
 #[cfg(test)]
 mod refused;
+#[cfg(test)]
+mod sends;

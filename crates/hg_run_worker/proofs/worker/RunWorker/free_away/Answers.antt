@@ -252,8 +252,11 @@ module _ (g : Over) (c : After-look_deciding-word g)
   log_found : (b : Bool) (parted : RunWorker) → (found == c.look_deciding-word.result) ≡ b
       → log_in parted.call
       ≡ log_in c.look_deciding-word.new.self.call
-      ++ (g.F.FreedAway.event, exchange_answer (found == c.look_deciding-word.result)
-      (g.F.FreedAway.denial found)) ∷ []
+      ++ (
+        g.F.FreedAway.event,
+        exchange_answer (found == c.look_deciding-word.result)
+            (g.F.FreedAway.denial found),
+      ) ∷ []
       → log_in parted.call
       ≡ log_in c.args.self.now.call
       ++ (event.Free c.args.actor c.args.handle, exchange_answer b rule_found) ∷ []
