@@ -1,7 +1,8 @@
 -- Of the frees of one block in a run, at most one is served.
 use Rattle.std.proofs.Common.{◌≡◌, ◌⊎◌, inl, inr, ⊎_elim, ℕ, zero, suc, ◌<◌, ◌≤◌, ◌==◌, if◌then◌else◌}
 use Rattle.std.proofs.Common.{Bool, List, [], ◌∷◌, refl, sym, ap, subst, ◌∙◌, arith}
-use Rattle.std.proofs.lemmas.Bool.{cases_Bool, cases_lt, eqb-true}
+use Rattle.std.proofs.Common.{length, take}
+use Rattle.std.proofs.lemmas.Bool.{cases_Bool, cases_lt, eq-eqb, eqb-true}
 use mathlib.Core.Option.{some, some-injective, some-ne-none}
 use lib.ListN.{get_elem?}
 use Rattle.hg_place.specs.declared.Handle.{Handle}
@@ -21,38 +22,49 @@ use Rattle.hg_run_table.specs.FreedOnce.{HasFreed, FreedOnce}
 abbrev logged : ℕ × Call → List (ℕ × Call) → ℕ → Bool → List Call
 logged made more name is = if is then made.1 ∷ log_of name more else log_of name more
 
--- a call of the log stands in the history
-record Stood (history : List (ℕ × Call)) (name : ℕ) (call : Call) : Type 0 where
+-- a call of the log stands in the history, behind as many of that name as there are before it in the log
+record Stood (history : List (ℕ × Call)) (name k : ℕ) (call : Call) : Type 0 where
   pub at : ℕ
   pub there : IsIn history at (name, call)
-
-behind : (made : ℕ × Call) (more : List (ℕ × Call)) (name : ℕ) (call : Call)
-    → Stood more name call → Stood (made ∷ more) name call
-behind made more name call s = record { at = suc s.at; there = s.there }
+  pub rank : length (log_of name (take at history)) ≡ k
 
 -- the first call is in that name
 stood_first : (made : ℕ × Call) (more : List (ℕ × Call)) (name : ℕ) (call : Call)
     → made.0 ≡ name
-    → ((k : ℕ) → IsIn (log_of name more) k call → Stood more name call)
-    → (k : ℕ) → IsIn (made.1 ∷ log_of name more) k call → Stood (made ∷ more) name call
+    → ((k : ℕ) → IsIn (log_of name more) k call → Stood more name k call)
+    → (k : ℕ) → IsIn (made.1 ∷ log_of name more) k call → Stood (made ∷ more) name k call
 stood_first made more name call is rest zero at =
     let same : made.1 ≡ call = some-injective made.1 call at in
-    record { at = 0; there = λ i. some (is i, same i) }
-stood_first made more name call is rest (suc k) at = behind made more name call (rest k at)
+    record { at = 0; there = λ i. some (is i, same i); rank = refl }
+stood_first made more name call is rest (suc k) at =
+    let s = rest k at in
+    record {
+      at = suc s.at;
+      there = s.there;
+      rank =
+          ap (λ (b : Bool). length (logged made (take s.at more) name b)) (eq-eqb made.0 name is)
+          ∙ ap suc s.rank;
+    }
 
 stood : (history : List (ℕ × Call)) (name k : ℕ) (call : Call)
-    → IsIn (log_of name history) k call → Stood history name call
+    → IsIn (log_of name history) k call → Stood history name k call
 stood [] name k call at = absurd (some-ne-none call (sym at))
 stood (made ∷ more) name k call at =
-    elim (cases_Bool (made.0 == name)) as (λ _. Stood (made ∷ more) name call) [
+    elim (cases_Bool (made.0 == name)) as (λ _. Stood (made ∷ more) name k call) [
       | inl mine ↦
           stood_first made more name call (eqb-true made.0 name mine)
           (λ n there. stood more name n call there) k
           (subst (λ (l : List Call). IsIn l k call) (ap (logged made more name) mine) at)
       | inr not_mine ↦
-          behind made more name call
-          (stood more name k call
-          (subst (λ (l : List Call). IsIn l k call) (ap (logged made more name) not_mine) at))
+          let s =
+          stood more name k call
+          (subst (λ (l : List Call). IsIn l k call) (ap (logged made more name) not_mine) at) in
+          record {
+            at = suc s.at;
+            there = s.there;
+            rank =
+                ap (λ (b : Bool). length (logged made (take s.at more) name b)) not_mine ∙ s.rank;
+          }
     ]
 
 -- a run of a history up to one of its calls, and the step of that call
@@ -139,9 +151,13 @@ freed_once policy words roles i j one other log more k l call second handle is f
     handle is.run q.there p.there less again freed)
     (λ (no_less : p.at ≤ q.at).
     let same : q.at ≡ p.at = omega arith in
-    apart
-    (ap (λ (m : ℕ × Call). m.0)
+    let worker : one.worker ≡ other.worker =
+    ap (λ (m : ℕ × Call). m.0)
     (some-injective (one.worker, call) (other.worker, second)
-    (sym p.there ∙ ap (get_elem? is.history) (sym same) ∙ q.there))))
+    (sym p.there ∙ ap (get_elem? is.history) (sym same) ∙ q.there)) in
+    apart worker
+    (sym p.rank
+    ∙ (λ i. length (log_of (worker i) (take (sym same i) is.history)))
+    ∙ q.rank))
     (cases_lt q.at p.at))
     (cases_lt p.at q.at)

@@ -1,4 +1,4 @@
--- An example of what the one run says of logs: two workers free one block.
+-- An example of what the one run says of logs: one block is freed twice.
 use Rattle.std.specs.Prelude.{◌≡◌, ◌≢◌, ◌⊎◌, ℕ, List}
 use Rattle.hg_place.specs.declared.Actor.{Actor}
 use Rattle.hg_place.specs.declared.Handle.{Handle}
@@ -16,13 +16,13 @@ pub record HasFreed (handle : Handle) (call : Call) : Type 0 where
   pub asked : call.0 ≡ event.Free actor handle
   pub served : (call.1 ≡ answer.Done) ⊎ (call.1 ≡ answer.Parted)
 
--- of the calls that the logs of two workers have, at most one has freed it
+-- of the calls that the logs of workers have, of two workers or of one, at most one has freed it
 abbrev pub FreedOnce : Type 0
 FreedOnce =
     (policy : Policy) (words : List ℕ) (roles : List Role) (i j : ℕ) (one other : View)
     (log more : List Call) (k l : ℕ) (call second : Call) (handle : Handle)
     → IsRunOfAll policy words roles
     → IsIn roles i (of_worker one log) → IsIn roles j (of_worker other more)
-    → one.worker ≢ other.worker
+    → (one.worker ≡ other.worker → k ≢ l)
     → IsIn log k call → IsIn more l second
     → HasFreed handle call → HasFreed handle second → ⊥

@@ -5,7 +5,7 @@ ghost use Rattle.hg_run_table.specs.AnswerLaws.{TiesMayAnswer, LooksMayAnswer};
 ghost use Rattle.hg_run_table.specs.AnswerLaws.{AnswersAreTheCalls};
 ghost use Rattle.hg_run_table.specs.FreedOnce.{FreedOnce};
 
-/// Of the frees of one block that two workers have logged, at most one was served.
+/// Of the frees of one block that workers have logged, of two of them or of one, at most one was served.
 pub fn freed_once()
     ensures { FreedOnce }
 {}

@@ -56,7 +56,7 @@ run_of_service policy words pool lists workers all = record {
       all.logs there.0 (view_in worker) (log_in worker.call) there.1;
 }
 
--- of the frees of one block that two workers have logged at most one was served
+-- of the frees of one block that workers have logged at most one was served
 pub frees_are_once : FreesAreOnce
 frees_are_once policy words pool lists workers i j one other k l call second handle run first next apart
     at there freed again =

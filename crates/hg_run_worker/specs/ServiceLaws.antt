@@ -10,7 +10,7 @@ use Rattle.hg_run_worker.specs.declared.pool.RunPool.{RunPool}
 use Rattle.hg_run_worker.specs.declared.worker.RunWorker.{RunWorker}
 use Rattle.hg_run_worker.specs.Service.{IsRunOfService}
 
--- of the calls that two of its workers have logged, at most one has freed a block
+-- of the calls that its workers have logged, two of them or one, at most one has freed a block
 abbrev pub FreesAreOnce : Type 0
 FreesAreOnce =
     (policy : Policy) (words : List ℕ) (pool : RunPool) (lists : List Role)
@@ -18,6 +18,6 @@ FreesAreOnce =
     (handle : Handle)
     → IsRunOfService policy words pool lists workers
     → slice_get workers i ≡ Some one → slice_get workers j ≡ Some other
-    → one.number ≢ other.number
+    → (one.number ≡ other.number → k ≢ l)
     → IsIn (log_in one.call) k call → IsIn (log_in other.call) l second
     → HasFreed handle call → HasFreed handle second → ⊥

@@ -3,8 +3,8 @@
 
 ghost use Rattle.hg_run_worker.specs.ServiceLaws.{FreesAreOnce};
 
-/// Of the frees of one block that two workers of a service have logged which ended as one run, at most one
-/// was served.
+/// Of the frees of one block that workers of a service have logged which ended as one run, of two of them or of one,
+/// at most one was served.
 pub fn frees_are_once()
     ensures { FreesAreOnce }
 {}
