@@ -206,7 +206,7 @@ module _ (policy : Policy) (slots id : ℕ) (me : Mine) where
             keeps,
             tt,
             k.both,
-            ((shown s r seat at, refl, refl), k.have),
+            ((shown s r seat at, refl, refl), k.have, found_behind s r seat),
           )
 
       -- what an exchange keeps, by what it leaves
@@ -240,7 +240,7 @@ module _ (policy : Policy) (slots id : ℕ) (me : Mine) where
             keeps,
             tt,
             exchanged_both (kind old) old (same old) view s k,
-            ((shown s r seat at, refl, refl), k.have),
+            ((shown s r seat at, refl, refl), k.have, found_behind s r seat),
           )
 
     -- a store tells the word that it leaves, and not the one that it finds

@@ -64,12 +64,13 @@ took by told mine word after =
 module _ (roles : List Role) (change : ℕ → Role → Role) where
   abbrev pub looked_deciding : Told → Mine → ℕ → Mine → Type 0
   looked_deciding told mine word after =
-      Tells look told mine word after × Changes roles change word after
+      Tells look told mine word after × Changes roles change word after × FoundAt told word mine
 
   -- an exchange, of the kind that the word expected makes it
   abbrev pub exchanged_deciding : (ℕ → WordStep) → ℕ → Told → Mine → ℕ → Mine → Type 0
   exchanged_deciding kind by told mine word after =
       TellsBy by (kind told.first) told mine word after × Changes roles change word after
+      × FoundAt told word mine
 
   -- a store tells the word that was stored, not the one that was found
   abbrev pub opened : ℕ → Told → Mine → ℕ → Mine → Type 0

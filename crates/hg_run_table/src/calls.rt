@@ -6,6 +6,7 @@ ghost use Rattle.hg_roles.specs.Served.{places_of_policy};
 ghost use Rattle.hg_table.specs.Steps.{look, open_as, close_from, part_from, MayMakeBy};
 ghost use Rattle.hg_table.specs.Steps.{known_after, view_after, left_by};
 ghost use Rattle.hg_table.specs.Told.{IsShownTo};
+ghost use Rattle.hg_run_table.specs.Found.{IsAgreed, IsFound};
 ghost use Rattle.hg_run_table.specs.Calls.{IsWorkers, log_in, with_call, view_by, MayCall};
 ghost use Rattle.hg_run_table.specs.Calls.{IsTiedAlone, IsRefused};
 
@@ -31,6 +32,7 @@ impl RunTable {
             ≡ map (known_after look (number_of place + 1) result) seat.old.seat.me.0.lives }
         ensures log { log_in seat.new ≡ with_call (log_in seat.old) (W.call result) }
         ensures worker { IsWorkers seat.new (view_by W.before (W.call result) (W.after result)) }
+        ensures found { IsFound (number_of place) result seat.old.seat.me.0.run }
     {
         self.look_deciding::<Brand>(seat, place)
     }
@@ -82,6 +84,7 @@ impl RunTable {
             seat.old.seat.me.0.lives }
         ensures log { log_in seat.new ≡ with_call (log_in seat.old) (W.call result) }
         ensures worker { IsWorkers seat.new (view_by W.before (W.call result) (W.after result)) }
+        ensures found { IsFound (number_of place) result seat.old.seat.me.0.run }
     {
         self.close_deciding::<Brand, P>(seat, place, expected)
     }
@@ -108,6 +111,7 @@ impl RunTable {
             seat.old.seat.me.0.lives }
         ensures log { log_in seat.new ≡ with_call (log_in seat.old) (W.call result) }
         ensures worker { IsWorkers seat.new (view_by W.before (W.call result) (W.after result)) }
+        ensures found { IsFound (number_of place) result seat.old.seat.me.0.run }
     {
         self.part_deciding::<Brand, P>(seat, place, expected)
     }
@@ -121,6 +125,7 @@ impl RunTable {
         ensures lives { seat.new.seat.me.0.lives ≡ seat.old.seat.me.0.lives }
         ensures log { log_in seat.new ≡ log_in seat.old ++ W.call ∷ [] }
         ensures worker { IsWorkers seat.new W.after }
+        ensures agreed { IsAgreed seat.old.seat.me.0.run }
     {
         self.decide::<Brand>(seat);
     }
@@ -134,6 +139,7 @@ impl RunTable {
         ensures lives { seat.new.seat.me.0.lives ≡ seat.old.seat.me.0.lives }
         ensures log { log_in seat.new ≡ log_in seat.old ++ W.call ∷ [] }
         ensures worker { IsWorkers seat.new W.before }
+        ensures agreed { IsAgreed seat.old.seat.me.0.run }
     {
         self.decide::<Brand>(&mut *seat);
     }

@@ -63,6 +63,7 @@ impl RunTable {
         ensures lives { seat.new.seat.me.0.lives
             ≡ map (known_after look (number_of place + 1) result) seat.old.seat.me.0.lives }
         ensures roles { HaveRoles seat.new.seat.me.0.run (map (D.change result) D.roles) }
+        ensures found { IsFound (number_of place) result seat.old.seat.me.0.run }
     {
         let shared = &self.table.shared;
         shared.load::<Looking<D>>(&mut seat.seat, place.number() + 1)
@@ -114,6 +115,7 @@ impl RunTable {
             ≡ view_after P.by (close_from expected) (number_of place + 1) result
             seat.old.seat.me.0.lives }
         ensures roles { HaveRoles seat.new.seat.me.0.run (map (D.change result) D.roles) }
+        ensures found { IsFound (number_of place) result seat.old.seat.me.0.run }
     {
         let shared = &self.table.shared;
         let at = place.number() + 1;
@@ -140,6 +142,7 @@ impl RunTable {
             ≡ view_after P.by (part_from expected) (number_of place + 1) result
             seat.old.seat.me.0.lives }
         ensures roles { HaveRoles seat.new.seat.me.0.run (map (D.change result) D.roles) }
+        ensures found { IsFound (number_of place) result seat.old.seat.me.0.run }
     {
         let shared = &self.table.shared;
         let at = place.number() + 1;

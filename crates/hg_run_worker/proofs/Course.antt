@@ -14,7 +14,11 @@ use Rattle.hg_machine.specs.declared.Answer.{Answer}
 use Rattle.hg_machine.specs.Policy.{Policy}
 use Rattle.hg_segment.specs.Kept.{Kept}
 use Rattle.hg_agreement.specs.Views.{View}
-use Rattle.hg_agreement.specs.Agreement.{Ties}
+use Rattle.hg_machine.specs.Shown.{IsShownBy}
+use Rattle.hg_machine.specs.State.{State, record_at}
+use Rattle.hg_agreement.specs.Agreement.{Agrees, Ties}
+use Rattle.hg_run_table.specs.Found.{IsFound}
+use Rattle.hg_run_worker.proofs.Agreeing.{shows_too}
 use Rattle.hg_heap.specs.Held.{Kind, kind_of, kinds, segment_in, is_held}
 use Rattle.hg_heap.specs.Keeping.{KeepsAll}
 use Rattle.hg_heap.specs.SlotsChanged.{SlotsChanged}
@@ -150,6 +154,19 @@ module _ {id : TableId} {policy : Policy} {number : ℕ} {hand : Option Handle}
         (has_answered (place_at stepped.before.slots.segment (slot_of place)) word left
         stepped.before.slots.seat.seat.me.0.run stepped.after.slots.seat.seat.me.0.run (who_asks asks).0
         stepped.stepped.answered)
+
+    -- some state agreed with what the worker had, and showed the word
+    pub met : (m : State) × Agrees m view (shown_at place word)
+    unfolding IsFound
+    met =
+        let found = stepped.stepped.agreed in (
+          found.agreed.state,
+          shows_too found.agreed.state view (number_of place) word
+              (found.agreed.agrees (of_segment segment ∷ of_worker view (log_in call) ∷ []) asks.has 1
+              (of_worker view (log_in call)) refl)
+              (subst (λ (n : ℕ). IsShownBy (record_at found.agreed.state n) word) same_place_number
+              found.shown),
+        )
 
     pub tied : Ties view (shown_at place word) e a after (shown_at place left)
     tied =

@@ -20,3 +20,4 @@ pub mod Quietly
 pub mod TakesAll
 pub mod TakenViews
 pub mod TakesHome
+pub mod Agreeing

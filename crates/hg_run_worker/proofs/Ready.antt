@@ -11,7 +11,8 @@ use Rattle.hg_machine.specs.declared.Event.TheVariants as event
 use Rattle.hg_machine.specs.declared.Answer.{Answer}
 use Rattle.hg_segment.specs.Kept.{Kept}
 use Rattle.hg_heap.specs.Held.{Held, Kind, is_held, kind_of, kinds}
-use Rattle.hg_agreement.specs.Agreement.{Ties}
+use Rattle.hg_machine.specs.State.{State}
+use Rattle.hg_agreement.specs.Agreement.{Agrees, Ties}
 use Rattle.hg_agreement.specs.Views.{Shown, View}
 use Rattle.hg_heap.specs.Ties.{shown_at}
 use Rattle.hg_heap.specs.Policies.{AreOf}
@@ -23,13 +24,13 @@ use Rattle.hg_run_table.specs.declared.part.Part.{Part}
 use Rattle.hg_run_table.specs.Seated.{HaveRoles}
 use Rattle.hg_run_table.specs.Calls.{IsWorkers, first_log, log_in}
 use Rattle.hg_run_worker.specs.AtWork.{IsAtWork, number_in, worker_view}
-use Rattle.hg_run_worker.specs.AtWork.{view_in, hand_after, HasCalledHere, HasCalledLeaving, HasFreed, HasOwn, HoldsSame, IsReady, KeepsRest, KeepsWith}
+use Rattle.hg_run_worker.specs.AtWork.{view_in, hand_after, HasCalledHere, HasCalledLeaving, HasCalledFree, HasOwn, HoldsSame, IsReady, KeepsRest, KeepsWith}
 use Rattle.hg_run_worker.specs.declared.worker.RunWorker.{RunWorker}
 use Rattle.hg_run_table.specs.declared.table.RunSeat.{RunSeat}
 use Rattle.hg_run_table.specs.declared.table.RunTable.{RunTable}
 use Rattle.std.specs.Arc.{arc_value}
 use Rattle.hg_run_worker.specs.Lent.{HasComeBack, IsLent, IsTiedStep}
-use Rattle.hg_run_worker.proofs.Course.{at_work, course_kinds, logged, tied, view_back}
+use Rattle.hg_run_worker.proofs.Course.{at_work, course_kinds, logged, met, tied, view_back}
 
 pub rest_twice : (old mid new : RunWorker) → KeepsRest old mid → KeepsRest mid new → KeepsRest old new
 rest_twice old mid new one two = record {
@@ -139,13 +140,18 @@ has_called old new l {e} is_asked {place} {word} {left} {a} s ready rest back =
         rest = rest;
       };
       holds = holds_same old new same;
-      tied = (
-        shown_at place word,
-        shown_at place left,
-        subst (λ (v : View). Ties (view_in old) (shown_at place word) e a v (shown_at place left))
-            (sym (view_again old new rest ∙ view_back l is_asked s old.below back))
-            (tied l is_asked s old.below),
-      );
+      tied =
+          let was = met l is_asked s old.below in
+          record {
+            shown = shown_at place word;
+            left = shown_at place left;
+            state = was.0;
+            met = was.1;
+            ties =
+                subst (λ (v : View). Ties (view_in old) (shown_at place word) e a v (shown_at place left))
+                (sym (view_again old new rest ∙ view_back l is_asked s old.below back))
+                (tied l is_asked s old.below);
+          };
     }
 
 -- a call that its part alone has made, which changes nothing but the log
@@ -153,16 +159,20 @@ pub decided_here : {event : Event} {answer : Answer} {shown left : Option Shown}
     → IsReady old → KeepsRest old new → new.heap.segments ≡ old.heap.segments
     → new.call.seat.table_id ≡ old.call.seat.table_id → new.call.seat.me.0.lives ≡ []
     → IsWorkers new.call (view_in old) → log_in new.call ≡ log_in old.call ++ (event, answer) ∷ []
+    → ((m : State) × Agrees m (view_in old) shown)
     → Ties (view_in old) shown event answer (view_in old) left → HasCalledHere event answer old new
-decided_here {event} {answer} {shown} {left} old new ready rest now same bare worker log tied = record {
+decided_here {event} {answer} {shown} {left} old new ready rest now same bare worker log was tied = record {
   called = record { ready = still_ready old new ready rest now same bare worker; log = log; rest = rest };
   holds = holds_same old new (ap (kinds number_in) now);
-  tied = (
-    shown,
-    left,
-    subst (λ (v : View). Ties (view_in old) shown event answer v left)
-        (sym (view_again old new rest ∙ ap (worker_view old.policy old.number old.hand) now)) tied,
-  );
+  tied = record {
+    shown = shown;
+    left = left;
+    state = was.0;
+    met = was.1;
+    ties =
+        subst (λ (v : View). Ties (view_in old) shown event answer v left)
+        (sym (view_again old new rest ∙ ap (worker_view old.policy old.number old.hand) now)) tied;
+  };
 }
 
 -- the same worker, but for its own seat
@@ -198,30 +208,33 @@ decided_beside old new hand ready rest own heap same bare worker log =
 pub freed_beside : {shown left : Option Shown} {actor : Actor} {handle : Handle} {answer : Answer}
     (old new : RunWorker)
     → HasCalledLeaving (hand_after answer handle old.hand) (event.Free actor handle) answer old new
-    → new.heap ≡ old.heap
+    → new.heap ≡ old.heap → ((m : State) × Agrees m (view_in old) shown)
     → Ties (view_in old) shown (event.Free actor handle) answer
     (worker_view old.policy old.number (hand_after answer handle old.hand) old.heap.segments) left
-    → HasFreed actor handle answer old new
-freed_beside {shown} {left} {actor} {handle} {answer} old new called heap tied =
+    → HasCalledFree actor handle answer old new
+freed_beside {shown} {left} {actor} {handle} {answer} old new called heap was tied =
     let now : new.heap.segments ≡ old.heap.segments = ap (λ (h : Held RunSegment). h.segments) heap in
     let hand : Option Handle = hand_after answer handle old.hand in
     record {
       called = called;
       holds = holds_same old new (ap (kinds number_in) now);
-      tied = (
-        shown,
-        left,
-        subst (λ (v : View). Ties (view_in old) shown (event.Free actor handle) answer v left)
+      tied = record {
+        shown = shown;
+        left = left;
+        state = was.0;
+        met = was.1;
+        ties =
+            subst (λ (v : View). Ties (view_in old) shown (event.Free actor handle) answer v left)
             (sym
             (view_with old new called.rest
-            ∙ ap (worker_view old.policy old.number hand) now)) tied,
-      );
+            ∙ ap (worker_view old.policy old.number hand) now)) tied;
+      };
     }
 
 -- one that moves no segment leaves what was in hand
 pub freed_here : {actor : Actor} {handle : Handle} {answer : Answer} (old new : RunWorker)
     → hand_after answer handle old.hand ≡ old.hand
-    → HasCalledHere (event.Free actor handle) answer old new → HasFreed actor handle answer old new
+    → HasCalledHere (event.Free actor handle) answer old new → HasCalledFree actor handle answer old new
 freed_here old new is here = record {
   called = record {
     ready = here.called.ready;
@@ -245,12 +258,13 @@ pub refused_beside : {shown left : Option Shown} {actor : Actor} {handle : Handl
     → new.call.seat.table_id ≡ old.call.seat.table_id → new.call.seat.me.0.lives ≡ []
     → IsWorkers new.call (view_in old)
     → log_in new.call ≡ log_in old.call ++ (event.Free actor handle, answer) ∷ []
+    → ((m : State) × Agrees m (view_in old) shown)
     → Ties (view_in old) shown (event.Free actor handle) answer (view_in old) left
-    → HasFreed actor handle told old new
-refused_beside {shown} {left} {actor} {handle} answer old new is ready stays rest own heap same bare worker log tied =
+    → HasCalledFree actor handle told old new
+refused_beside {shown} {left} {actor} {handle} answer old new is ready stays rest own heap same bare worker log was tied =
     let view : (hand : Option Handle) → View =
     λ hand. worker_view old.policy old.number hand old.heap.segments in
-    subst (λ (a : Answer). HasFreed actor handle a old new) is
+    subst (λ (a : Answer). HasCalledFree actor handle a old new) is
     (freed_beside old new
     (decided_beside old new (hand_after answer handle old.hand) ready
     (record {
@@ -261,7 +275,7 @@ refused_beside {shown} {left} {actor} {handle} answer old new is ready stays res
     })
     own heap same bare
     (subst (λ (hand : Option Handle). IsWorkers new.call (view hand)) (sym stays) worker) log)
-    heap
+    heap was
     (subst
     (λ (hand : Option Handle).
     Ties (view_in old) shown (event.Free actor handle) answer (view hand) left)

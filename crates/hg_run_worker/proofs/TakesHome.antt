@@ -55,7 +55,7 @@ use Rattle.hg_run_table.proofs.RolesOfViews.{joined_have}
 use Rattle.hg_run_worker.specs.AtWork.{AreSeated, IsAtWork, IsSeated, number_in, numbers_in, records_in, shows_in, steps_in}
 use Rattle.hg_run_worker.specs.AtWork.{hand_generation, hand_place, worker_view}
 use Rattle.hg_run_worker.specs.Lent.{HasComeBack, IsLentQuietly}
-use Rattle.hg_run_worker.specs.Lists.{places_of}
+use Rattle.hg_run_worker.specs.Lists.{numbers_of}
 use Rattle.hg_run_worker.proofs.Quietly.{quiet_append}
 use Rattle.hg_run_worker.proofs.Sending.{counted, on_map}
 use Rattle.hg_run_worker.proofs.SlotsLent.{at_position, came_back, came_logged, changed_one, found_before, found_there}
@@ -156,10 +156,10 @@ pub record IsTake (id : TableId) (policy : Policy) (number : ℕ) (hand : Option
   pub right : IsRight remote
   pub state : State
   pub agrees : Agrees state (worker_view policy number hand xs) None
-  pub sent : RemoteAgrees state segment (places_of segment remote)
+  pub sent : RemoteAgrees state segment (numbers_of segment remote)
   pub lent : IsLentQuietly segment xs call ys
   pub worker :
-      IsWorkers call (come_home (worker_view policy number hand xs) (places_of segment remote))
+      IsWorkers call (come_home (worker_view policy number hand xs) (numbers_of segment remote))
 
 module _ {id : TableId} {policy : Policy} {number : ℕ} {hand : Option Handle} {segment : ℕ} {call : RunSeat}
     {remote : Remote} {xs ys : List (Kept RunSegment)}
@@ -177,7 +177,7 @@ module _ {id : TableId} {policy : Policy} {number : ℕ} {hand : Option Handle} 
   was = worker_view policy number hand xs
 
   abbrev came : View
-  came = come_home was (places_of segment remote)
+  came = come_home was (numbers_of segment remote)
 
   abbrev had : Kept RunSegment
   had = lent.lent.one
@@ -229,7 +229,7 @@ module _ {id : TableId} {policy : Policy} {number : ℕ} {hand : Option Handle} 
         | inl t ↦ t
         | inr f ↦
             absurd
-            (counted at (places_of segment remote) (on_map (place_at segment) place (contents remote) on)
+            (counted at (numbers_of segment remote) (on_map (place_at segment) place (contents remote) on)
             (take.sent at ∙ ap bit_of f))
       ] in
       let there_told : find (λ h. h.number == segment) (map (holding number_in records_in) xs)
@@ -301,7 +301,7 @@ module _ {id : TableId} {policy : Policy} {number : ℕ} {hand : Option Handle} 
     like =
         let is : all.end.one ≡ whole.after =
         one_held new.segments segment all.end.one whole.after all.end.there whole.now in
-        subst (λ (v : View). IsLike (come_home v (places_of segment remote)) (worker_view policy number hand new.segments))
+        subst (λ (v : View). IsLike (come_home v (numbers_of segment remote)) (worker_view policy number hand new.segments))
         (ap (worker_view policy number hand) same
         ∙ view_stays once lent.lent policy number (hand_place hand) (hand_generation hand))
         (like_home policy number hand whole

@@ -14,9 +14,11 @@ use Rattle.hg_machine.specs.declared.Event.{Event}
 use Rattle.hg_machine.specs.declared.Event.TheVariants as event
 use Rattle.hg_machine.specs.Policy.{Policy}
 use Rattle.hg_segment.specs.Kept.{Kept}
-use Rattle.hg_agreement.specs.Agreement.{Ties}
+use Rattle.hg_machine.specs.State.{State}
+use Rattle.hg_agreement.specs.Agreement.{Agrees, Ties}
 use Rattle.hg_agreement.specs.Views.{Shown, View}
-use Rattle.hg_heap.specs.Held.{is_held}
+use Rattle.hg_heap.specs.Held.{KeepsLists, is_held}
+use Rattle.hg_heap.specs.Keeping.{KeepsAll}
 use Rattle.hg_heap.specs.Policies.{AreOf}
 use Rattle.hg_heap.specs.Ties.{heap_view}
 use Rattle.hg_roles.specs.Roles.{of_segment}
@@ -83,7 +85,7 @@ pub record IsAtWork (id : TableId) (policy : Policy) (number : ℕ) (hand : Opti
   pub worker : IsWorkers call (worker_view policy number hand segments)
   pub seated : AreSeated id segments
 
--- what the worker knows of words and lives that it doesn't hold is in a seat of one part, which has none of the run
+-- what the worker's Frees elsewhere have seen and ended is in a seat of one part, which has none of the run
 pub record IsOwn (id : TableId) (seat : RunSeat) : Type 0 where
   pub same : seat.seat.table_id ≡ id
   pub one : seat.seat.me.0.lives ≡ part_of seat.seat.me.0.lives ∷ []
@@ -93,7 +95,8 @@ abbrev pub HasOwn : TableId → Option RunSeat → Type 0
 HasOwn id None = ⊥
 HasOwn id (Some seat) = IsOwn id seat
 
--- A worker that makes no call is at work, its segments are as the policy has them, and the table is of its policy
+-- A worker that makes no call is at work, with a seat of what it knows elsewhere, its segments are as the policy has
+-- them, and the table is of its policy
 pub record IsReady (worker : RunWorker) : Type 0 where
   pub work :
       IsAtWork (arc_value worker.table).table.shared.table_id worker.policy worker.number worker.hand
@@ -111,7 +114,7 @@ pub record KeepsRest (old new : RunWorker) : Type 0 where
   pub hand : new.hand ≡ old.hand
 
 -- A worker that was ready made a call: it is ready again, its log is longer by the call with its answer, and its
--- table, policy, number and hand are as they were
+-- table, policy, number, own seat and hand are as they were
 pub record HasCalled (event : Event) (answer : Answer) (old new : RunWorker) : Type 0 where
   pub ready : IsReady new
   pub log : log_in new.call ≡ log_in old.call ++ (event, answer) ∷ []
@@ -123,15 +126,27 @@ HoldsSame old new =
     (segment : ℕ)
     → is_held number_in new.heap.segments segment ≡ is_held number_in old.heap.segments segment
 
--- A call that moves no segment: in every state that agrees with what the worker had, and with the word that its
--- step found, if it made one, the answer is the machine's, and the state after it agrees with what the worker has
--- then, and with the word left
+-- Some state agreed with what a worker had, and showed the word that its step found, if it made one; and in every
+-- such state the answer is the machine's, and the state after it agrees with what the worker has then, and with the
+-- word left
+pub record IsTied (event : Event) (answer : Answer) (before after : View) : Type 0 where
+  pub shown : Option Shown
+  pub left : Option Shown
+  pub state : State
+  pub met : Agrees state before shown
+  pub ties : Ties before shown event answer after left
+
+-- a call that moves no segment, and whose answer is tied
 pub record HasCalledHere (event : Event) (answer : Answer) (old new : RunWorker) : Type 0 where
   pub called : HasCalled event answer old new
   pub holds : HoldsSame old new
-  pub tied :
-      (shown : Option Shown) × (left : Option Shown)
-      × Ties (view_in old) shown event answer (view_in new) left
+  pub tied : IsTied event answer (view_in old) (view_in new)
+
+-- of each segment all but what is known of its words is as it was, and all queues are
+pub record KeepsHeap (old new : RunWorker) : Type 0 where
+  pub all : KeepsAll number_in records_in old.heap.segments new.heap.segments
+  pub lists : KeepsLists number_in old.heap.segments new.heap.segments
+  pub queues : new.heap.queues ≡ old.heap.queues
 
 -- table, policy and number are as they were, and this is in hand
 pub record KeepsWith (hand : Option Handle) (old new : RunWorker) : Type 0 where
@@ -140,7 +155,7 @@ pub record KeepsWith (hand : Option Handle) (old new : RunWorker) : Type 0 where
   pub number : new.number ≡ old.number
   pub now : new.hand ≡ hand
 
--- the life in hand behind a Free
+-- the life in hand after a Free
 abbrev pub hand_after : Answer → Handle → Option Handle → Option Handle
 hand_after answer.Parted handle hand = Some handle
 hand_after other handle hand = hand
@@ -154,9 +169,7 @@ pub record HasCalledLeaving (hand : Option Handle) (event : Event) (answer : Ans
   pub rest : KeepsWith hand old new
 
 -- A Free: it may leave its block in hand, and moves no segment; its answer is tied as that of a call here is
-pub record HasFreed (actor : Actor) (handle : Handle) (answer : Answer) (old new : RunWorker) : Type 0 where
+pub record HasCalledFree (actor : Actor) (handle : Handle) (answer : Answer) (old new : RunWorker) : Type 0 where
   pub called : HasCalledLeaving (hand_after answer handle old.hand) (event.Free actor handle) answer old new
   pub holds : HoldsSame old new
-  pub tied :
-      (shown : Option Shown) × (left : Option Shown)
-      × Ties (view_in old) shown (event.Free actor handle) answer (view_in new) left
+  pub tied : IsTied (event.Free actor handle) answer (view_in old) (view_in new)

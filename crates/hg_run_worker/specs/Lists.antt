@@ -1,5 +1,5 @@
 -- The remote list of a segment, over a table that keeps one run: its part of the run, by the places that it has.
-use Rattle.std.specs.Prelude.{◌≡◌, ℕ, ◌+◌, ◌*◌, Bool, true, false, List, [], ◌∷◌, length, map, Option, Some, None}
+use Rattle.std.specs.Prelude.{◌≡◌, ℕ, ◌+◌, ◌*◌, Bool, true, false, List, [], ◌∷◌, map, Option, Some, None}
 use Rattle.atomic_table.specs.Seated.{TableId}
 use Rattle.hg_place.specs.declared.Handle.{Handle}
 use Rattle.hg_place.specs.declared.geometry.TheConstants.{SEGMENT_PLACES}
@@ -15,25 +15,25 @@ use Rattle.hg_run_table.specs.JoinedCalls.{IsOthers}
 use Rattle.hg_run_worker.specs.declared.list.RunList.{RunList}
 
 -- the places of a list, by their numbers
-abbrev pub places_of : ℕ → Remote → List ℕ
-places_of segment remote = map (λ slot. segment * SEGMENT_PLACES + slot) (contents remote)
+abbrev pub numbers_of : ℕ → Remote → List ℕ
+numbers_of segment remote = map (λ slot. segment * SEGMENT_PLACES + slot) (contents remote)
 
 -- The list's part of the run is in a seat of the table that has nothing of words and lives, and has the places that
 -- the list has
 pub record IsListOf (id : TableId) (list : RunList) : Type 0 where
   pub same : list.call.seat.table_id ≡ id
   pub bare : list.call.seat.me.0.lives ≡ []
-  pub part : IsOthers list.call (of_remote list.segment (places_of list.segment list.list))
+  pub part : IsOthers list.call (of_remote list.segment (numbers_of list.segment list.list))
 
 -- it is the list of the segment of what is in hand
-abbrev pub IsHome : Option Handle → ℕ → Type 0
-IsHome None segment = Unit {0}
-IsHome (Some handle) segment = handle.place.segment ≡ segment
+abbrev pub IsForHand : Option Handle → ℕ → Type 0
+IsForHand None segment = Unit {0}
+IsForHand (Some handle) segment = handle.place.segment ≡ segment
 
 -- what is in hand is sent to the list, if something is
-abbrev pub with_hand : Option Handle → Remote → Remote
-with_hand None remote = remote
-with_hand (Some handle) remote = sent remote handle.place.page handle.place.index
+abbrev pub with_sent : Option Handle → Remote → Remote
+with_sent None remote = remote
+with_sent (Some handle) remote = sent remote handle.place.page handle.place.index
 
 -- and the places that it has then
 abbrev pub with_place : Option Handle → List ℕ → List ℕ

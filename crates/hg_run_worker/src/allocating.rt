@@ -1,6 +1,6 @@
 //! Blocks are given out of segments that the worker holds.
 
-ghost use Rattle.std.specs.Prelude.{◌≡◌, true, None, Some, [], ◌∷◌, IfOk, Contains};
+ghost use Rattle.std.specs.Prelude.{◌≡◌, true, None, Some, [], ◌∷◌, IfErr, IfOk, Contains};
 ghost use Rattle.std.specs.Prelude.{option_map};
 ghost use Rattle.hg_place.specs.Places.{number_of, segment_of};
 ghost use Rattle.hg_size.specs.Sizes.{sizes};
@@ -35,6 +35,9 @@ impl RunWorker {
             ≡ Some (number_of handle.place)) }
         ensures answered { refusal_of number_in records_in self.old.policy actor.0 arena bytes
             self.old.heap ≡ err_of result }
+        ensures held { IfOk result (λ handle.
+            is_held number_in self.old.heap.segments handle.place.segment ≡ true) }
+        ensures refused { IfErr result (λ refused. self.new.heap ≡ self.old.heap) }
     {
         match self.heap.next_segment(&self.policy, actor, arena, bytes) {
             Ok(segment) => Ok(self.alloc_at::<Brand>(segment, actor, arena, bytes)),
@@ -60,6 +63,7 @@ impl RunWorker {
             self.old self.new }
         ensures chosen { chosen_place number_in records_in self.old.heap arena (size_of bytes)
             ≡ Some (number_of result.place) }
+        ensures held { is_held number_in self.old.heap.segments result.place.segment ≡ true }
     {
         self.lend::<E>(segment);
         self.heap.settled();
@@ -80,6 +84,7 @@ impl RunWorker {
             (refused_answer refused) (view_in self.old) None }
         ensures called { HasCalledHere (Event.Alloc actor arena bytes) (refused_answer refused)
             self.old self.new }
+        ensures heap { self.new.heap ≡ self.old.heap }
     {
         self.call_alone::<W>();
     }

@@ -7,6 +7,8 @@ ghost use Rattle.hg_place.specs.Places.{number_of};
 ghost use Rattle.hg_place.specs.Slots.{slot_in};
 ghost use Rattle.hg_place.specs.declared.Right.TheVariants as Right;
 ghost use Rattle.hg_machine.specs.declared.Event.TheVariants as Event;
+ghost use Rattle.hg_machine.specs.State.{State};
+ghost use Rattle.hg_agreement.specs.Agreement.{Agrees};
 ghost use Rattle.hg_agreement.specs.Seen.{IsShownAt, IsShownFor, refusal_in};
 ghost use Rattle.hg_agreement.specs.Views.{Shown};
 ghost use Rattle.hg_frame.specs.SlotWords.{changes_word};
@@ -14,6 +16,7 @@ ghost use Rattle.hg_heap.specs.Answers.{away_answer, done_answer, list_denial, r
 ghost use Rattle.hg_heap.specs.Answers.{refused_answer, row_answer};
 ghost use Rattle.hg_heap.specs.Held.{is_held};
 ghost use Rattle.hg_heap.specs.Reading.{use_denial};
+ghost use Rattle.hg_heap.specs.Ties.{shown_at};
 ghost use Rattle.hg_roles.specs.Deciding.{is_own};
 ghost use Rattle.hg_roles.specs.Served.{places_of_policy};
 ghost use Rattle.hg_run_table.specs.Calls.{IsWorkers, MayCall, log_in, view_by, with_call};
@@ -182,6 +185,7 @@ impl RunWorker {
         ensures log { log_in self.new.call ≡ with_call (log_in self.old.call) (W.call result) }
         ensures worker { IsWorkers self.new.call
             (view_by W.before (W.call result) (W.after result)) }
+        ensures met { (m : State) × Agrees m W.before (shown_at place result) }
         ensures heap { self.new.heap ≡ self.old.heap }
         ensures rest { KeepsRest self.old self.new }
     {

@@ -55,7 +55,7 @@ impl RunWorker {
         })
     }
 
-    /// The block that the worker has freed of a segment that it doesn't hold, and not delivered yet.
+    /// The block that the worker has freed of a segment that it didn't hold, and not delivered yet.
     pub fn hand(&self) -> Option<Handle>
         ensures { result ≡ self.now.hand }
     {

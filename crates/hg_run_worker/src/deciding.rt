@@ -30,6 +30,7 @@ impl RunWorker {
         ensures lives { self.new.call.seat.me.0.lives ≡ self.old.call.seat.me.0.lives }
         ensures log { log_in self.new.call ≡ log_in self.old.call ++ W.call ∷ [] }
         ensures worker { IsWorkers self.new.call W.after }
+        ensures agreed { (m : State) × Agrees m W.before None }
         ensures heap { self.new.heap ≡ self.old.heap }
         ensures rest { KeepsRest self.old self.new }
     {
@@ -47,6 +48,7 @@ impl RunWorker {
         ensures lives { self.new.call.seat.me.0.lives ≡ self.old.call.seat.me.0.lives }
         ensures log { log_in self.new.call ≡ log_in self.old.call ++ W.call ∷ [] }
         ensures worker { IsWorkers self.new.call W.before }
+        ensures agreed { (m : State) × Agrees m W.before None }
         ensures heap { self.new.heap ≡ self.old.heap }
         ensures rest { KeepsRest self.old self.new }
     {

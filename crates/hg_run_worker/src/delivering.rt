@@ -5,8 +5,8 @@ ghost use Rattle.std.specs.Arc.{arc_value};
 ghost use Rattle.hg_machine.specs.declared.Event.TheVariants as Event;
 ghost use Rattle.hg_roles.specs.Roles.{of_remote};
 ghost use Rattle.hg_run_worker.specs.AtWork.{HasCalledLeaving, IsReady, view_in, worker_view};
-ghost use Rattle.hg_run_worker.specs.Lists.{IsHome, IsListOf, deliver_answer, places_of};
-ghost use Rattle.hg_run_worker.specs.Lists.{with_hand, with_place};
+ghost use Rattle.hg_run_worker.specs.Lists.{IsForHand, IsListOf, deliver_answer, numbers_of};
+ghost use Rattle.hg_run_worker.specs.Lists.{with_sent, with_place};
 
 use crate::{RunList, RunWorker};
 use hg_machine::Answer;
@@ -20,11 +20,11 @@ impl RunWorker {
     pub fn deliver(&mut self, list: &mut RunList) -> Answer
         requires ready { IsReady self.old }
         requires list { IsListOf (arc_value self.old.table).table.shared.table_id list.old }
-        requires home { IsHome self.old.hand list.old.segment }
+        requires home { IsForHand self.old.hand list.old.segment }
         ensures called { HasCalledLeaving None Event.Deliver result self.old self.new }
         ensures answered { result ≡ deliver_answer self.old.hand }
         ensures list { IsListOf (arc_value self.old.table).table.shared.table_id list.new }
-        ensures sent { list.new.list ≡ with_hand self.old.hand list.old.list }
+        ensures sent { list.new.list ≡ with_sent self.old.hand list.old.list }
         ensures segment { list.new.segment ≡ list.old.segment }
         ensures heap { self.new.heap ≡ self.old.heap }
     {
@@ -35,19 +35,19 @@ impl RunWorker {
     fn deliver_by<W: OwnCall, P: OtherPart>(&mut self, list: &mut RunList) -> Answer
         requires ready { IsReady self.old }
         requires list { IsListOf (arc_value self.old.table).table.shared.table_id list.old }
-        requires home { IsHome self.old.hand list.old.segment }
+        requires home { IsForHand self.old.hand list.old.segment }
         requires before { W.before ≡ view_in self.old }
         requires call { W.call ≡ (Event.Deliver, deliver_answer self.old.hand) }
         requires after { W.after
             ≡ worker_view self.old.policy self.old.number None self.old.heap.segments }
         requires role { P.role ≡ of_remote list.old.segment
-            (places_of list.old.segment list.old.list) }
+            (numbers_of list.old.segment list.old.list) }
         requires left { P.left ≡ of_remote list.old.segment
-            (with_place self.old.hand (places_of list.old.segment list.old.list)) }
+            (with_place self.old.hand (numbers_of list.old.segment list.old.list)) }
         ensures called { HasCalledLeaving None Event.Deliver result self.old self.new }
         ensures answered { result ≡ deliver_answer self.old.hand }
         ensures list { IsListOf (arc_value self.old.table).table.shared.table_id list.new }
-        ensures sent { list.new.list ≡ with_hand self.old.hand list.old.list }
+        ensures sent { list.new.list ≡ with_sent self.old.hand list.old.list }
         ensures segment { list.new.segment ≡ list.old.segment }
         ensures heap { self.new.heap ≡ self.old.heap }
     {

@@ -55,7 +55,8 @@ impl RunEnd {
         end
     }
 
-    /// A worker leaves: its own part is given back, and those of the segments that it holds.
+    /// A worker leaves: its own part is given back, and those of the segments that it holds. What it has in hand
+    /// stays parted in the run's last state.
     pub fn worker(&mut self, table: &Arc<RunTable, Global>, worker: RunWorker)
         requires same { self.old.seat.seat.table_id
             ≡ (arc_value table.now).table.shared.table_id }

@@ -1,22 +1,27 @@
 //! Blocks are freed: of segments that the worker holds, and of others, by one exchange at their word.
 
 ghost use Rattle.std.specs.Prelude.{◌≡◌, ◌≢◌, ℕ, ◌+◌, ◌<◌, true, false, [], ◌∷◌, length, map, Some, None};
-ghost use Rattle.std.specs.Prelude.{is_some};
+ghost use Rattle.std.specs.Prelude.{IfErr, is_some};
 ghost use Rattle.std.specs.Arc.{arc_value};
 ghost use Rattle.hg_place.specs.Places.{number_of};
 ghost use Rattle.hg_place.specs.declared.Right.TheVariants as Right;
 ghost use Rattle.hg_machine.specs.declared.Answer.TheVariants as Answer;
 ghost use Rattle.hg_machine.specs.declared.Event.TheVariants as Event;
 ghost use Rattle.hg_heap.specs.Answers.{done_answer};
-ghost use Rattle.hg_heap.specs.Held.{is_held};
+ghost use Rattle.hg_heap.specs.Held.{KeepsLists, is_held};
+ghost use Rattle.hg_heap.specs.Keeping.{KeepsAll};
 ghost use Rattle.hg_heap.specs.Reading.{use_denial};
+ghost use Rattle.hg_heap.specs.Ties.{shown_at};
+ghost use Rattle.hg_machine.specs.State.{State};
+ghost use Rattle.hg_agreement.specs.Agreement.{Agrees};
 ghost use Rattle.hg_roles.specs.Served.{places_of_policy};
 ghost use Rattle.hg_run_table.specs.Calls.{IsWorkers, MayCall, log_in, view_by, with_call};
 ghost use Rattle.hg_table.specs.Steps.{MayMakeBy, left_by, part_from};
 ghost use Rattle.hg_table.specs.Told.{IsShownTo};
 ghost use Rattle.hg_table.specs.View.{part_of};
-ghost use Rattle.hg_run_worker.specs.AtWork.{HasCalledHere, HasFreed, HasOwn, IsReady};
-ghost use Rattle.hg_run_worker.specs.AtWork.{KeepsRest, KeepsWith, number_in};
+ghost use Rattle.hg_run_worker.specs.AtWork.{HasCalledHere, HasCalledFree, HasOwn, IsReady};
+ghost use Rattle.hg_run_worker.specs.AtWork.{KeepsHeap, KeepsRest, KeepsWith, number_in};
+ghost use Rattle.hg_run_worker.specs.AtWork.{records_in};
 ghost use Rattle.hg_run_worker.specs.Freeing.{away_refusal};
 
 use crate::RunWorker;
@@ -62,7 +67,7 @@ impl RunWorker {
     /// denies it and something is in hand. A refusal changes the log alone.
     pub fn free(&mut self, actor: Actor, handle: Handle) -> Answer
         requires ready { IsReady self.old }
-        ensures freed { HasFreed actor handle result self.old self.new }
+        ensures freed { HasCalledFree actor handle result self.old self.new }
         ensures done { result ≡ Answer.Done
             → is_held number_in self.old.heap.segments handle.place.segment ≡ true }
         ensures parted { result ≡ Answer.Parted
@@ -73,6 +78,7 @@ impl RunWorker {
             × (self.old.hand ≢ None) }
         ensures away { is_held number_in self.old.heap.segments handle.place.segment ≡ false
             → self.new.heap ≡ self.old.heap }
+        ensures refused { result ≢ Answer.Done → KeepsHeap self.old self.new }
     {
         if self.holds(handle.place.segment) {
             return done_answer(self.free_here(actor, handle));
@@ -87,6 +93,11 @@ impl RunWorker {
         requires held { is_held number_in self.old.heap.segments handle.place.segment ≡ true }
         ensures called { HasCalledHere (Event.Free actor handle)
             (done_answer result) self.old self.new }
+        ensures kept { IfErr result (λ refused. KeepsAll number_in records_in self.old.heap.segments
+            self.new.heap.segments) }
+        ensures lists { IfErr result (λ refused. KeepsLists number_in self.old.heap.segments
+            self.new.heap.segments) }
+        ensures queues { IfErr result (λ refused. self.new.heap.queues ≡ self.old.heap.queues) }
     {
         self.free_asked::<Brand>(actor, handle)
     }
@@ -98,6 +109,11 @@ impl RunWorker {
         requires asked { E.asked ≡ (Event.Free actor handle ∷ []) ∷ [] }
         ensures called { HasCalledHere (Event.Free actor handle)
             (done_answer result) self.old self.new }
+        ensures kept { IfErr result (λ refused. KeepsAll number_in records_in self.old.heap.segments
+            self.new.heap.segments) }
+        ensures lists { IfErr result (λ refused. KeepsLists number_in self.old.heap.segments
+            self.new.heap.segments) }
+        ensures queues { IfErr result (λ refused. self.new.heap.queues ≡ self.old.heap.queues) }
     {
         self.lend::<E>(handle.place.segment);
         let freed = self.heap.free_here(&self.policy, actor, handle);
@@ -114,7 +130,7 @@ impl RunWorker {
         requires denial { (word : ℕ) → F.denial word
             ≡ use_denial self.old.policy actor.0 Right.Free handle word }
         requires freed { F.freed ≡ Some handle }
-        ensures freed { HasFreed actor handle result self.old self.new }
+        ensures freed { HasCalledFree actor handle result self.old self.new }
         ensures done { result ≢ Answer.Done }
         ensures parted { result ≡ Answer.Parted → self.old.hand ≡ None }
         ensures busy { result ≡ Answer.Busy → self.old.hand ≢ None }
@@ -167,6 +183,7 @@ impl RunWorker {
         ensures log { log_in self.new.call ≡ with_call (log_in self.old.call) (W.call result) }
         ensures worker { IsWorkers self.new.call
             (view_by W.before (W.call result) (W.after result)) }
+        ensures met { (m : State) × Agrees m W.before (shown_at place result) }
         ensures heap { self.new.heap ≡ self.old.heap }
         ensures rest { KeepsRest self.old self.new }
     {

@@ -29,6 +29,7 @@ impl RunList {
             → IsNewOther id (of_remote segment []) seat → IsListOf id list) }
         ensures segment { IfOk result (λ list. list.segment ≡ segment) }
         ensures empty { IfOk result (λ list. list.list ≡ nothing_sent) }
+        ensures seat { IfOk result (λ list. list.call ≡ seat) }
     {
         let list = RemoteList::new(alloc)?;
         Ok(RunList {
@@ -38,7 +39,8 @@ impl RunList {
         })
     }
 
-    /// The list's seat, to end the service by; what was sent to it goes.
+    /// The list's seat, to end the service by. Its places stay sent in the run, and no list that is made of the
+    /// seat has them.
     pub fn into_seat(self) -> RunSeat
         ensures { result ≡ self.call }
     {

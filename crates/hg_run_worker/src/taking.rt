@@ -10,7 +10,7 @@ ghost use Rattle.hg_roles.specs.Roles.{of_remote};
 ghost use Rattle.hg_run_worker.specs.AtWork.{AreSeated, HasCalled, IsReady, KeepsRest, number_in};
 ghost use Rattle.hg_run_worker.specs.AtWork.{records_in, view_in};
 ghost use Rattle.hg_run_worker.specs.Lent.{IsLentQuietly};
-ghost use Rattle.hg_run_worker.specs.Lists.{IsListOf, left_list, left_places, places_of};
+ghost use Rattle.hg_run_worker.specs.Lists.{IsListOf, left_list, left_places, numbers_of};
 ghost use Rattle.hg_run_worker.specs.Lists.{take_answer, taken_view};
 
 use crate::{RunList, RunWorker};
@@ -54,12 +54,12 @@ impl RunWorker {
         ) }
         requires after { W.after
             ≡ taken_view (is_held number_in self.old.heap.segments list.old.segment)
-            (view_in self.old) (places_of list.old.segment list.old.list) }
+            (view_in self.old) (numbers_of list.old.segment list.old.list) }
         requires role { P.role ≡ of_remote list.old.segment
-            (places_of list.old.segment list.old.list) }
+            (numbers_of list.old.segment list.old.list) }
         requires left { P.left ≡ of_remote list.old.segment
             (left_places (is_held number_in self.old.heap.segments list.old.segment)
-            (places_of list.old.segment list.old.list)) }
+            (numbers_of list.old.segment list.old.list)) }
         ensures called { HasCalled (Event.Take list.old.segment) result self.old self.new }
         ensures answered { result ≡ take_answer
             (is_held number_in self.old.heap.segments list.old.segment)

@@ -65,8 +65,37 @@ fn given(worker: &mut RunWorker, bytes: u64) -> Option<Handle>
     worker.alloc(ALICE, 0, bytes).ok()
 }
 
-/// The second worker frees a block of the first one, which takes it in.
-fn goes_home(one: &mut RunWorker, two: &mut RunWorker, list: &mut RunList) -> Option<[Answer; 7]>
+/// A stranger's free of a block, the tenant's, and the tenant's once more.
+fn frees(two: &mut RunWorker, handle: Handle) -> [Answer; 3]
+    requires ready { IsReady two.old }
+    ensures ready { IsReady two.new }
+    ensures same { IsOfSame two.old two.new }
+{
+    let stranger = freed(two, NOBODY, handle);
+    let parted = freed(two, ALICE, handle);
+    let again = freed(two, ALICE, handle);
+    [stranger, parted, again]
+}
+
+/// Two deliveries of what is in hand.
+fn delivers(two: &mut RunWorker, list: &mut RunList) -> Option<[Answer; 2]>
+    requires ready { IsReady two.old }
+    requires list { IsListOf (arc_value two.old.table).table.shared.table_id list.old }
+    ensures ready { IsReady two.new }
+    ensures same { IsOfSame two.old two.new }
+    ensures list { IsListOf (arc_value two.old.table).table.shared.table_id list.new }
+{
+    let done = sent(two, list)?;
+    let nothing = sent(two, list)?;
+    Some([done, nothing])
+}
+
+/// The second worker frees a block of the first one, and sends it.
+fn goes(
+    one: &mut RunWorker,
+    two: &mut RunWorker,
+    list: &mut RunList,
+) -> Option<([Answer; 3], [Answer; 2])>
     requires ready { IsReady one.old }
     requires ready_too { IsReady two.old }
     requires same { IsOfSame one.old two.old }
@@ -78,18 +107,13 @@ fn goes_home(one: &mut RunWorker, two: &mut RunWorker, list: &mut RunList) -> Op
     ensures list { IsListOf (arc_value one.old.table).table.shared.table_id list.new }
 {
     let handle = given(one, 64)?;
-    let stranger = freed(two, NOBODY, handle);
-    let parted = freed(two, ALICE, handle);
-    let again = freed(two, ALICE, handle);
-    let done = sent(two, list)?;
-    let nothing = sent(two, list)?;
-    let elsewhere = taken(two, list);
-    let home = taken(one, list);
-    Some([stranger, parted, again, done, nothing, elsewhere, home])
+    let frees = frees(two, handle);
+    let delivered = delivers(two, list)?;
+    Some((frees, delivered))
 }
 
-/// Its hand is full as the second block is freed.
-fn is_busy(one: &mut RunWorker, two: &mut RunWorker, list: &mut RunList) -> Option<[Answer; 7]>
+/// It comes home to the first one, and not to the second.
+fn comes(one: &mut RunWorker, two: &mut RunWorker, list: &mut RunList) -> [Answer; 2]
     requires ready { IsReady one.old }
     requires ready_too { IsReady two.old }
     requires same { IsOfSame one.old two.old }
@@ -100,20 +124,46 @@ fn is_busy(one: &mut RunWorker, two: &mut RunWorker, list: &mut RunList) -> Opti
     ensures same_too { IsOfSame one.old two.new }
     ensures list { IsListOf (arc_value one.old.table).table.shared.table_id list.new }
 {
+    let elsewhere = taken(two, list);
+    let home = taken(one, list);
+    [elsewhere, home]
+}
+
+/// Of two blocks of the first worker the second one frees one, and then it is busy.
+fn is_busy(one: &mut RunWorker, two: &mut RunWorker) -> Option<[Answer; 2]>
+    requires ready { IsReady one.old }
+    requires ready_too { IsReady two.old }
+    requires same { IsOfSame one.old two.old }
+    ensures ready { IsReady one.new }
+    ensures ready_too { IsReady two.new }
+    ensures same { IsOfSame one.old one.new }
+    ensures same_too { IsOfSame one.old two.new }
+{
     let first = given(one, 64)?;
     let second = given(one, 64)?;
     let parted = freed(two, ALICE, first);
     let busy = freed(two, ALICE, second);
-    let none = taken(one, list);
-    let done = freed(one, ALICE, second);
-    let over = freed(one, ALICE, first);
-    let delivered = sent(two, list)?;
-    let home = taken(one, list);
-    Some([parted, busy, none, done, over, delivered, home])
+    Some([parted, busy])
 }
 
-/// Two workers of a new table, of which the first holds a segment, whose list this is, make both rounds.
-fn rounds(alloc: Global, policy: &Policy) -> Result<Option<[[Answer; 7]; 2]>, AllocError>
+/// What the rounds are answered.
+type Rounds = (([Answer; 3], [Answer; 2]), [Answer; 2], [Answer; 2]);
+
+/// Both rounds.
+fn both(one: &mut RunWorker, two: &mut RunWorker, list: &mut RunList) -> Option<Rounds>
+    requires ready { IsReady one.old }
+    requires ready_too { IsReady two.old }
+    requires same { IsOfSame one.old two.old }
+    requires list { IsListOf (arc_value one.old.table).table.shared.table_id list.old }
+{
+    let goes = goes(one, two, list)?;
+    let comes = comes(one, two, list);
+    let busy = is_busy(one, two)?;
+    Some((goes, comes, busy))
+}
+
+/// Two workers of a new table make both rounds, of which the first holds a segment, whose list this is.
+fn rounds(alloc: Global, policy: &Policy) -> Result<Option<Rounds>, AllocError>
     requires segments { length policy.now.segments ≡ 2 }
     requires workers { policy.now.workers ≡ 2 }
 {
@@ -136,38 +186,21 @@ fn rounds(alloc: Global, policy: &Policy) -> Result<Option<[[Answer; 7]; 2]>, Al
     let mut list = RunList::new(alloc, 0, seat)?;
     let mut pool = RunPool::new(alloc, &table, policy, seats.pool, seats.segments)?;
     one.refill(0, &mut pool);
-    drop(pool);
-    let Some(first) = goes_home(&mut one, &mut two, &mut list) else {
-        return Ok(None);
-    };
-    let Some(second) = is_busy(&mut one, &mut two, &mut list) else {
-        return Ok(None);
-    };
-    Ok(Some([first, second]))
+    Ok(both(&mut one, &mut two, &mut list))
 }
 
-/// What the rounds have to be answered.
-fn wanted() -> [[Answer; 7]; 2] {
-    [
-        [
-            Answer::Denied(Rule::Stranger),
-            Answer::Parted,
-            Answer::Denied(Rule::AlreadyFreed),
-            Answer::Done,
-            Answer::NothingInHand,
-            Answer::NotHeld,
-            Answer::Taken(1),
-        ],
-        [
-            Answer::Parted,
-            Answer::Busy,
-            Answer::Taken(0),
-            Answer::Done,
-            Answer::Denied(Rule::AlreadyFreed),
-            Answer::Done,
-            Answer::Taken(1),
-        ],
-    ]
+/// What they have to be answered.
+fn wanted() -> Rounds {
+    let frees = [
+        Answer::Denied(Rule::Stranger),
+        Answer::Parted,
+        Answer::Denied(Rule::AlreadyFreed),
+    ];
+    (
+        (frees, [Answer::Done, Answer::NothingInHand]),
+        [Answer::NotHeld, Answer::Taken(1)],
+        [Answer::Parted, Answer::Busy],
+    )
 }
 
 #[test]

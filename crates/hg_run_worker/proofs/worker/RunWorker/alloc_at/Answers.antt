@@ -9,7 +9,7 @@ use Rattle.hg_machine.specs.Policy.{Policy}
 use Rattle.hg_machine.specs.Request.{size_of}
 use Rattle.hg_heap.specs.Allowed.{MayAlloc}
 use Rattle.hg_heap.specs.Choice.{chosen_place}
-use Rattle.hg_heap.specs.Held.{Held}
+use Rattle.hg_heap.specs.Held.{Held, is_held}
 use Rattle.hg_heap.specs.Policies.{AreOf}
 use Rattle.hg_heap.specs.Refusals.{refusal_of}
 use Rattle.hg_heap.specs.Ties.{HeapTies, shown_at}
@@ -158,3 +158,17 @@ returns-clause-called g c =
 pub returns-clause-chosen : goal.returns-clause-chosen
 returns-clause-chosen g c =
     sym (same_choice g (goal.at.returns-clause-chosen g c).After-settled) ∙ c.in-Ok.ensures.chosen
+
+-- the block is of the segment that was chosen
+pub returns-clause-held : goal.returns-clause-held
+returns-clause-held g c =
+    let place = c.in-Ok.handle.place in
+    let chosen = sym (same_choice g (goal.at.returns-clause-held g c).After-settled) ∙ c.in-Ok.ensures.chosen in
+    let both : Some (segment_of (number_of place)) ≡ Some c.args.segment =
+    ap (option_map segment_of) (sym chosen) ∙ c.requires.chosen in
+    let is : segment_of (number_of place) ≡ c.args.segment = cc in
+    let same : place.segment ≡ c.args.segment =
+    (let a = place.page_below in
+    let b = place.index_below in
+    omega (arith, is, a, b)) in
+    ap (is_held number_in c.args.self.now.heap.segments) same ∙ c.requires.held

@@ -1,7 +1,7 @@
 use Rattle.std.proofs.Common.{◌≡◌, [], ◌∷◌, ◌++◌, None, refl, sym, ap, subst, ◌∙◌}
 use Rattle.hg_machine.specs.declared.Answer.TheVariants as answer
 use Rattle.hg_machine.specs.declared.Event.TheVariants as event
-use Rattle.hg_agreement.specs.Agreement.{Ties}
+use Rattle.hg_agreement.specs.Agreement.{Agrees, Ties}
 use Rattle.hg_agreement.specs.Views.{View}
 use Rattle.hg_heap.specs.Held.{Held, kinds}
 use Rattle.hg_heap.proofs.PolicyKept.{kinds_keep_policy}
@@ -59,16 +59,19 @@ returns-clause-called g c =
     record {
       called = record { ready = ready; log = log; rest = rest };
       holds = holds_same s c.call_alone.new.self same;
-      tied = (
-        None,
-        None,
-        subst
+      tied = record {
+        shown = None;
+        left = None;
+        state = e.agreed.0;
+        met = subst (λ (v : View). Agrees e.agreed.0 v None) c.requires.before e.agreed.1;
+        ties =
+            subst
             (λ (v : View).
             Ties (view_in s) None event.Collect (answer.Pages c.collect-pages.result) v None)
             (sym
             (view_again s c.call_alone.new.self rest
             ∙ ap (worker_view s.policy s.number s.hand) now))
             (c.collect-pages.ensures.ties s.policy None c.requires.ready.of s.number (hand_place s.hand)
-            (hand_generation s.hand) s.below),
-      );
+            (hand_generation s.hand) s.below);
+      };
     }

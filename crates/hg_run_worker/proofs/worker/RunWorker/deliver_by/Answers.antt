@@ -14,7 +14,7 @@ use Rattle.hg_run_table.specs.Calls.{IsWorkers, log_in}
 use Rattle.hg_run_table.specs.JoinedCalls.{IsOthers, IsTiedTogether}
 use Rattle.hg_run_table.proofs.NamedSteps.{deliver_tied}
 use Rattle.hg_run_worker.specs.AtWork.{HasOwn, hand_place, view_in, worker_view}
-use Rattle.hg_run_worker.specs.Lists.{IsHome, deliver_answer, places_of, with_place}
+use Rattle.hg_run_worker.specs.Lists.{IsForHand, deliver_answer, numbers_of, with_place}
 use Rattle.hg_run_worker.proofs.Ready.{decided_beside}
 use Rattle.hg_run_worker.proofs.Sending.{count_inserted, list_like, not_sent}
 use Rattle.hg_run_worker.proofs.worker.RunWorker.deliver_by.Given.{Over}
@@ -45,7 +45,7 @@ returns-in_default-clause-called g c =
 -- what is in hand, and the list of its segment
 module _ (g : Over) (c : In-Some g) where
   home : c.in-Some.handle.place.segment ≡ c.args.list.now.segment
-  home = subst (λ (h : Option Handle). IsHome h c.args.list.now.segment) c.in-Some.is c.requires.home
+  home = subst (λ (h : Option Handle). IsForHand h c.args.list.now.segment) c.in-Some.is c.requires.home
 
   numbered : number_of c.in-Some.handle.place
       ≡ c.args.list.now.segment * SEGMENT_PLACES
@@ -61,13 +61,13 @@ module _ (g : Over) (c : In-Some g) where
 
   left_is : g.P.OtherPart.left
       ≡ of_remote c.args.list.now.segment
-      (number_of c.in-Some.handle.place ∷ places_of c.args.list.now.segment c.args.list.now.list)
+      (number_of c.in-Some.handle.place ∷ numbers_of c.args.list.now.segment c.args.list.now.list)
   left_is =
       c.requires.left
       ∙ ap
       (λ (h : Option Handle).
       of_remote c.args.list.now.segment
-      (with_place h (places_of c.args.list.now.segment c.args.list.now.list)))
+      (with_place h (numbers_of c.args.list.now.segment c.args.list.now.list)))
       c.in-Some.is
 
 pub call_with-requires-clause-tied : goal.call_with-requires-clause-tied
@@ -76,7 +76,7 @@ call_with-requires-clause-tied g c =
     let r = c.requires in
     let at = (goal.at.call_with-requires-clause-tied g c).In-Some in
     let place : ℕ = number_of c.in-Some.handle.place in
-    let sent = places_of c.args.list.now.segment c.args.list.now.list in
+    let sent = numbers_of c.args.list.now.segment c.args.list.now.list in
     subst (λ (T : Type 0). T)
     (λ i.
     IsTiedTogether (sym r.ready.key i) (sym r.before i) (log_in s.call)
@@ -124,13 +124,13 @@ returns-clause-list g c =
       bare = e.bare_other;
       part =
           list_like c.call_with.new.other.seat.me.0.run list.segment
-          (number_of c.in-Some.handle.place ∷ places_of list.segment list.list)
-          (places_of list.segment c.push.new.self)
+          (number_of c.in-Some.handle.place ∷ numbers_of list.segment list.list)
+          (numbers_of list.segment c.push.new.self)
           (λ place.
           count_inserted (λ n. list.segment * SEGMENT_PLACES + n) (λ k. k == place) slot_sent
           (contents list.list) (contents c.push.new.self) put
           ∙ ap
-          (λ n. count_by (λ k. k == place) (n ∷ places_of list.segment list.list))
+          (λ n. count_by (λ k. k == place) (n ∷ numbers_of list.segment list.list))
           (sym (numbered g at)))
           (subst (IsOthers c.call_with.new.other) (left_is g at) e.other);
     }

@@ -1,11 +1,15 @@
-use Rattle.std.proofs.Common.{◌≡◌, Option, Result, Ok, Err, refl, sym, ap, subst, ◌∙◌}
+use Rattle.std.proofs.Common.{◌≡◌, ◌≢◌, Option, Result, Ok, Err, IfErr, map, refl, sym, ap, subst, ◌∙◌}
 use Rattle.hg_place.specs.declared.Handle.{Handle}
 use Rattle.hg_machine.specs.declared.Answer.{Answer}
+use Rattle.hg_machine.specs.declared.Answer.TheVariants as answer
 use Rattle.hg_machine.specs.declared.Event.TheVariants as event
 use Rattle.hg_heap.specs.Answers.{done_answer}
 use Rattle.hg_heap.specs.declared.refused.Refused.{Refused}
 use Rattle.hg_heap.specs.declared.refused.Refused.TheVariants as refused
-use Rattle.hg_run_worker.specs.AtWork.{HasCalledHere, hand_after}
+use Rattle.hg_heap.specs.Held.{Held, lists_on}
+use Rattle.hg_heap.specs.Keeping.{rest_of}
+use Rattle.hg_run_table.specs.declared.segment.RunSegment.{RunSegment}
+use Rattle.hg_run_worker.specs.AtWork.{HasCalledHere, hand_after, number_in, records_in}
 use Rattle.hg_run_worker.proofs.Ready.{freed_here}
 use Rattle.hg_run_worker.proofs.worker.RunWorker.free.Goals as goal
 
@@ -28,3 +32,28 @@ returns-then-holds-clause-freed c =
     (subst
     (λ (a : Answer). HasCalledHere (event.Free c.args.actor c.args.handle) a s c.free_here.new.self)
     (sym c.done_answer.ensures) c.free_here.ensures.called)
+
+-- what isn't Done is an error
+not_done : {X : Type 0} {P : Type 0} (r : Result X Refused) → done_answer r ≢ answer.Done
+    → IfErr r (λ refused. P) → P
+not_done (Ok done) ne is = absurd (ne refl)
+not_done (Err refused) ne is = is
+
+pub returns-then-holds-clause-refused : goal.returns-then-holds-clause-refused
+returns-then-holds-clause-refused c = λ ne.
+    let e = c.free_here.ensures in
+    let no : done_answer c.free_here.result ≢ answer.Done = λ is. ne (c.done_answer.ensures ∙ is) in
+    record {
+      all = not_done c.free_here.result no e.kept;
+      lists = not_done c.free_here.result no e.lists;
+      queues = not_done c.free_here.result no e.queues;
+    }
+
+pub returns-clause-refused : goal.returns-clause-refused
+returns-clause-refused c = λ ne.
+    let same : c.free_away.new.self.heap ≡ c.args.self.now.heap = c.free_away.ensures.heap in
+    record {
+      all = ap (λ (h : Held RunSegment). map (rest_of number_in records_in) h.segments) same;
+      lists = λ page. ap (λ (h : Held RunSegment). lists_on number_in h.segments page) same;
+      queues = ap (λ (h : Held RunSegment). h.queues) same;
+    }

@@ -1,12 +1,13 @@
-use Rattle.std.proofs.Common.{ℕ, subst, sym}
+use Rattle.std.proofs.Common.{ℕ, ◌∙◌, Result, Ok, Err, IfErr, subst, sym}
 use Rattle.hg_machine.specs.Policy.{Policy}
 use Rattle.hg_machine.specs.declared.Event.TheVariants as event
+use Rattle.hg_heap.specs.declared.refused.Refused.{Refused}
 use Rattle.hg_heap.specs.Answers.{done_answer}
 use Rattle.hg_heap.specs.Allowed.{MayFree}
 use Rattle.hg_run_worker.specs.AtWork.{number_in, shows_in}
 use Rattle.hg_run_worker.specs.Lent.{IsTiedStep}
-use Rattle.hg_run_worker.proofs.Course.{has_loan, held_still}
-use Rattle.hg_run_worker.proofs.SlotsLent.{held_there}
+use Rattle.hg_run_worker.proofs.Course.{back_keeps, has_loan, held_still}
+use Rattle.hg_run_worker.proofs.SlotsLent.{all_stays, held_there}
 use Rattle.hg_run_worker.proofs.Ready.{has_called, rest_twice}
 use Rattle.hg_run_worker.proofs.Lettable.{allows_in, may_free}
 use Rattle.hg_run_worker.proofs.Ends.{free_ends}
@@ -55,14 +56,39 @@ take_back-requires-clause-loan g c =
     let s = stepped g (goal.at.take_back-requires-clause-loan g c).After-free_here-freed in
     has_loan c.lend.ensures.lent c.requires.asked s.2 c.args.self.now.below
 
-pub returns : goal.returns
-returns g c =
-    let s = stepped g (goal.at.returns g c).After-free_here-freed in
+pub returns-clause-called : goal.returns-clause-called
+returns-clause-called g c =
+    let s = stepped g (goal.at.returns-clause-called g c).After-free_here-freed in
     let e = c.take_back.ensures in
-    record {
-      called =
-          has_called c.args.self.now c.take_back.new.self c.lend.ensures.lent c.requires.asked s.2 c.requires.ready
-          (rest_twice c.args.self.now c.lend.new.self c.take_back.new.self c.lend.ensures.rest
-          (record { table = e.rest.table; policy = e.rest.policy; number = e.rest.number; own = e.rest.own; hand = e.rest.hand }))
-          e.back;
-    }
+    has_called c.args.self.now c.take_back.new.self c.lend.ensures.lent c.requires.asked s.2 c.requires.ready
+    (rest_twice c.args.self.now c.lend.new.self c.take_back.new.self c.lend.ensures.rest
+    (record { table = e.rest.table; policy = e.rest.policy; number = e.rest.number; own = e.rest.own; hand = e.rest.hand }))
+    e.back
+
+-- what an error promises, by what the heap's promised
+err_map : {X : Type 0} {P Q : Refused → Type 0} (r : Result X Refused) → ((f : Refused) → P f → Q f)
+    → IfErr r P → IfErr r Q
+err_map (Ok x) go is = is
+err_map (Err f) go is = go f is
+
+pub returns-clause-kept : goal.returns-clause-kept
+returns-clause-kept g c =
+    let s = stepped g (goal.at.returns-clause-kept g c).After-free_here-freed in
+    let l = c.lend.ensures.lent in
+    err_map c.free_here-freed.result
+    (λ f kept.
+    back_keeps l c.requires.asked s.2 c.args.self.now.below c.take_back.ensures.back
+    ∙ kept ∙ all_stays l.once l.lent)
+    c.free_here-freed.ensures.kept
+
+pub returns-clause-lists : goal.returns-clause-lists
+returns-clause-lists g c =
+    err_map c.free_here-freed.result
+    (λ f kept page. c.take_back.ensures.lists page ∙ kept page ∙ c.lend.ensures.lists page)
+    c.free_here-freed.ensures.same_lists
+
+pub returns-clause-queues : goal.returns-clause-queues
+returns-clause-queues g c =
+    err_map c.free_here-freed.result
+    (λ f same. c.take_back.ensures.queues ∙ same ∙ c.lend.ensures.queues)
+    c.free_here-freed.ensures.same_queues

@@ -7,7 +7,8 @@ use Rattle.hg_machine.specs.declared.Answer.{Answer}
 use Rattle.hg_machine.specs.declared.Event.TheVariants as event
 use Rattle.hg_machine.specs.declared.Rule.{Rule}
 use Rattle.hg_machine.specs.Policy.{arena_of}
-use Rattle.hg_agreement.specs.Agreement.{Ties}
+use Rattle.hg_machine.specs.State.{State}
+use Rattle.hg_agreement.specs.Agreement.{Agrees, Ties}
 use Rattle.hg_agreement.specs.Views.{View}
 use Rattle.hg_heap.specs.Answers.{away_answer}
 use Rattle.hg_heap.specs.Reading.{use_denial}
@@ -70,6 +71,13 @@ module _ (g : Over) (c : After-look_deciding-word g) where
         now = two.hand ∙ one.now;
       }
 
+  view_mid : view_in c.add_own.new.self ≡ view_in was
+  view_mid =
+      view_beside was c.add_own.new.self
+      (let e = c.add_own.ensures.rest in
+      record { table = e.table; policy = e.policy; number = e.number; now = e.now })
+      c.add_own.ensures.heap
+
   heap_seen : seen.heap ≡ was.heap
   heap_seen = c.look_deciding-word.ensures.heap ∙ c.add_own.ensures.heap
 
@@ -123,10 +131,7 @@ module _ (g : Over) (c : After-look_deciding-word g) where
     worker_seen =
         subst (IsWorkers seen.call)
         (same_view (view_in c.add_own.new.self) _
-        ∙ view_beside was c.add_own.new.self
-        (let e = c.add_own.ensures.rest in
-        record { table = e.table; policy = e.policy; number = e.number; now = e.now })
-        c.add_own.ensures.heap)
+        ∙ view_mid)
         c.look_deciding-word.ensures.worker
 
 -- whether its word refuses
@@ -167,6 +172,9 @@ returns-in-Some-clause-freed g c =
     (worker_seen g at is))
     (ap first_log e.run ∙ log_seen g at is
     ∙ ap (λ x. log_in s.call ++ (x, c.in-Some.refused) ∷ []) c.requires.event)
+    (subst
+    (λ (v : View). (m : State) × Agrees m v (shown_at c.args.handle.place c.look_deciding-word.result))
+    (view_mid g at) c.look_deciding-word.ensures.met)
     (refused_at s c.args.actor c.args.handle c.requires.away c.look_deciding-word.result
     c.in-Some.refused
     (refused_is s c.args.actor c.args.handle c.requires.away c.look_deciding-word.result
@@ -316,6 +324,9 @@ returns-then-found-word-clause-freed g c =
     (workers_stay c.part_deciding-found.new.self.call c.cut_own-2.new.self.call (view_in s) e.run
     (worker_found g look none c.part_deciding-found.result part.shown false c.part_deciding-found.new.self miss part.worker))
     (ap first_log e.run ∙ log_found g look none c.part_deciding-found.result part.shown false c.part_deciding-found.new.self miss part.log)
+    (subst
+    (λ (v : View). (m : State) × Agrees m v (shown_at c.args.handle.place c.part_deciding-found.result))
+    (view_beside s c.look_deciding-word.new.self rest (heap_seen g look)) part.met)
     (ties_found g look none c.part_deciding-found.result part.shown false miss)
 
 pub returns-clause-freed : goal.returns-clause-freed
@@ -348,6 +359,9 @@ returns-clause-freed g c =
     (worker_found g look none c.part_deciding-found.result part.shown true c.part_deciding-found.new.self hit part.worker))
     (ap first_log e.run ∙ log_found g look none c.part_deciding-found.result part.shown true c.part_deciding-found.new.self hit part.log))
     heap
+    (subst
+    (λ (v : View). (m : State) × Agrees m v (shown_at c.args.handle.place c.part_deciding-found.result))
+    (view_beside s c.look_deciding-word.new.self rest (heap_seen g look)) part.met)
     (ties_found g look none c.part_deciding-found.result part.shown true hit)
 
 pub returns-then-is_none-clause-freed : goal.returns-then-is_none-clause-freed
@@ -370,4 +384,5 @@ returns-then-is_none-clause-freed g c =
     (subst (HasOwn (arc_value s.table).table.shared.table_id) (sym e.rest.own) c.requires.ready.own)
     e.heap e.same (e.lives ∙ c.requires.ready.work.bare) e.worker
     (e.log ∙ λ i. log_in s.call ++ (c.requires.event i, away_answer (c.requires.denial 0 i)) ∷ [])
+    e.agreed
     (unplaced_ties s c.args.actor c.args.handle c.requires.away none)

@@ -1,13 +1,15 @@
-use Rattle.std.proofs.Common.{◌≡◌, ℕ, false, [], ◌∷◌, ◌++◌, ◌∙◌, refl, sym, subst, ap}
+use Rattle.std.proofs.Common.{◌≡◌, ℕ, false, [], ◌∷◌, ◌++◌, ◌∙◌, None, refl, sym, subst, ap}
 use Rattle.hg_machine.specs.declared.Event.TheVariants as event
 use Rattle.hg_frame.specs.SlotWords.{changes_word}
+use Rattle.hg_machine.specs.State.{State}
+use Rattle.hg_agreement.specs.Agreement.{Agrees}
+use Rattle.hg_agreement.specs.Views.{View}
 use Rattle.hg_heap.specs.Answers.{refused_answer}
 use Rattle.hg_heap.specs.declared.refused.Refused.{Refused}
 use Rattle.hg_heap.specs.declared.refused.Refused.TheVariants as refused
 use Rattle.hg_run_table.specs.Calls.{IsTiedAlone, IsWorkers, log_in}
-use Rattle.hg_heap.specs.Held.{Held, kinds}
+use Rattle.hg_heap.specs.Held.{Held}
 use Rattle.hg_run_table.specs.declared.segment.RunSegment.{RunSegment}
-use Rattle.hg_run_worker.specs.AtWork.{number_in}
 use Rattle.hg_run_worker.proofs.Ready.{decided_here}
 use Rattle.hg_run_worker.proofs.worker.RunWorker.log_refused.Goals as goal
 
@@ -32,15 +34,13 @@ call_alone-requires-clause-tied g c =
       ties = c.requires.tied;
     })
 
-pub returns : goal.returns
-returns g c =
+pub returns-clause-called : goal.returns-clause-called
+returns-clause-called g c =
     let s = c.args.self.now in
     let e = c.call_alone.ensures in
-    record {
-      called =
-          decided_here s c.call_alone.new.self c.requires.ready e.rest
-          (ap (λ (h : Held RunSegment). h.segments) e.heap) e.same
-          (e.lives ∙ c.requires.ready.work.bare)
-          (subst (IsWorkers c.call_alone.new.self.call) c.requires.after e.worker)
-          (e.log ∙ ap (λ call. log_in s.call ++ call ∷ []) c.requires.call) c.requires.tied;
-    }
+    decided_here s c.call_alone.new.self c.requires.ready e.rest
+    (ap (λ (h : Held RunSegment). h.segments) e.heap) e.same
+    (e.lives ∙ c.requires.ready.work.bare)
+    (subst (IsWorkers c.call_alone.new.self.call) c.requires.after e.worker)
+    (e.log ∙ ap (λ call. log_in s.call ++ call ∷ []) c.requires.call)
+    (subst (λ (v : View). (m : State) × Agrees m v None) c.requires.before e.agreed) c.requires.tied

@@ -57,7 +57,7 @@ returns-then-is_none-clause-called g c =
     let none : arena_of s.policy c.args.place.segment ≡ None =
     sym c.arena_of.ensures ∙ none_is c.arena_of.result (c.is_none.ensures ∙ ap not c.if-is_none.true) in
     decided_here s c.call_alone.new.self r.ready e.rest
-    (ap (λ (h : Held RunSegment). h.segments) e.heap) e.same (e.lives ∙ r.ready.work.bare) e.worker e.log
+    (ap (λ (h : Held RunSegment). h.segments) e.heap) e.same (e.lives ∙ r.ready.work.bare) e.worker e.log e.agreed
     (tied_refusal s g.C.RefusedCall.event g.C.RefusedCall.refused 0 None (r.about None none) r.refused refl)
 
 pub look_deciding-requires-clause-place : goal.look_deciding-requires-clause-place
@@ -91,6 +91,6 @@ returns-clause-called g c =
     let e = c.look_deciding.ensures in
     let shown = shown_at c.args.place c.look_deciding.result in
     decided_here s c.look_deciding.new.self r.ready e.rest
-    (ap (λ (h : Held RunSegment). h.segments) e.heap) e.same (e.lives ∙ ap (map _) r.ready.work.bare) e.worker e.log
+    (ap (λ (h : Held RunSegment). h.segments) e.heap) e.same (e.lives ∙ ap (map _) r.ready.work.bare) e.worker e.log e.met
     (tied_refusal s g.C.RefusedCall.event g.C.RefusedCall.refused c.look_deciding.result shown
     (r.about shown refl) r.refused refl)

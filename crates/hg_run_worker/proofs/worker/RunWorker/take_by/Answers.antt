@@ -18,7 +18,7 @@ use Rattle.hg_run_table.specs.JoinedCalls.{IsOthers, IsTiedTogether}
 use Rattle.hg_run_table.proofs.NamedSteps.{take_tied}
 use Rattle.hg_run_worker.specs.AtWork.{AreSeated, KeepsRest, number_in, records_in, view_in}
 use Rattle.hg_run_worker.specs.Lent.{IsLentQuietly}
-use Rattle.hg_run_worker.specs.Lists.{left_list, left_places, places_of, take_answer, taken_view}
+use Rattle.hg_run_worker.specs.Lists.{left_list, left_places, numbers_of, take_answer, taken_view}
 use Rattle.hg_run_worker.proofs.Ready.{ready_again, still_ready}
 use Rattle.hg_run_worker.proofs.SlotsLent.{one_held}
 use Rattle.hg_run_worker.proofs.TakesHome.{IsTake, at_work, has_loan, held_still, home_whole, kinds_same, logged, many, taking}
@@ -73,7 +73,7 @@ call_with-requires-clause-tied g c =
     let s = c.args.self.now in
     let r = c.requires in
     let segment : ℕ = c.args.list.now.segment in
-    let sent = places_of segment c.args.list.now.list in
+    let sent = numbers_of segment c.args.list.now.list in
     let held : is_held number_in s.heap.segments segment ≡ true =
     sym c.holds.ensures ∙ c.if-not-holds.false in
     let many : length sent ≡ length (contents c.args.list.now.list) = length-map (contents c.args.list.now.list) _ in
@@ -105,7 +105,7 @@ made : (g : Over) (c : After-lend_quietly g)
 made g c =
     let s = c.args.self.now in
     let segment : ℕ = c.args.list.now.segment in
-    let places = places_of segment c.args.list.now.list in
+    let places = numbers_of segment c.args.list.now.list in
     let held : is_held number_in s.heap.segments segment ≡ true =
     sym c.holds.ensures ∙ c.if-not-holds.false in
     let a = c.call_with.ensures.agreed in
@@ -208,12 +208,12 @@ pub returns-clause-list : goal.returns-clause-list
 returns-clause-list g c =
     let at = (goal.at.returns-clause-list g c).After-lend_quietly in
     let segment : ℕ = c.args.list.now.segment in
-    let places = places_of segment c.args.list.now.list in
+    let places = numbers_of segment c.args.list.now.list in
     record {
       same = c.call_with.ensures.of_it ∙ c.requires.ready.work.same;
       bare = c.call_with.ensures.bare_other;
       part =
-          subst (λ (remote : Remote). IsOthers c.call_with.new.other (of_remote segment (places_of segment remote)))
+          subst (λ (remote : Remote). IsOthers c.call_with.new.other (of_remote segment (numbers_of segment remote)))
           (sym (c.take-count.ensures.empty (held_lent g at)))
           (subst (IsOthers c.call_with.new.other)
           (c.requires.left
