@@ -1,2 +1,1 @@
 pub mod Frees
-pub mod Sends

@@ -11,5 +11,3 @@ mod frees;
 mod policies;
 #[cfg(test)]
 mod refused;
-#[cfg(test)]
-mod sends;
